@@ -1,0 +1,36 @@
+// Exact whole numbers in i64: division that rounds down, and to the nearest. `/` truncates toward zero.
+// specs/Divide.antt says what, specs/Nearest.antt what holds of it; the other files of specs/ are the project's toolkit for signed numbers.
+ghost use mathlib.Core.Path.{_≡_};
+ghost use lib.IntN.{pos};
+ghost use Rattle.exact.specs.Whole.{_<ᶻ_};
+ghost use Rattle.exact.specs.Fit.{Bd};
+ghost use Rattle.exact.specs.Divide.{floorDiv, nearestDiv};
+
+// The largest whole number that is at most a / b, for b above 0.
+pub fn floor_div(a: i64, b: i64) -> i64
+    requires { ⌜ pos 0 <ᶻ b ⌝ }
+    ensures { λ r. ⌜ r ≡ floorDiv a b ⌝ }
+{
+    if a < 0 { -1 - (-1 - a) / b } else { a / b }
+}
+
+// The nearest whole number to n / d, for d above 0: by the remainder, so that nothing is doubled.
+fn nearest_above(n: i64, d: i64) -> i64
+    requires { ⌜ Bd n 0x4000_0000_0000_0000 × (Bd d 0x2000_0000_0000_0000 × (pos 0 <ᶻ d)) ⌝ }
+    ensures { λ r. ⌜ r ≡ nearestDiv n d ⌝ }
+{
+    let q = floor_div(n, d);
+    let m = n - q * d;
+    if d - m <= m { q + 1 } else { q }
+}
+
+// The nearest whole number to n / d, and of two the larger. d has either sign.
+pub fn nearest_div(n: i64, d: i64) -> i64
+    requires { ⌜ Bd n 0x4000_0000_0000_0000 × (Bd d 0x2000_0000_0000_0000 × (d ≡ pos 0 → ⊥)) ⌝ }
+    ensures { λ r. ⌜ r ≡ nearestDiv n d ⌝ }
+{
+    if d < 0 {
+        return nearest_above(-n, -d);
+    }
+    nearest_above(n, d)
+}
