@@ -100,17 +100,9 @@ pub record Num (z' z : ℤ) (n : ℕ) : Type 0 where
   pub is : z' ≡ z
   pub size : Bd z n
 
--- the same of a local: z' is read back from its bits
-abbrev pub Loc : Width → ℤ → ℤ → ℕ → Type 0
-Loc w z' z n = Num (toZ w (ofZ w z')) z n
-
 -- a signed parameter, from `c .fits .x`
 pub arg : (w : Width) {z : ℤ} → SFits w z → Num (toZ w (ofZ w z)) z (2 ^ hbits w)
 arg w {z} f = record { is = toZ-ofZ w z f; size = record { bd = natAbs-le z (f .sfits) } }
-
--- one with a bound of its own, from `c .fits .x` and `c .pre`
-pub par : (w : Width) {z : ℤ} {n : ℕ} → SFits w z → Bd z n → Num (toZ w (ofZ w z)) z n
-par w {z} f h = record { is = toZ-ofZ w z f; size = h }
 
 -- a literal
 pub num : (z : ℤ) → Num z z (natAbs z)
@@ -215,36 +207,21 @@ eq-bits {w} {a} {b} f g =
     bool-iff (eqb (ofZ w a) (ofZ w b)) (eqZ a b) (λ e. eq-yes f g (eqb-true (ofZ w a) (ofZ w b) e))
     (λ e. eq-no f g (eqb-false (ofZ w a) (ofZ w b) e))
 
-pub shr : (w : Width) {z : ℤ} (m : ℕ) → SFits w z → toZ w (ofZ w (shrZ (toZ w (ofZ w z)) m)) ≡ shrZ z m
-shr w {z} m f = ap (λ (x : ℤ). toZ w (ofZ w (shrZ x m))) (toZ-ofZ w z f) ∙ toZ-ofZ w (shrZ z m) (sfits-le (mag-shr z m) f)
-
 -- `x as usize`, of a number that is not negative: what the cast asks, and what it gives
 pub to-nat : (w w′ : Width) {z' z : ℤ} {n : ℕ} → Num z' z n → pos 0 ≤ℤ z → T (ltb n (2 ^ bits w′)) → T (nonNeg z') × Fits w′ (natAbs z')
 to-nat w w′ {z'} {z} {n} h p t = subst (λ (x : ℤ). T (nonNeg x) × Fits w′ (natAbs x)) (sym (h .is)) (yes-nonNeg p, record { fits = omega (arith, h .size .bd, ltb→lt n (2 ^ bits w′) t) })
-
-pub nat-is : {z' z : ℤ} {n : ℕ} → Num z' z n → pos 0 ≤ℤ z → pos (natAbs z') ≡ z
-nat-is {z'} {z} h p = ap (λ (x : ℤ). pos (natAbs x)) (h .is) ∙ pos-natAbs z (yes-nonNeg p)
 
 -- `n as i64`, of a number that fits
 pub of-nat : (w : Width) {n : ℕ} → n < 2 ^ hbits w → toZ w n ≡ pos n
 of-nat w {n} h = toZ-pos w n h
 
 -- ---- where a bound is no numeral, as in a loop's invariant: the same with an order that omega proves
-pub fit< : (w : Width) {z' z : ℤ} {n : ℕ} → Num z' z n → n < 2 ^ hbits w → SFits w z'
-fit< w {z'} {z} {n} h l = fit-by w h (sfits (omega (arith, h .size .bd)))
-
-pub put< : (w : Width) {z' z : ℤ} {n : ℕ} → Num z' z n → n < 2 ^ hbits w → Num (toZ w (ofZ w z')) z n
-put< w {z'} {z} {n} h l = put-by w h (sfits (omega (arith, h .size .bd)))
-
 pub at-most : {z' z : ℤ} {m n : ℕ} → Num z' z m → m ≤ n → Num z' z n
 at-most h l = record { is = h .is; size = record { bd = omega (arith, h .size .bd) } }
 
 -- ---- for a callee's `requires`: a bound on the machine's number; and a bound from two others
 pub sized : {z' z : ℤ} {m n : ℕ} → Num z' z m → T (leb m n) → Bd z' n
 sized {n = n} h t = subst (λ (x : ℤ). Bd x n) (sym (h .is)) (bd-le (h .size) t)
-
-pub bd-between : {z lo hi : ℤ} {m n : ℕ} → Bd lo m → Bd hi n → lo ≤ℤ z → z ≤ℤ hi → Bd z (m + n)
-bd-between {z} {lo} {hi} a b h k = record { bd = omega (arith, ord, abs z, abs-parts lo, abs-parts hi) }
 
 -- what the machine reads back of an i64: to state a `Num` of an expression of the code
 abbrev pub m64 : ℤ → ℤ
@@ -280,10 +257,6 @@ unfolding _≡?_
 eq64-f a b f g e = eq-no f g e
 
 pub ruleset signed64 = (fits64, lt64-t, lt64-f, le64-t, le64-f, eq64-t, eq64-f)
-
--- from two orders: at a numeral n, `negℤ (pos n)` is the `negsuc` that a contract writes
-pub bd-both : (n : ℕ) {z : ℤ} → negℤ (pos n) ≤ℤ z → z ≤ℤ pos n → Bd z n
-bd-both n {z} h k = record { bd = omega (arith, ord, abs z, up-neg (pos n), dn-neg (pos n)) }
 
 -- a test of computed values, for a definition that goes by the shut tests
 pub lt?-is : {a' a b' b : ℤ} {m n : ℕ} {t : Bool} → Num a' a m → Num b' b n → ltZ a' b' ≡ t → (a <? b) ≡ t

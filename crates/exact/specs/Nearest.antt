@@ -131,26 +131,3 @@ nearest-mono m n d h l = below (nearestDiv m d) (nearestDiv n d) (lt-of-mul {c =
 
     below : (p q : ℤ) → p <ᶻ q +ℤ pos 1 → p ≤ᶻ q
     below p q = rw (is p, is q) (simp Z (omega arith))
-
--- what lies between two numbers is located between them
-squeeze : {lo z hi : ℤ} {N : ℕ} → Bd lo N → Bd hi N → lo ≤ᶻ z → z ≤ᶻ hi → Bd z N
-squeeze {lo} {z} {hi} h k l u = record { bd = omega (arith, ord, abs z, abs lo, abs hi, h .bd, k .bd) }
-
-add-≤ : (B x y : ℤ) → x ≤ᶻ y → B +ℤ x ≤ᶻ B +ℤ y
-add-≤ B x y = rw (is B, is x, is y) (simp Z (omega arith))
-
-minus-≤ : (x y : ℤ) → x ≤ᶻ y → negℤ y ≤ᶻ negℤ x
-minus-≤ x y = rw (is x, is y) (simp Z (omega arith))
-
-nearest-between : (B lo x hi w : ℤ) (N : ℕ) → (w ≡ pos 0 → ⊥) → lo ≤ᶻ x → x ≤ᶻ hi → Bd (B +ℤ nearestDiv lo w) N → Bd (B +ℤ nearestDiv hi w) N → Bd (B +ℤ nearestDiv x w) N
-nearest-between B lo x hi w N z l u h k = go (sign w)
-  where
-    by : (lo x hi w : ℤ) → pos 0 <ᶻ w → lo ≤ᶻ x → x ≤ᶻ hi → Bd (B +ℤ nearestDiv lo w) N → Bd (B +ℤ nearestDiv hi w) N → Bd (B +ℤ nearestDiv x w) N
-    by lo x hi w p l u h k = squeeze h k (add-≤ B (nearestDiv lo w) (nearestDiv x w) (nearest-mono lo x w p l)) (add-≤ B (nearestDiv x w) (nearestDiv hi w) (nearest-mono x hi w p u))
-
-    turn : (x : ℤ) → Bd (B +ℤ nearestDiv x w) N → Bd (B +ℤ nearestDiv (negℤ x) (negℤ w)) N
-    turn x h = subst (λ (q : ℤ). Bd (B +ℤ q) N) (sym (nearest-neg x w z)) h
-
-    go : (pos 0 ≤ᶻ w) ⊎ (w <ᶻ pos 0) → Bd (B +ℤ nearestDiv x w) N
-    go (inl p) = by lo x hi w (pos-of p z) l u h k
-    go (inr p) = subst (λ (q : ℤ). Bd (B +ℤ q) N) (nearest-neg x w z) (by (negℤ hi) (negℤ x) (negℤ lo) (negℤ w) (neg-pos p) (minus-≤ x hi u) (minus-≤ lo x l) (turn hi k) (turn lo h))

@@ -1,0 +1,12 @@
+pub mod Line
+pub mod Clip
+pub mod Reach
+pub mod Axis
+pub mod Crossing
+pub mod Exactness
+pub mod Halves
+pub mod Parameter
+pub mod Nearness
+pub mod Based
+pub mod Figures
+pub mod Sizes

@@ -1,0 +1,214 @@
+-- The exact model: what is owed paint, by document 01's words ("Strokes"), at exact positions and in a queue. It is fed with the calls alone.
+-- Reading, settings and position go by the same rules as the machine's; but what joins the polygon and the queue is decided here, from the event, the
+-- number and the positions before and after. It never looks at the machine's actions, store, work or counts.
+use Prim.Native.Nat.{ℕ, zero, suc, _+_, _*_}
+use mathlib.Core.Bool.{Bool, true, false, cond, not, _&&_, _||_}
+use mathlib.Core.List.{List, [], _∷_, _++_}
+use lib.Dec.{eqb}
+use lib.IntN.{ℤ, pos, natAbs}
+use Rattle.exact.specs.Whole.{_≡?_}
+use Rattle.clip.specs.Line.{Exact, nearest}
+use Rattle.clip.specs.declared.Point.{Point}
+use Rattle.clip.specs.declared.Rect.{Rect}
+use Rattle.reader.specs.declared.Reader.{Reader}
+use Rattle.reader.specs.declared.Numbers.{Numbers}
+use Rattle.reader.specs.declared.Event.{Event}
+use Rattle.reader.specs.declared.Event.the-variants.{Nothing, Named, Pair, Ended, Refused}
+use Rattle.reader.specs.Reader.{freshReader}
+use Rattle.reader.specs.Step.{stepOf}
+use Rattle.reader.specs.Table.{IN, EP, PM, CI, EA, ER}
+use Rattle.plane.specs.Turn.{turnedOf, turnedExact}
+use Rattle.plane.specs.declared.circle.Way.{Way}
+use Rattle.plane.specs.Circle.{chordsOf, angleOf, rotatedOf, exactVertex}
+use Rattle.hpgl.specs.declared.Position.{Position}
+use Rattle.hpgl.specs.declared.Settings.{Settings}
+use Rattle.hpgl.specs.declared.Core.{Core}
+use Rattle.hpgl.specs.Place.{rounded, axisX, axisY, exactPosition, absolutePosition, relativePosition}
+use Rattle.hpgl.specs.Rules.{freshCore, differ, chordAngle, firstTwo, actOn}
+use Rattle.hpgl.specs.Machine.{readerAfter}
+
+-- ---- what the model has
+
+-- a polygon point: "A polygon's points keep the exact positions they had when stored"; and whether it was reached pen down
+pub record PolygonPoint : Type 0 where
+  pub at : Exact
+  pub down : Bool
+
+abbrev pub Subpolygon : Type 0
+Subpolygon = List PolygonPoint
+
+-- the subpolygons that are ended, and the one that is not
+pub record ExactPolygon : Type 0 where
+  pub ended : List Subpolygon
+  pub current : Subpolygon
+
+-- a segment of the queue: its exact line on the page, its located ends on the page, its pen, and whether it is owed paint
+pub record Segment : Type 0 where
+  pub from : Exact
+  pub to : Exact
+  pub start : Point
+  pub end : Point
+  pub pen : ℕ
+  pub owed : Bool
+
+pub record Model : Type 0 where
+  pub reader : Reader
+  pub core : Core
+  pub polygon : ExactPolygon
+  pub queue : List Segment
+
+-- ---- segments
+
+-- "The exact line of a move joins the exact positions, turned"; "Location is turned to the page"
+unfoldable pub segment : Core → Exact → Exact → Bool → Segment
+segment c e f owed = record {
+  from = turnedExact e (c .settings .turn);
+  to = turnedExact f (c .settings .turn);
+  start = turnedOf (nearest e) (c .settings .turn);
+  end = turnedOf (nearest f) (c .settings .turn);
+  pen = c .carriage .pen .number;
+  owed = owed;
+}
+
+-- "for each two neighbours of a subpolygon, a segment"; owed if the "second point was reached pen down"
+unfoldable pub sidesFrom : Core → PolygonPoint → Subpolygon → List Segment
+sidesFrom c p [] = []
+sidesFrom c p (q ∷ ps) = segment c (p .at) (q .at) (q .down) ∷ sidesFrom c q ps
+
+unfoldable pub sides : Core → Subpolygon → List Segment
+sides c [] = []
+sides c (p ∷ ps) = sidesFrom c p ps
+
+unfoldable pub allSides : Core → List Subpolygon → List Segment
+allSides c [] = []
+allSides c (s ∷ ss) = sides c s ++ allSides c ss
+
+-- "EP turns them by the turn then in force"
+unfoldable pub outline : Core → ExactPolygon → List Segment
+outline c g = allSides c (g .ended) ++ sides c (g .current)
+
+-- "A circle's chords join its exact vertices": the chords from vertex i, n of them, of radius r and chord angle a about the position
+unfoldable pub vertexAt : Core → ℤ → ℕ → ℕ → Exact
+vertexAt c r a i =
+    let w : Way = rotatedOf (record { u = r; v = pos 0 }) (angleOf a i) in
+    record {
+      x = exactVertex (axisX (c .settings)) (c .carriage .position .x) (w .u);
+      y = exactVertex (axisY (c .settings)) (c .carriage .position .y) (w .v);
+    }
+
+unfoldable pub chords : Core → ℤ → ℕ → ℕ → ℕ → List Segment
+chords c r a i zero = []
+chords c r a i (suc n) = segment c (vertexAt c r a i) (vertexAt c r a (i + 1)) true ∷ chords c r a (i + 1) n
+
+-- ---- the polygon
+
+abbrev pub here : Core → PolygonPoint
+here c = record { at = exactPosition (c .settings) (c .carriage .position); down = c .carriage .pen .down }
+
+abbrev pub noPoints : ExactPolygon
+noPoints = record { ended = []; current = [] }
+
+-- the last point
+unfoldable pub lastOf : PolygonPoint → Subpolygon → PolygonPoint
+lastOf p [] = p
+lastOf p (q ∷ ps) = lastOf q ps
+
+-- "first adding its first point if the last differs in location, with the pen as it is" (to an empty one nothing is added)
+unfoldable pub closed : Subpolygon → Bool → Subpolygon
+closed [] down = []
+closed (p ∷ ps) down =
+    cond (differ (nearest (lastOf p ps .at)) (nearest (p .at))) ((p ∷ ps) ++ (record { at = p .at; down = down } ∷ [])) (p ∷ ps)
+
+unfoldable pub endCurrent : ExactPolygon → Bool → ExactPolygon
+endCurrent g down = record { ended = g .ended ++ (closed (g .current) down ∷ []); current = [] }
+
+-- "five points, first along x, all pen down": from p to the corner q
+unfoldable pub rectangle : Settings → Position → Position → ExactPolygon
+rectangle s p q =
+    let corner : (u v : Position) → PolygonPoint = λ u v. record { at = exactPosition s (record { x = u .x; y = v .y }); down = true } in
+    record { ended = []; current = corner p p ∷ corner q p ∷ corner q q ∷ corner p q ∷ corner p p ∷ [] }
+
+-- PM carried out: in polygon mode before and after it is PM1, only after PM0, only before PM2
+unfoldable pub polygonMode : Core → Core → ExactPolygon → ExactPolygon
+polygonMode c d g = cond (c .carriage .polygon .mode) (endCurrent g (c .carriage .pen .down)) (record { ended = []; current = here d ∷ [] })
+
+unfoldable pub ended : Core → Core → ℕ → Numbers → ExactPolygon → ExactPolygon
+ended c d op n g =
+    cond (eqb op IN) noPoints
+    (cond (eqb op PM) (polygonMode c d g)
+    (cond (eqb op EA) (rectangle (c .settings) (c .carriage .position) (absolutePosition (c .settings) (firstTwo n)))
+    (cond (eqb op ER) (rectangle (c .settings) (c .carriage .position) (relativePosition (c .carriage .position) (firstTwo n)))
+    g)))
+
+-- the polygon after an event that was not refused, from the core c before it to d after it
+unfoldable pub polygonAfter : Core → Core → Event → ExactPolygon → ExactPolygon
+polygonAfter c d Nothing g = g
+polygonAfter c d (Named op) g = g
+polygonAfter c d (Pair p) g = cond (d .carriage .polygon .mode) (record { ended = g .ended; current = g .current ++ (here d ∷ []) }) g
+polygonAfter c d (Ended op n) g = ended c d op n g
+polygonAfter c d (Refused k) g = g
+
+-- ---- the queue
+
+-- "Pen 0 queues nothing."
+unfoldable pub inkedOnly : Core → List Segment → List Segment
+inkedOnly c s = cond (eqb (c .carriage .pen .number) 0) [] s
+
+-- "outside polygon mode, each move with pen down and pen not 0"
+unfoldable pub move : Core → Core → List Segment
+move c d =
+    cond (d .carriage .polygon .mode) []
+    (cond (d .carriage .pen .down)
+    (inkedOnly d (segment d (exactPosition (c .settings) (c .carriage .position)) (exactPosition (d .settings) (d .carriage .position)) true ∷ []))
+    [])
+
+-- "each circle chord with pen not 0, pen up or down, and each polygon edge drawn with pen not 0"
+unfoldable pub instructed : Core → ℕ → Numbers → ExactPolygon → List Segment
+instructed d op n g =
+    cond (eqb op EP || eqb op EA || eqb op ER) (inkedOnly d (outline d g))
+    (cond (eqb op CI) (inkedOnly d (chords d (n .first) (natAbs (chordAngle n)) 0 (chordsOf (natAbs (chordAngle n)))))
+    [])
+
+-- what an event that was not refused adds to the queue; g is the polygon after it
+unfoldable pub added : Core → Core → Event → ExactPolygon → List Segment
+added c d Nothing g = []
+added c d (Named op) g = []
+added c d (Pair p) g = move c d
+added c d (Ended op n) g = instructed d op n g
+added c d (Refused k) g = []
+
+-- ---- the calls
+
+unfoldable pub freshModel : Rect → Model
+freshModel r = record { reader = freshReader; core = freshCore r; polygon = noPoints; queue = [] }
+
+-- the core and the number of an event, by the rules of reading, settings and position
+unfoldable pub coreAfter : Core → Event → Core
+coreAfter c e = actOn c e .core
+
+unfoldable pub numberOf : Core → Event → ℕ
+numberOf c e = actOn c e .number
+
+-- "A take that this document refuses adds none. A take that carries out a pair or an instruction adds its segments at the end, in order"
+unfoldable pub taken : Model → Reader → Event → ℕ → Core → Model
+taken m r e zero d =
+    let g : ExactPolygon = polygonAfter (m .core) d e (m .polygon) in
+    record { reader = r; core = d; polygon = g; queue = m .queue ++ added (m .core) d e g }
+taken m r e (suc k) d = record { reader = readerAfter r (suc k); core = d; polygon = m .polygon; queue = m .queue }
+
+-- a take while a segment waits is refused, and leaves all
+unfoldable pub takeWhen : Model → List Segment → ℕ → Model
+takeWhen m [] b =
+    taken m (stepOf (m .reader) b .reader) (stepOf (m .reader) b .event) (numberOf (m .core) (stepOf (m .reader) b .event)) (coreAfter (m .core) (stepOf (m .reader) b .event))
+takeWhen m (s ∷ ss) b = m
+
+unfoldable pub takeModel : Model → ℕ → Model
+takeModel m b = takeWhen m (m .queue) b
+
+-- "A draw removes the first and works off that one; on an empty queue it changes nothing."
+unfoldable pub rest : List Segment → List Segment
+rest [] = []
+rest (s ∷ ss) = ss
+
+unfoldable pub drawModel : Model → Model
+drawModel m = record { reader = m .reader; core = m .core; polygon = m .polygon; queue = rest (m .queue) }

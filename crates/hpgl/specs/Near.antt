@@ -1,0 +1,92 @@
+-- A located segment keeps its promise: what draw answers for it is what Condition3.antt asks. Why: clip's three theorems hold for any whole points within a half of
+-- the exact ends, and a point is within the limits exactly when it is within the hard limits and the turned window, if set.
+use mathlib.Core.Path.{_≡_, refl, sym, _∙_}
+use mathlib.Core.Bool.{Bool, true, false, cond}
+use mathlib.Core.List.{List, _∷_}
+use Prim.Native.Nat.{ℕ, _<_}
+use Rattle.clip.specs.Clip.{clip}
+use Rattle.clip.specs.Line.{Exact, exactly, at, HasClose, Within}
+use Rattle.clip.specs.Nearness.{clip-near, clip-covers, clip-hides}
+use Rattle.clip.specs.declared.Point.{Point}
+use Rattle.clip.specs.declared.Rect.{Rect}
+use Rattle.clip.specs.declared.Clipped.{Clipped}
+use Rattle.clip.specs.declared.Clipped.the-variants as clipped
+use Rattle.plane.specs.Turn.{turnedBoxOf}
+use Rattle.plane.specs.Limits.{limitsOf}
+use Rattle.plane.specs.LimitsLaws.{intersection-within}
+use Rattle.hpgl.specs.Cases.{never}
+use Rattle.hpgl.specs.declared.Settings.{Settings}
+use Rattle.hpgl.specs.declared.Core.{Core}
+use Rattle.hpgl.specs.declared.Stroke.{Stroke}
+use Rattle.hpgl.specs.declared.Drawn.the-variants as drawn
+use Rattle.hpgl.specs.Place.{limits}
+use Rattle.hpgl.specs.Machine.{strokeOf, shown}
+use Rattle.hpgl.specs.ExactModel.{Segment}
+use Rattle.hpgl.specs.Condition3.{Inside, HasNear, Painted, Holds}
+use Rattle.hpgl.specs.Related.{Located}
+
+-- ---- the limits
+
+module _ (s : Settings) (c : ℕ) (e : Exact) where
+  to-limits : Inside s c e → Within (limits s) c e
+  unfolding limits limitsOf
+  to-limits h = go (s .window .set) (h .window)
+    where
+      go : (t : Bool) → (t ≡ true → Within (turnedBoxOf (s .window .area) (s .turn)) c e) → Within (limitsOf (s .hard) t (s .window .area) (s .turn)) c e
+      go true w = intersection-within (s .hard) (turnedBoxOf (s .window .area) (s .turn)) c e .1 (h .hard, w refl)
+      go false w = h .hard
+
+  of-limits : Within (limits s) c e → Inside s c e
+  unfolding limits limitsOf
+  of-limits h = record { hard = go (s .window .set) h; window = went (s .window .set) h }
+    where
+      go : (t : Bool) → Within (limitsOf (s .hard) t (s .window .area) (s .turn)) c e → Within (s .hard) c e
+      go true w = intersection-within (s .hard) (turnedBoxOf (s .window .area) (s .turn)) c e .0 w .0
+      go false w = w
+
+      went : (t : Bool) → Within (limitsOf (s .hard) t (s .window .area) (s .turn)) c e → t ≡ true → Within (turnedBoxOf (s .window .area) (s .turn)) c e
+      went true w p = intersection-within (s .hard) (turnedBoxOf (s .window .area) (s .turn)) c e .0 w .1
+      went false w p = never refl p
+
+-- ---- a draw
+
+has-near : {e g h : Exact} → HasClose g h e → HasNear e g h
+has-near c = (c .k, c .n, c .upto, (c .some, c .close))
+
+module _ (d : Core) (g : Segment) (l : Located (d .carriage .pen .number) g) where
+  painted : (s t : Point) → g .owed ≡ true → clip (limits (d .settings)) (g .start) (g .end) ≡ clipped.Stroke s t →
+      Painted (d .settings) g (record { pen = d .carriage .pen .number; x0 = s .x; y0 = s .y; x1 = t .x; y1 = t .y })
+  unfolding strokeOf
+  painted s t o h =
+      let r : Rect = limits (d .settings) in
+      record {
+        owed = o;
+        pen = sym (l .number);
+        clipped = λ i. strokeOf (sym (l .number) i) (sym h i);
+        within = λ k n u p. of-limits (d .settings) 0 _ (clip-near r (g .from) (g .to) (g .start) (g .end) s t (l .from) (l .to) h k n u p .0);
+        near = λ k n u p. has-near (clip-near r (g .from) (g .to) (g .start) (g .end) s t (l .from) (l .to) h k n u p .1);
+        covers = λ k n u p w. covered k n p (clip-covers r (g .from) (g .to) (g .start) (g .end) (l .from) (l .to) k n u p (to-limits (d .settings) 1 _ w));
+      }
+    where
+      covered : (k n : ℕ) (p : 0 < n) →
+          ((s' : Point) × (t' : Point) × (clip (limits (d .settings)) (g .start) (g .end) ≡ clipped.Stroke s' t') ×
+          HasClose (exactly s') (exactly t') (at (g .from) (g .to) k n p)) → HasNear (at (g .from) (g .to) k n p) (exactly s) (exactly t)
+      covered k n p (s', t', e, near) =
+          let q : _≡_ {A = Clipped} (clipped.Stroke s' t') (clipped.Stroke s t) = sym e ∙ h in
+          let es : s' ≡ s = cc in
+          let et : t' ≡ t = cc in
+          has-near (rw (es, et) at near)
+
+  -- the answer for a segment that waits
+  pub keeps-promise : (gs : List Segment) → Holds (d .settings) (g ∷ gs) (cond (g .owed) (shown d (g .start) (g .end)) drawn.Hidden)
+  unfolding shown strokeOf Holds
+  keeps-promise gs = go (g .owed) refl (clip (limits (d .settings)) (g .start) (g .end)) refl
+    where
+      go : (t : Bool) → g .owed ≡ t → (k : Clipped) → clip (limits (d .settings)) (g .start) (g .end) ≡ k →
+          Holds (d .settings) (g ∷ gs) (cond t (strokeOf (d .carriage .pen .number) k) drawn.Hidden)
+      go true o clipped.Hidden h = record {
+        none = λ u k n v p w.
+            clip-hides (limits (d .settings)) (g .from) (g .to) (g .start) (g .end) (l .from) (l .to) h k n v p (to-limits (d .settings) 1 _ w);
+      }
+      go true o (clipped.Stroke s t) h = painted s t o h
+      go false o k h = record { none = λ u. never o u }

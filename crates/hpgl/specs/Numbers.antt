@@ -1,0 +1,45 @@
+-- The numbers of document 01: its refusals ("Causes and numbers") and its bounds, each named once.
+use Prim.Native.Nat.{ℕ, _+_}
+
+-- ---- "Causes and numbers"
+
+-- unknown byte or name, number with no instruction, not known in polygon mode
+abbrev pub unknown : ℕ
+unknown = 1
+
+-- number or setting out of range
+abbrev pub outOfRange : ℕ
+outOfRange = 3
+
+-- location out of range
+abbrev pub tooFar : ℕ
+tooFar = 6
+
+-- polygon bytes
+abbrev pub polygonFull : ℕ
+polygonFull = 7
+
+-- bad hard limits
+abbrev pub badLimits : ℕ
+badLimits = 10
+
+-- take while a segment waits
+abbrev pub busy : ℕ
+busy = 20
+
+-- ---- "Bytes, at most 1024: 2 for PM0 and PM1, 9 for each point, 2 when the point is the first of a PU or PD that itself changed the pen"; "49 bytes by definition"
+
+abbrev pub polygonBytes : ℕ
+polygonBytes = 1024
+
+abbrev pub modeBytes : ℕ
+modeBytes = 2
+
+abbrev pub pointBytes : ℕ
+pointBytes = 9
+
+abbrev pub penBytes : ℕ
+penBytes = 2
+
+abbrev pub rectangleBytes : ℕ
+rectangleBytes = 49

@@ -1,0 +1,521 @@
+-- What an event does to the machine and to the model: one lemma for each rule, in the order of Rules.antt. Each is the rule's definition with its leaves replaced:
+-- a leaf that carries out shows what its action stores and queues to be what the model adds; a leaf that refuses leaves both as they are.
+use mathlib.Core.Path.{_≡_, refl, sym, ap, _∙_, subst}
+use mathlib.Core.Bool.{Bool, true, false, cond, not, _&&_}
+use mathlib.Core.List.{List, [], _∷_}
+use Prim.Native.Nat.{ℕ, zero, suc, _+_, _*_, _≤_, _<_}
+use native.Mathlib.Omega.{arith}
+use borrow.Author.Tests.{leb-true, eqb-true}
+use lib.Dec.{leb, eqb}
+use lib.IntN.{ℤ, pos, natAbs, _-ℤ_}
+use Rattle.exact.specs.Whole.{_≡?_, _≤?_, is, Z, ≡?-false}
+use Rattle.clip.specs.Line.{nearest}
+use Rattle.clip.specs.declared.Point.{Point}
+use Rattle.clip.specs.declared.Rect.{Rect}
+use Rattle.reader.specs.declared.Coordinates.{Coordinates}
+use Rattle.reader.specs.declared.Numbers.{Numbers}
+use Rattle.reader.specs.declared.Event.{Event}
+use Rattle.reader.specs.declared.Event.the-variants.{Nothing, Named, Pair, Ended, Refused}
+use Rattle.reader.specs.Table.{IN, DF, EP, IP, SC, IW, RO, SP, PM, CI, EA, ER, PU, PD, PA, PR, cellOf, knownInPolygon}
+use Rattle.plane.specs.Position.{axisOf}
+use Rattle.plane.specs.Turn.{turnCount, turnedOf, orderedOf}
+use Rattle.plane.specs.declared.circle.Way.{Way}
+use Rattle.plane.specs.Circle.{chordsOf, angleOf, rotatedOf, vertexPointOf}
+use Rattle.plane.specs.CircleLaws.{vertex-nearest, vertex-point-split}
+use Rattle.hpgl.specs.Cases.{never, pick, cond-true, cond-false}
+use Rattle.hpgl.specs.declared.Position.{Position}
+use Rattle.hpgl.specs.declared.Window.{Window}
+use Rattle.hpgl.specs.declared.Settings.{Settings}
+use Rattle.hpgl.specs.declared.Pen.{Pen}
+use Rattle.hpgl.specs.declared.Polygon.{Polygon}
+use Rattle.hpgl.specs.declared.Carriage.{Carriage}
+use Rattle.hpgl.specs.declared.Core.{Core}
+use Rattle.hpgl.specs.declared.Edge.{Edge}
+use Rattle.hpgl.specs.declared.Action.{Action}
+use Rattle.hpgl.specs.declared.Action.the-variants.{Keep, Line, Chords, Outline}
+use Rattle.hpgl.specs.declared.Acted.{Acted}
+use Rattle.hpgl.specs.declared.Work.the-variants as work
+use Rattle.hpgl.specs.Numbers.{polygonBytes, modeBytes, pointBytes}
+use Rattle.hpgl.specs.Place.{point, rounded, axisX, axisY, exactPosition, location, inRange, absolutePosition, relativePosition, pagePoint}
+use Rattle.hpgl.specs.Change.{withPosition, withPen, withPolygon, withSettings, withCarriage, withCorners, withScale, withTurn, withWindow}
+use Rattle.hpgl.specs.Rules as rules
+use Rattle.hpgl.specs.Rules.{done, refuse, unscaled, noWindow, freshSettings, noPolygon, freshCarriage, letters, nameRule, rebased, inRule, dfRule, goodCorners, setCorners, ipRule, scRule, setTurn, roRule, setWindow, iwRule, setPen, spRule, inked, spent, moveTo, pointCost, longer, edgeTo, storePoint, aimed, goTo, pairRule, begun, pm0, differ, closes, endedWith, pm1In, pm1, leave, pm2In, pm2, pmRule, epRule, rectangular, rectangleTo, firstTwo, eaRule, erRule, circleFits, circle, circleWith, chordAngle, ciRule, endRule, actOn}
+use Rattle.hpgl.specs.Machine.{vertex, rectangleEdges, stored, queued}
+use Rattle.hpgl.specs.ExactModel as model
+use Rattle.hpgl.specs.ExactModel.{ExactPolygon, Segment, segment, outline, vertexAt, chords, rectangle, polygonMode, polygonAfter, inkedOnly, move, instructed, added}
+use Rattle.hpgl.specs.Related.{Sound, Fit, edgesFrom, edgesOf, edgesAfter, allEdges, polygonEdges, some, Linked, turnedEdges, chordsFrom, view, onPage}
+use Rattle.hpgl.specs.PolygonLinked.{location-nearest, grown, ended-closed, ended-open, rectangle-linked, turned-outline}
+
+-- ---- the model after an event with a number
+
+unfoldable pub polygonBy : Core → Core → Event → ℕ → ExactPolygon → ExactPolygon
+polygonBy c d e zero g = polygonAfter c d e g
+polygonBy c d e (suc k) g = g
+
+unfoldable pub addedBy : Core → Core → Event → ℕ → ExactPolygon → List Segment
+addedBy c d e zero g = added c d e (polygonAfter c d e g)
+addedBy c d e (suc k) g = []
+
+-- From the core c to d, by an action: the core is fit, the store is that of the polygon g, and what waits is gs.
+pub record Matched (c d : Core) (a : Action) (es : List Edge) (g : ExactPolygon) (gs : List Segment) : Type 0 where
+  pub fit : Fit (d .settings) (d .carriage .polygon)
+  pub linked : Linked (d .settings) (d .carriage .position) (d .carriage .polygon) (stored es (c .carriage .polygon .edges) a) g
+  pub queue : view (d .settings) (stored es (c .carriage .polygon .edges) a) (queued (d .carriage .polygon .edges) a) ≡ onPage gs
+
+pub record Keeps (c : Core) (es : List Edge) (g : ExactPolygon) (e : Event) (t : Acted) : Type 0 where
+  pub kept : Matched c (t .core) (t .action) es (polygonBy c (t .core) e (t .number) g) (addedBy c (t .core) e (t .number) g)
+
+-- ---- settings
+
+ten-thousand : pos 10000 ≡ pos 0 → ⊥
+ten-thousand e = let z : _≡_ {A = ℕ} 10000 0 = cc in omega arith
+
+-- a width is that of the scale alone
+same-width : (on : Bool) (p q p' q' lo hi : ℤ) → axisOf on p q lo hi .width ≡ axisOf on p' q' lo hi .width
+unfolding axisOf
+same-width true p q p' q' lo hi = refl
+same-width false p q p' q' lo hi = refl
+
+apart : (a b : ℤ) → (a ≡? b) ≡ false → b -ℤ a ≡ pos 0 → ⊥
+apart a b h e = ≡?-false a b h (go a b e)
+  where
+    go : (a b : ℤ) → b -ℤ a ≡ pos 0 → a ≡ b
+    go a b = rw (is a, is b) (simp Z (omega arith))
+
+pub sound-fresh : (r : Rect) → Sound (freshSettings r)
+unfolding freshSettings axisX axisY axisOf
+sound-fresh r = record { x = ten-thousand; y = ten-thousand; turn = omega arith }
+
+sound-corners : (s : Settings) (p q : Point) → Sound s → Sound (withCorners s p q)
+unfolding axisX axisY
+sound-corners s p q w = record {
+  x = λ e. w .x (same-width (s .scale .on) _ _ _ _ _ _ ∙ e);
+  y = λ e. w .y (same-width (s .scale .on) _ _ _ _ _ _ ∙ e);
+  turn = w .turn;
+}
+
+sound-unscaled : (s : Settings) → Sound s → Sound (withScale s unscaled)
+unfolding axisX axisY axisOf
+sound-unscaled s w = record { x = ten-thousand; y = ten-thousand; turn = w .turn }
+
+sound-scaled : (s : Settings) (a b c d : ℤ) → (a ≡? b) ≡ false → (c ≡? d) ≡ false → Sound s →
+    Sound (withScale s (record { on = true; x = record { min = a; max = b }; y = record { min = c; max = d } }))
+unfolding axisX axisY axisOf
+sound-scaled s a b c d h k w = record { x = apart a b h; y = apart c d k; turn = w .turn }
+
+sound-turn : (s : Settings) (t : ℕ) → t < turnCount → Sound s → Sound (withTurn s t)
+unfolding axisX axisY
+sound-turn s t h w = record { x = w .x; y = w .y; turn = h }
+
+sound-window : (s : Settings) (k : Window) → Sound s → Sound (withWindow s k)
+unfolding axisX axisY
+sound-window s k w = record { x = w .x; y = w .y; turn = w .turn }
+
+-- ---- cases
+
+-- "Pen 0 queues nothing": z is whether the pen is 0
+by-ink : (P : Action → List Segment → Type 0) (z : Bool) (a : Action) (gs : List Segment) → P a gs → P Keep [] → P (cond (not z) a Keep) (cond z [] gs)
+by-ink P true a gs h k = k
+by-ink P false a gs h k = h
+
+-- "With pen down and pen not 0": b is the action a, or none
+by-pen : (P : Action → List Segment → Type 0) (down z : Bool) {a b : Action} {gs : List Segment} → b ≡ cond (down && not z) a Keep → P a gs → P Keep [] →
+    P b (cond down (cond z [] gs) [])
+by-pen P down z {a} {b} {gs} e h k = rw e (go down)
+  where
+    go : (down : Bool) → P (cond (down && not z) a Keep) (cond down (cond z [] gs) [])
+    go true = by-ink P z a gs h k
+    go false = k
+
+-- the edges that wait, drawn or not
+drawn-edges : (s : Settings) (es : List Edge) (n : ℕ) (gs : List Segment) (z : Bool) → turnedEdges (s .turn) (edgesFrom es 0 n) ≡ onPage gs →
+    view s es (cond (not z) (work.Edges 0 n) work.Nothing) ≡ onPage (cond z [] gs)
+unfolding view onPage
+drawn-edges s es n gs true h = refl
+drawn-edges s es n gs false h = h
+
+cost : (p : Pen) → 9 ≤ pointCost p
+unfolding pointCost
+cost p = pick (λ (n : ℕ). 9 ≤ n) (p .changed) (omega arith) (omega arith)
+
+-- a point takes 9 bytes and makes at most one edge
+more-room : (empty : Bool) (e b n : ℕ) → 9 ≤ n → 11 + 9 * e ≤ b → 11 + 9 * cond empty e (e + 1) ≤ b + n
+more-room true e b n h k = omega arith
+more-room false e b n h k = omega arith
+
+module _ (c : Core) (es : List Edge) (g : ExactPolygon) (f : Fit (c .settings) (c .carriage .polygon))
+    (l : Linked (c .settings) (c .carriage .position) (c .carriage .polygon) es g) where
+  both : {e : Event} (t : Bool) {x y : Acted} → Keeps c es g e x → Keeps c es g e y → Keeps c es g e (cond t x y)
+  both true h k = h
+  both false h k = k
+
+  when : {e : Event} (t : Bool) {x y : Acted} → (t ≡ true → Keeps c es g e x) → (t ≡ false → Keeps c es g e y) → Keeps c es g e (cond t x y)
+  when true h k = h refl
+  when false h k = k refl
+
+  -- refused: both stay
+  refused : (e : Event) (n : ℕ) → Keeps c es g e (refuse c (suc n))
+  unfolding refuse polygonBy addedBy stored queued view onPage
+  refused e n = record { kept = record { fit = f; linked = l; queue = refl } }
+
+  -- carried out, and neither the polygon nor the queue gets anything
+  calm : (e : Event) (d : Core) → polygonAfter c d e g ≡ g → added c d e (polygonAfter c d e g) ≡ [] → Fit (d .settings) (d .carriage .polygon) →
+      Linked (d .settings) (d .carriage .position) (d .carriage .polygon) es g → Keeps c es g e (done d Keep)
+  unfolding done polygonBy addedBy stored queued view onPage
+  calm e d p q h k = record {
+    kept = record {
+      fit = h;
+      linked = subst (λ (x : ExactPolygon). Linked (d .settings) (d .carriage .position) (d .carriage .polygon) es x) (sym p) k;
+      queue = ap onPage (sym q);
+    };
+  }
+
+  -- ---- names
+
+  keeps-name : (op : ℕ) → Keeps c es g (Named op) (nameRule c op)
+  unfolding nameRule letters polygonAfter added
+  keeps-name op =
+      let P : Carriage → Type 0 = λ k. Keeps c es g (Named op) (done (withCarriage c k) Keep) in
+      let penned : (k : Carriage) → k .position ≡ c .carriage .position → k .polygon ≡ c .carriage .polygon → P k =
+      λ k p q. calm (Named op) (withCarriage c k) refl refl (rw q f) (rw (p, q) l) in
+      both (c .carriage .polygon .mode && not (knownInPolygon op)) (refused (Named op) 0)
+      (pick P (eqb op PU) (penned _ refl refl)
+      (pick P (eqb op PD) (penned _ refl refl)
+      (pick P (eqb op PA) (penned _ refl refl)
+      (pick P (eqb op PR) (penned _ refl refl)
+      (penned (c .carriage) refl refl)))))
+
+  -- ---- settings
+
+  keeps-in : (n : Numbers) → Keeps c es g (Ended IN n) (inRule c)
+  unfolding inRule done freshCarriage noPolygon polygonBy addedBy polygonAfter model.ended added instructed stored queued view onPage edgesFrom polygonEdges allEdges edgesOf
+  keeps-in n = record {
+    kept = record {
+      fit = record { sound = sound-fresh (c .settings .hard); room = λ h. never refl h };
+      linked = record { size = l .size; edges = refl; current = λ h. never refl h };
+      queue = refl;
+    };
+  }
+
+  -- outside polygon mode
+  settles : (e : Event) (d : Core) → polygonAfter c d e g ≡ g → added c d e (polygonAfter c d e g) ≡ [] → c .carriage .polygon .mode ≡ false →
+      d .carriage .polygon ≡ c .carriage .polygon → Sound (d .settings) → Keeps c es g e (done d Keep)
+  settles e d p q o k w =
+      let m : d .carriage .polygon .mode ≡ false = ap (λ (x : Polygon). x .mode) k ∙ o in
+      calm e d p q (record { sound = w; room = λ h. never m h })
+      (record { size = l .size; edges = ap (λ (x : Polygon). edgesFrom es 0 (x .edges)) k ∙ l .edges; current = λ h. never m h })
+
+  keeps-df : (n : Numbers) → c .carriage .polygon .mode ≡ false → Keeps c es g (Ended DF n) (dfRule c)
+  unfolding dfRule rebased polygonAfter model.ended added instructed
+  keeps-df n o = settles (Ended DF n) _ refl refl o refl (sound-window (withScale (c .settings) unscaled) noWindow (sound-unscaled (c .settings) (f .sound)))
+
+  keeps-corners : (n : Numbers) (p q : Point) → c .carriage .polygon .mode ≡ false → Keeps c es g (Ended IP n) (setCorners c p q)
+  unfolding setCorners rebased polygonAfter model.ended added instructed
+  keeps-corners n p q o = both (goodCorners p q) (settles (Ended IP n) _ refl refl o refl (sound-corners (c .settings) p q (f .sound))) (refused (Ended IP n) 2)
+
+  keeps-ip : (n : Numbers) → c .carriage .polygon .mode ≡ false → Keeps c es g (Ended IP n) (ipRule c n)
+  unfolding ipRule
+  keeps-ip n o = both (eqb (n .count) 0) (keeps-corners n _ _ o) (both (eqb (n .count) 2) (keeps-corners n _ _ o) (keeps-corners n _ _ o))
+
+  keeps-sc : (n : Numbers) → c .carriage .polygon .mode ≡ false → Keeps c es g (Ended SC n) (scRule c n)
+  unfolding scRule rebased polygonAfter model.ended added instructed
+  keeps-sc n o =
+      both (eqb (n .count) 0) (settles (Ended SC n) _ refl refl o refl (sound-unscaled (c .settings) (f .sound)))
+      (when (n .first ≡? n .second) (λ x. refused (Ended SC n) 2)
+      (λ x. when (n .third ≡? n .fourth) (λ y. refused (Ended SC n) 2)
+      (λ y. settles (Ended SC n) _ refl refl o refl (sound-scaled (c .settings) (n .first) (n .second) (n .third) (n .fourth) x y (f .sound)))))
+
+  keeps-turn : (n : Numbers) (t : ℕ) → t < turnCount → c .carriage .polygon .mode ≡ false → Keeps c es g (Ended RO n) (setTurn c t)
+  unfolding setTurn rebased polygonAfter model.ended added instructed
+  keeps-turn n t h o = settles (Ended RO n) _ refl refl o refl (sound-turn (c .settings) t h (f .sound))
+
+  keeps-ro : (n : Numbers) → c .carriage .polygon .mode ≡ false → Keeps c es g (Ended RO n) (roRule c n)
+  unfolding roRule
+  keeps-ro n o =
+      both (eqb (n .count) 0) (keeps-turn n 0 (omega arith) o)
+      (both (rounded (n .first) ≡? pos 0) (keeps-turn n 0 (omega arith) o)
+      (both (rounded (n .first) ≡? pos 90) (keeps-turn n 1 (omega arith) o)
+      (refused (Ended RO n) 2)))
+
+  keeps-window : (n : Numbers) (k : Window) → c .carriage .polygon .mode ≡ false →
+      Keeps c es g (Ended IW n) (done (withSettings c (withWindow (c .settings) k)) Keep)
+  unfolding polygonAfter model.ended added instructed
+  keeps-window n k o = settles (Ended IW n) _ refl refl o refl (sound-window (c .settings) k (f .sound))
+
+  keeps-iw : (n : Numbers) → c .carriage .polygon .mode ≡ false → Keeps c es g (Ended IW n) (iwRule c n)
+  unfolding iwRule setWindow
+  keeps-iw n o =
+      let p : Point = location (c .settings) (absolutePosition (c .settings) (record { x = n .first; y = n .second })) in
+      let q : Point = location (c .settings) (absolutePosition (c .settings) (record { x = n .third; y = n .fourth })) in
+      both (eqb (n .count) 0) (keeps-window n noWindow o)
+      (both (inRange p && inRange q) (keeps-window n (record { set = true; area = orderedOf p q }) o) (refused (Ended IW n) 2))
+
+  keeps-pen : (n : Numbers) (k : ℕ) → Keeps c es g (Ended SP n) (setPen c k)
+  unfolding setPen polygonAfter model.ended added instructed
+  keeps-pen n k = calm (Ended SP n) _ refl refl f l
+
+  keeps-sp : (n : Numbers) → Keeps c es g (Ended SP n) (spRule c n)
+  unfolding spRule
+  keeps-sp n =
+      both (eqb (n .count) 0) (keeps-pen n 0)
+      (both ((pos 0 ≤? rounded (n .first)) && (rounded (n .first) ≤? pos 8)) (keeps-pen n (natAbs (rounded (n .first)))) (refused (Ended SP n) 2))
+
+  -- ---- pairs
+
+  recast : {d : Core} {a : Action} {x y : ExactPolygon} {u v : List Segment} → x ≡ y → u ≡ v → Matched c d a es y v → Matched c d a es x u
+  recast p q h = rw (p, q) h
+
+  keeps-move : (n : Coordinates) (p : Position) → c .carriage .polygon .mode ≡ false → Keeps c es g (Pair n) (moveTo c p)
+  unfolding moveTo done inked pagePoint polygonBy addedBy polygonAfter added move inkedOnly segment stored queued view onPage
+  keeps-move n p o =
+      let s : Settings = c .settings in
+      let d : Core = withCarriage c (withPosition (withPen (c .carriage) (spent (c .carriage .pen))) p) in
+      let down : Bool = c .carriage .pen .down in
+      let z : Bool = eqb (c .carriage .pen .number) 0 in
+      let line : Segment = segment d (exactPosition s (c .carriage .position)) (exactPosition s p) true in
+      let adds : added c d (Pair n) (polygonAfter c d (Pair n) g) ≡ cond down (cond z [] (line ∷ [])) [] = cond-false _ _ _ o in
+      let acts : moveTo c p .action ≡ cond (down && not z) (Line (pagePoint s (c .carriage .position)) (pagePoint s p)) Keep = refl in
+      let moved : Linked s p (c .carriage .polygon) es g = record { size = l .size; edges = l .edges; current = λ h. never o h } in
+      record {
+        kept = recast (cond-false _ _ _ o) adds
+            (by-pen (λ (a : Action) (gs : List Segment). Matched c d a es g gs) down z acts
+            (record {
+              fit = f;
+              linked = moved;
+              queue = λ i. record {
+                start = turnedOf (location-nearest s (c .carriage .position) (f .sound) i) (s .turn);
+                end = turnedOf (location-nearest s p (f .sound) i) (s .turn);
+                shown = true;
+              } ∷ [];
+            })
+            (record { fit = f; linked = moved; queue = refl }));
+      }
+
+  keeps-store : (n : Coordinates) (p : Position) → c .carriage .polygon .mode ≡ true → Keeps c es g (Pair n) (storePoint c p)
+  unfolding storePoint done edgeTo longer polygonBy addedBy polygonAfter added move stored queued view onPage
+  keeps-store n p o =
+      let k : Polygon = c .carriage .polygon in
+      let more : ℕ = pointCost (c .carriage .pen) in
+      when (leb (k .bytes + more) polygonBytes)
+      (λ e. let h : k .bytes + more ≤ polygonBytes = leb-true _ _ e in
+      let r : 11 + 9 * k .edges ≤ k .bytes = f .room o in
+      let q : 9 ≤ more = cost (c .carriage .pen) in
+      record {
+        kept = recast (cond-true _ _ _ o) (cond-true _ _ _ o) (record {
+          fit = record { sound = f .sound; room = λ m. more-room (k .empty) (k .edges) (k .bytes) more q r };
+          linked = grown (c .settings) (f .sound) (c .carriage .position) p k more (c .carriage .pen .down) es g (omega arith) o l;
+          queue = pick (λ (a : Action). view (c .settings) (stored es (k .edges) a) (queued (cond (k .empty) (k .edges) (k .edges + 1)) a) ≡ []) (k .empty) refl refl;
+        });
+      })
+      (λ e. refused (Pair n) 6)
+
+  keeps-pair : (n : Coordinates) → Keeps c es g (Pair n) (pairRule c n)
+  unfolding pairRule goTo
+  keeps-pair n =
+      both (inRange (location (c .settings) (aimed c n)))
+      (when (c .carriage .polygon .mode) (λ o. keeps-store n (aimed c n) o) (λ o. keeps-move n (aimed c n) o))
+      (refused (Pair n) 5)
+
+  -- ---- polygons
+
+  keeps-pm0 : (n : Numbers) → Keeps c es g (Ended PM n) (pm0 c)
+  unfolding pm0 done begun polygonBy addedBy polygonAfter model.ended polygonMode added instructed stored queued view onPage edgesFrom polygonEdges allEdges edgesOf edgesAfter model.lastOf
+  keeps-pm0 n =
+      when (c .carriage .polygon .mode) (λ o. refused (Ended PM n) 2)
+      (λ o. record {
+        kept = recast (cond-false _ _ _ o) refl (record {
+          fit = record { sound = f .sound; room = λ h. omega arith };
+          linked = record { size = l .size; edges = refl; current = λ h. some refl refl };
+          queue = refl;
+        });
+      })
+
+  keeps-pm1 : (n : Numbers) → c .carriage .polygon .mode ≡ true → Keeps c es g (Ended PM n) (pm1In c)
+  unfolding pm1In closes done rules.ended edgeTo endedWith polygonBy addedBy polygonAfter model.ended polygonMode added instructed stored queued view onPage
+  keeps-pm1 n o =
+      let k : Polygon = c .carriage .polygon in
+      let p : Position = c .carriage .position in
+      let r : 11 + 9 * k .edges ≤ k .bytes = f .room o in
+      when (not (k .empty) && differ (location (c .settings) p) (location (c .settings) (k .first)))
+      (λ e. when (leb (k .bytes + (modeBytes + pointBytes)) polygonBytes)
+      (λ b. let h : k .bytes + 11 ≤ polygonBytes = leb-true _ _ b in
+      record {
+        kept = recast (cond-true _ _ _ o) refl (record {
+          fit = record { sound = f .sound; room = λ m. omega arith };
+          linked = ended-closed (c .settings) (f .sound) p (k .first) k true 11 (c .carriage .pen .down) es g (omega arith) o e l;
+          queue = refl;
+        });
+      })
+      (λ b. refused (Ended PM n) 6))
+      (λ e. both (leb (k .bytes + modeBytes) polygonBytes)
+      (record {
+        kept = recast (cond-true _ _ _ o) refl (record {
+          fit = record { sound = f .sound; room = λ m. omega arith };
+          linked = ended-open (c .settings) (f .sound) p p k true 2 (c .carriage .pen .down) es g o e l;
+          queue = refl;
+        });
+      })
+      (refused (Ended PM n) 6))
+
+  keeps-pm2 : (n : Numbers) → c .carriage .polygon .mode ≡ true → Keeps c es g (Ended PM n) (pm2In c)
+  unfolding pm2In closes done refuse leave edgeTo endedWith polygonBy addedBy polygonAfter model.ended polygonMode added instructed stored queued view onPage
+  keeps-pm2 n o =
+      let k : Polygon = c .carriage .polygon in
+      let p : Position = c .carriage .position in
+      let back : Position = k .saved .position in
+      let r : 11 + 9 * k .edges ≤ k .bytes = f .room o in
+      let same : k .edges + 0 ≡ k .edges = omega arith in
+      when (not (k .empty) && differ (location (c .settings) p) (location (c .settings) (k .first)))
+      (λ e. when (leb (k .bytes + pointBytes) polygonBytes)
+      (λ b. let h : k .bytes + 9 ≤ polygonBytes = leb-true _ _ b in
+      record {
+        kept = recast (cond-true _ _ _ o) refl (record {
+          fit = record { sound = f .sound; room = λ m. never refl m };
+          linked = ended-closed (c .settings) (f .sound) p back k false 9 (c .carriage .pen .down) es g (omega arith) o e l;
+          queue = refl;
+        });
+      })
+      (λ b. record {
+        kept = record {
+          fit = record { sound = f .sound; room = λ m. never refl m };
+          linked = record { size = l .size; edges = ap (edgesFrom es 0) same ∙ l .edges; current = λ m. never refl m };
+          queue = refl;
+        };
+      }))
+      (λ e. record {
+        kept = recast (cond-true _ _ _ o) refl (record {
+          fit = record { sound = f .sound; room = λ m. never refl m };
+          linked = ended-open (c .settings) (f .sound) p back k false 0 (c .carriage .pen .down) es g o e l;
+          queue = refl;
+        });
+      })
+
+  keeps-pm : (n : Numbers) → Keeps c es g (Ended PM n) (pmRule c n)
+  unfolding pmRule pm1 pm2
+  keeps-pm n =
+      both (eqb (n .count) 0) (keeps-pm0 n)
+      (both (rounded (n .first) ≡? pos 0) (keeps-pm0 n)
+      (both (rounded (n .first) ≡? pos 1) (when (c .carriage .polygon .mode) (keeps-pm1 n) (λ o. refused (Ended PM n) 2))
+      (both (rounded (n .first) ≡? pos 2) (when (c .carriage .polygon .mode) (keeps-pm2 n) (λ o. refused (Ended PM n) 2))
+      (refused (Ended PM n) 2))))
+
+  keeps-ep : (n : Numbers) → Keeps c es g (Ended EP n) (epRule c)
+  unfolding epRule done inked polygonBy addedBy polygonAfter model.ended added instructed inkedOnly stored queued view onPage
+  keeps-ep n = record {
+    kept = by-ink (λ (a : Action) (gs : List Segment). Matched c c a es g gs) (eqb (c .carriage .pen .number) 0) Outline (outline c g)
+        (record { fit = f; linked = l; queue = ap (turnedEdges (c .settings .turn)) (l .edges) ∙ turned-outline c g })
+        (record { fit = f; linked = l; queue = refl });
+  }
+
+  -- the polygon is the rectangle to p, and is drawn
+  keeps-rectangle : (e : Event) (p : Position) →
+      ((d : Core) → polygonAfter c d e g ≡ rectangle (c .settings) (c .carriage .position) p) →
+      ((d : Core) (x : ExactPolygon) → added c d e x ≡ inkedOnly d (outline d x)) → Keeps c es g e (rectangleTo c p)
+  unfolding rectangleTo rectangular done inked inkedOnly polygonBy addedBy stored queued
+  keeps-rectangle e p a b =
+      let d : Core = withCarriage c (withPolygon (c .carriage) (rectangular (c .carriage .polygon))) in
+      let at : Position = c .carriage .position in
+      let r : ExactPolygon = rectangle (c .settings) at p in
+      let k : Linked (c .settings) at (rectangular (c .carriage .polygon)) (rectangleEdges es (location (c .settings) at) (location (c .settings) p)) r =
+      rectangle-linked (c .settings) (f .sound) at p at (c .carriage .polygon) es (l .size) in
+      both (inRange (location (c .settings) p))
+      (record {
+        kept = recast (a d) (ap (added c d e) (a d) ∙ b d r) (record {
+          fit = record { sound = f .sound; room = λ m. never refl m };
+          linked = k;
+          queue = drawn-edges (c .settings) _ 4 (outline d r) (eqb (c .carriage .pen .number) 0)
+              (ap (turnedEdges (c .settings .turn)) (k .edges) ∙ turned-outline d r);
+        });
+      })
+      (refused e 5)
+
+  keeps-ea : (n : Numbers) → Keeps c es g (Ended EA n) (eaRule c n)
+  unfolding eaRule polygonAfter model.ended added instructed
+  keeps-ea n = keeps-rectangle (Ended EA n) (absolutePosition (c .settings) (firstTwo n)) (λ d. refl) (λ d x. refl)
+
+  keeps-er : (n : Numbers) → Keeps c es g (Ended ER n) (erRule c n)
+  unfolding erRule polygonAfter model.ended added instructed
+  keeps-er n = keeps-rectangle (Ended ER n) (relativePosition (c .carriage .position) (firstTwo n)) (λ d. refl) (λ d x. refl)
+
+  -- ---- circles
+
+  same-vertex : (r : ℤ) (a i : ℕ) → vertex (c .settings) (circle c r a) i ≡ turnedOf (nearest (vertexAt c r a i)) (c .settings .turn)
+  unfolding vertex circle vertexAt vertexPointOf
+  same-vertex r a i =
+      let s : Settings = c .settings in
+      let p : Position = c .carriage .position in
+      let w : Way = rotatedOf (record { u = r; v = pos 0 }) (angleOf a i) in
+      ap (λ (x : Point). turnedOf x (s .turn))
+      (vertex-point-split (axisX s) (axisY s) (p .x) (p .y) (record { u = r; v = pos 0 }) (angleOf a i) (f .sound .x) (f .sound .y)
+      ∙ (λ j. point (vertex-nearest (axisX s) (p .x) (w .u) (f .sound .x) j) (vertex-nearest (axisY s) (p .y) (w .v) (f .sound .y) j)))
+
+  same-chords : (r : ℤ) (a i n : ℕ) → chordsFrom (c .settings) (circle c r a) i n ≡ onPage (chords c r a i n)
+  unfolding chordsFrom chords onPage segment
+  same-chords r a i zero = refl
+  same-chords r a i (suc n) = λ j. record { start = same-vertex r a i j; end = same-vertex r a (i + 1) j; shown = true } ∷ same-chords r a (i + 1) n j
+
+  keeps-ci : (n : Numbers) → Keeps c es g (Ended CI n) (ciRule c n)
+  unfolding ciRule circleWith done inked circle polygonBy addedBy polygonAfter model.ended added instructed inkedOnly stored queued view onPage
+  keeps-ci n =
+      let a : ℤ = chordAngle n in
+      both ((pos 5 ≤? a) && (a ≤? pos 1200))
+      (both (circleFits c (n .first))
+      (record {
+        kept = by-ink (λ (x : Action) (gs : List Segment). Matched c c x es g gs) (eqb (c .carriage .pen .number) 0) (Chords (circle c (n .first) (natAbs a)))
+            (chords c (n .first) (natAbs a) 0 (chordsOf (natAbs a)))
+            (record { fit = f; linked = l; queue = same-chords (n .first) (natAbs a) 0 (chordsOf (natAbs a)) })
+            (record { fit = f; linked = l; queue = refl });
+      })
+      (refused (Ended CI n) 5))
+      (refused (Ended CI n) 2)
+
+  -- ---- every event
+
+  -- a row of endRule: the instruction k, or another
+  row : (op k : ℕ) {n : Numbers} {x y : Acted} → (op ≡ k → Keeps c es g (Ended k n) x) → (eqb op k ≡ false → Keeps c es g (Ended op n) y) →
+      Keeps c es g (Ended op n) (cond (eqb op k) x y)
+  row op k {n} {x} h r =
+      when (eqb op k)
+      (λ e. let q : op ≡ k = eqb-true op k e in
+      subst (λ (o : ℕ). Keeps c es g (Ended o n) x) (sym q) (h q))
+      r
+
+  -- an instruction that is not known in polygon mode does not end there
+  outside : (op k : ℕ) → (c .carriage .polygon .mode ≡ true → knownInPolygon op ≡ true) → knownInPolygon k ≡ false → op ≡ k → c .carriage .polygon .mode ≡ false
+  outside op k known h q = go (c .carriage .polygon .mode) known
+    where
+      go : (m : Bool) → (m ≡ true → knownInPolygon op ≡ true) → m ≡ false
+      go true u = never (ap knownInPolygon q ∙ h) (u refl)
+      go false u = refl
+
+  -- PU, PD, PA, PR have done their work
+  keeps-other : (op : ℕ) (n : Numbers) → eqb op IN ≡ false → eqb op EP ≡ false → eqb op PM ≡ false → eqb op CI ≡ false → eqb op EA ≡ false → eqb op ER ≡ false →
+      Keeps c es g (Ended op n) (done c Keep)
+  unfolding polygonAfter model.ended added instructed
+  keeps-other op n i p m k a r = calm (Ended op n) c (rw (i, m, a, r) refl) (rw (i, m, a, r, p, k) refl) f l
+
+  keeps-end : (op : ℕ) (n : Numbers) → (c .carriage .polygon .mode ≡ true → knownInPolygon op ≡ true) → Keeps c es g (Ended op n) (endRule c op n)
+  unfolding endRule knownInPolygon cellOf
+  keeps-end op n known =
+      row op IN (λ q. keeps-in n)
+      (λ is-in. row op DF (λ q. keeps-df n (outside op DF known refl q))
+      (λ df. row op EP (λ q. keeps-ep n)
+      (λ ep. row op IP (λ q. keeps-ip n (outside op IP known refl q))
+      (λ ip. row op SC (λ q. keeps-sc n (outside op SC known refl q))
+      (λ sc. row op IW (λ q. keeps-iw n (outside op IW known refl q))
+      (λ iw. row op RO (λ q. keeps-ro n (outside op RO known refl q))
+      (λ ro. row op SP (λ q. keeps-sp n)
+      (λ sp. row op PM (λ q. keeps-pm n)
+      (λ pm. row op CI (λ q. keeps-ci n)
+      (λ ci. row op EA (λ q. keeps-ea n)
+      (λ ea. row op ER (λ q. keeps-er n)
+      (λ er. keeps-other op n is-in ep pm ci ea er))))))))))))
+
+  pub keeps : (e : Event) → ((op : ℕ) (n : Numbers) → e ≡ Ended op n → c .carriage .polygon .mode ≡ true → knownInPolygon op ≡ true) → Keeps c es g e (actOn c e)
+  unfolding actOn done refuse polygonAfter added
+  keeps Nothing known = calm Nothing c refl refl f l
+  keeps (Named op) known = keeps-name op
+  keeps (Pair n) known = keeps-pair n
+  keeps (Ended op n) known = keeps-end op n (known op n refl)
+  keeps (Refused zero) known = calm (Refused 0) c refl refl f l
+  keeps (Refused (suc k)) known = refused (Refused (suc k)) k

@@ -1,0 +1,208 @@
+-- Every machine that the calls make is valid: fresh, take and draw. Why: each rule keeps the core valid and its action valid (the other files ..Kept.antt),
+-- the reader keeps its numbers small, and an action puts into store and work what it holds.
+use mathlib.Core.Path.{_≡_, refl, ap, _∙_}
+use mathlib.Core.Bool.{Bool, true, false}
+use mathlib.Core.List.{List}
+use Prim.Native.Nat.{ℕ, zero, suc, _≤_, _<_}
+use native.Mathlib.Omega.{arith}
+use borrow.Author.Tests.{eqb-true}
+use lib.Dec.{eqb}
+use lib.IntN.{ℤ, natAbs}
+use lib.ListN.{length, set, replicate, length-set, length-replicate}
+use Rattle.exact.specs.Whole.{_<?_, <?-true, _<ᶻ_, ord}
+use Rattle.exact.specs.Fit.{bd-lit}
+use Rattle.clip.specs.declared.Rect.{Rect}
+use Rattle.clip.specs.Reach.{SmallPoint}
+use Rattle.reader.specs.declared.Numbers.{Numbers}
+use Rattle.reader.specs.declared.Event.{Event}
+use Rattle.reader.specs.declared.Event.the-variants.{Nothing, Named, Pair, Ended, Refused}
+use Rattle.reader.specs.Table.{IN, DF, EP, IP, SC, IW, RO, SP, PM, CI, EA, ER, cellOf, knownInPolygon}
+use Rattle.reader.specs.Step.{stepOf}
+use Rattle.reader.specs.Laws.{fresh-law}
+use Rattle.hpgl.specs.declared.Core.{Core}
+use Rattle.hpgl.specs.declared.Edge.{Edge}
+use Rattle.hpgl.specs.declared.Action.{Action}
+use Rattle.hpgl.specs.declared.Action.the-variants as action
+use Rattle.hpgl.specs.declared.Work.{Work}
+use Rattle.hpgl.specs.declared.Work.the-variants as work
+use Rattle.hpgl.specs.declared.State.{State}
+use Rattle.hpgl.specs.Place.{point}
+use Rattle.hpgl.specs.Rules.{freshSettings, noPolygon, freshCarriage, freshCore, int16, endRule, actOn}
+use Rattle.hpgl.specs.Machine.{goodLimits, hardLimits, noEdge, freshState, waiting, rectangleEdges, stored, queued, applied, acted, takeState, workAfter, drawState}
+use Rattle.hpgl.specs.Valid.{mostEdges, ValidSettings, ValidCore, ValidEvent, SmallEdge, ValidAction, ValidActed, ValidWork, Every, none, more, Knows, Valid}
+use Rattle.hpgl.specs.Made as made
+use Rattle.hpgl.specs.CodeFacts.{and-both, rest-placed, origin-small, unknown-outside, chords-most}
+use Rattle.hpgl.specs.Cases.{never, pick}
+use Rattle.hpgl.specs.KeptCases.{when, valid-core, refuses, keeps}
+use Rattle.hpgl.specs.SettingsKept.{valid-name, int16-short, fresh-settings, no-polygon, valid-in, valid-df, valid-ip, valid-sc, valid-ro, valid-iw, valid-sp}
+use Rattle.hpgl.specs.PositionKept.{valid-pair}
+use Rattle.hpgl.specs.PolygonKept.{valid-pm, valid-ep, valid-ea, valid-er}
+use Rattle.hpgl.specs.CircleKept.{valid-ci}
+use Rattle.hpgl.specs.ReaderKept.{step-event, known-after, readable-after}
+
+-- ---- every event
+
+-- an instruction that is not known in polygon mode ends outside it
+outside : {mode : Bool} (op k : ℕ) → knownInPolygon k ≡ false → eqb op k ≡ true → (mode ≡ true → knownInPolygon op ≡ true) → mode ≡ false
+outside op k h e w = unknown-outside (ap knownInPolygon (eqb-true op k e) ∙ h) w
+
+pub valid-end : {c : Core} {op : ℕ} {n : Numbers} → ValidCore c → ValidEvent c (Ended op n) → ValidActed c (endRule c op n)
+unfolding endRule knownInPolygon cellOf
+valid-end {c} {op} {n} w h =
+    let P = ValidActed c in
+    let s = h .0 .numbers in
+    pick P (eqb op IN) (valid-in w)
+    (when P (eqb op DF) (λ e. valid-df w (outside op DF refl e (h .1)))
+    (λ e. pick P (eqb op EP) (valid-ep w)
+    (when P (eqb op IP) (λ e. valid-ip w (outside op IP refl e (h .1)) n)
+    (λ e. when P (eqb op SC) (λ e. valid-sc w (outside op SC refl e (h .1)) s)
+    (λ e. when P (eqb op IW) (λ e. valid-iw w (outside op IW refl e (h .1)) n)
+    (λ e. when P (eqb op RO) (λ e. valid-ro w (outside op RO refl e (h .1)) n)
+    (λ e. pick P (eqb op SP) (valid-sp n w)
+    (pick P (eqb op PM) (valid-pm n w)
+    (pick P (eqb op CI) (valid-ci w s)
+    (pick P (eqb op EA) (valid-ea w s)
+    (pick P (eqb op ER) (valid-er w s)
+    (keeps c c w))))))))))))
+
+pub valid-event : {c : Core} (e : Event) → ValidCore c → ValidEvent c e → ValidActed c (actOn c e)
+unfolding actOn
+valid-event {c} Nothing w h = keeps c c w
+valid-event (Named op) w h = valid-name op w
+valid-event (Pair n) w h = valid-pair w h
+valid-event (Ended op n) w h = valid-end w h
+valid-event {c} (Refused k) w h = refuses c c k h w
+
+pub valid-acted : {m : State} (b : ℕ) → Valid m → ValidActed (m .core) (acted m b)
+unfolding acted
+valid-acted {m} b w = valid-event (stepOf (m .reader) b .event) (w .core) (step-event b w)
+
+-- ---- store and work
+
+record ValidStore (es : List Edge) : Type 0 where
+  edges : Every SmallEdge es
+  length : length es ≡ mostEdges
+
+every-set : {es : List Edge} {e : Edge} (k : ℕ) → SmallEdge e → Every SmallEdge es → Every SmallEdge (set es k e)
+every-set k h none = none
+every-set zero h (more g gs) = more h gs
+every-set (suc k) h (more g gs) = more g (every-set k h gs)
+
+put : {es : List Edge} {e : Edge} (k : ℕ) → SmallEdge e → ValidStore es → ValidStore (set es k e)
+put {es} {e} k h w = record { edges = every-set k h (w .edges); length = length-set es k e ∙ w .length }
+
+stored-valid : {es : List Edge} (k : ℕ) (a : Action) → ValidAction k a → ValidStore es → ValidStore (stored es k a)
+unfolding stored rectangleEdges
+stored-valid k action.Keep h w = w
+stored-valid k (action.Line a b) h w = w
+stored-valid k (action.Chords o) h w = w
+stored-valid k (action.Join e) h w = put k (h .0) w
+stored-valid k action.Outline h w = w
+stored-valid k (action.Rectangle p q shown) h w =
+    let second : SmallPoint (point (q .x) (p .y)) = record { x = h .1 .x; y = h .0 .y } in
+    let fourth : SmallPoint (point (p .x) (q .y)) = record { x = h .0 .x; y = h .1 .y } in
+    put 3 (record { from = fourth; to = h .0 })
+    (put 2 (record { from = h .1; to = fourth })
+    (put 1 (record { from = second; to = h .1 })
+    (put 0 (record { from = h .0; to = second })
+    w)))
+
+queued-valid : (j k : ℕ) (a : Action) → ValidAction j a → k ≤ mostEdges → ValidWork (queued k a)
+unfolding queued
+queued-valid j k action.Keep h l = tt
+queued-valid j k (action.Line a b) h l = h
+queued-valid j k (action.Chords o) h l = (h, omega (arith, chords-most (h .least)))
+queued-valid j k (action.Join e) h l = tt
+queued-valid j k action.Outline h l = omega arith
+queued-valid j k (action.Rectangle p q shown) h l = pick ValidWork shown (omega arith) tt
+
+-- ---- fresh
+
+good-limits : (r : Rect) → goodLimits r ≡ true → ValidSettings (freshSettings r)
+unfolding goodLimits
+good-limits r e =
+    let b1 = and-both _ (r .bottom <? r .top) e in
+    let b2 = and-both _ (r .left <? r .right) (b1 .0) in
+    let b3 = and-both _ (int16 (r .top)) (b2 .0) in
+    let b4 = and-both _ (int16 (r .right)) (b3 .0) in
+    let b5 = and-both (int16 (r .left)) (int16 (r .bottom)) (b4 .0) in
+    fresh-settings
+    (record {
+      left = int16-short (r .left) (b5 .0);
+      bottom = int16-short (r .bottom) (b5 .1);
+      right = int16-short (r .right) (b4 .1);
+      top = int16-short (r .top) (b3 .1);
+    })
+    (apart (<?-true (r .left) (r .right) (b2 .1)))
+    (apart (<?-true (r .bottom) (r .top) (b1 .1)))
+  where
+    apart : {a b : ℤ} → a <ᶻ b → a ≡ b → ⊥
+    apart h e = omega (arith, ord)
+
+hard-valid : (r : Rect) → ValidSettings (freshSettings (hardLimits r))
+unfolding hardLimits
+hard-valid r =
+    when (λ (q : Rect). ValidSettings (freshSettings q)) (goodLimits r) (good-limits r)
+    (λ e. fresh-settings (record { left = bd-lit tt; bottom = bd-lit tt; right = bd-lit tt; top = bd-lit tt }) (λ e. omega (arith, ap natAbs e)) (λ e. omega (arith, ap natAbs e)))
+
+-- with bad limits too
+pub valid-fresh : (r : Rect) → Valid (freshState r)
+unfolding freshState freshCore freshCarriage noPolygon Knows
+valid-fresh r = record {
+  reader = fresh-law;
+  known = λ o. never refl o;
+  core = valid-core (hard-valid r) (rest-placed (hard-valid r) origin-small) (omega arith) no-polygon;
+  edges = all 112;
+  length = length-replicate 112 noEdge;
+  work = tt;
+}
+  where
+    all : (n : ℕ) → Every SmallEdge (replicate n noEdge)
+    all zero = none
+    all (suc n) = more (record { from = origin-small; to = origin-small }) (all n)
+
+-- ---- take and draw
+
+applied-valid : {m : State} (b : ℕ) → Valid m → Valid (applied m (stepOf (m .reader) b .reader) (acted m b))
+unfolding applied
+applied-valid {m} b w =
+    let t = valid-acted b w in
+    let s = stored-valid (m .core .carriage .polygon .edges) (acted m b .action) (t .action) (record { edges = w .edges; length = w .length }) in
+    record {
+      reader = readable-after b w;
+      known = known-after b w;
+      core = t .core;
+      edges = s .edges;
+      length = s .length;
+      work = queued-valid (m .core .carriage .polygon .edges) (acted m b .core .carriage .polygon .edges) (acted m b .action) (t .action) (t .core .polygon .edges);
+    }
+
+pub valid-take : {m : State} (b : ℕ) → Valid m → Valid (takeState m b)
+unfolding takeState
+valid-take {m} b w = pick Valid (eqb (waiting (m .work)) 0) (applied-valid b w) w
+
+work-after : (x : Work) → ValidWork x → ValidWork (workAfter x)
+unfolding workAfter
+work-after work.Nothing h = tt
+work-after (work.Line a b) h = tt
+work-after (work.Chords o i zero) h = tt
+work-after (work.Chords o i (suc n)) h = pick ValidWork (eqb n 0) tt (h .0, omega (arith, h .1))
+work-after (work.Edges i zero) h = tt
+work-after (work.Edges i (suc n)) h = pick ValidWork (eqb n 0) tt (omega arith)
+
+pub valid-draw : {m : State} → Valid m → Valid (drawState m)
+unfolding drawState
+valid-draw {m} w = record {
+  reader = w .reader;
+  known = w .known;
+  core = w .core;
+  edges = w .edges;
+  length = w .length;
+  work = work-after (m .work) (w .work);
+}
+
+-- THE THEOREM: what the calls ask of a machine holds of each that they make
+pub made-valid : {m : State} → made.Made m → Valid m
+made-valid (made.fresh r) = valid-fresh r
+made-valid (made.take h b l) = valid-take b (made-valid h)
+made-valid (made.draw h) = valid-draw (made-valid h)

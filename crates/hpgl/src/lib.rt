@@ -1,0 +1,165 @@
+// The state of the machine that document 01 describes, as types alone. specs/ says what each call does to it and proves condition 3;
+// the crate machine carries it out.
+use clip::Point;
+use clip::Rect;
+use plane::circle::Centre;
+use plane::circle::Way;
+use plane::position::ExactPosition;
+use reader::Reader;
+
+// The exact position: base and offset on each axis.
+pub struct Position {
+    pub x: ExactPosition,
+    pub y: ExactPosition,
+}
+
+// The numbers of SC for one axis, in ten-thousandths.
+pub struct Range {
+    pub min: i64,
+    pub max: i64,
+}
+
+// The scale of SC. Off, the ranges mean nothing.
+pub struct Scale {
+    pub on: bool,
+    pub x: Range,
+    pub y: Range,
+}
+
+// The window of IW: a box of locations, not turned. Where none is set the box means nothing.
+pub struct Window {
+    pub set: bool,
+    pub area: Rect,
+}
+
+// What belongs to the sheet: hard limits, P1, P2, scale, turn (its place in the table of turns), window.
+pub struct Settings {
+    pub hard: Rect,
+    pub p1: Point,
+    pub p2: Point,
+    pub scale: Scale,
+    pub turn: usize,
+    pub window: Window,
+}
+
+// The pen: its number, down or up, and whether the PU or PD being read changed that and has carried out no pair yet.
+pub struct Pen {
+    pub number: u8,
+    pub down: bool,
+    pub changed: bool,
+}
+
+// What PM0 saved for PM2.
+pub struct Saved {
+    pub position: Position,
+    pub relative: bool,
+    pub down: bool,
+}
+
+// The polygon as it counts: whether polygon mode is on, its bytes, how many edges the store holds, whether the subpolygon has no point yet,
+// and its first point.
+pub struct Polygon {
+    pub mode: bool,
+    pub bytes: u16,
+    pub edges: u8,
+    pub empty: bool,
+    pub first: Position,
+    pub saved: Saved,
+}
+
+// What belongs to the carriage: position, pen, relative or absolute mode, polygon.
+pub struct Carriage {
+    pub position: Position,
+    pub pen: Pen,
+    pub relative: bool,
+    pub polygon: Polygon,
+}
+
+// Everything that decides anything.
+pub struct Core {
+    pub settings: Settings,
+    pub carriage: Carriage,
+}
+
+// An edge of the polygon: the locations of its ends, not turned, and whether the second was reached pen down.
+pub struct Edge {
+    pub from: Point,
+    pub to: Point,
+    pub down: bool,
+}
+
+// A circle: its centre split on each axis, the way from the centre to vertex zero, the chord angle in tenths of a degree.
+pub struct Circle {
+    pub x: Centre,
+    pub y: Centre,
+    pub radius: Way,
+    pub angle: u16,
+}
+
+// What an instruction hands to the store and to the waiting work.
+pub enum Action {
+    Keep,
+    // one move is drawn, between two page points
+    Line(Point, Point),
+    // the chords of a circle are drawn
+    Chords(Circle),
+    // the store gets one more edge
+    Join(Edge),
+    // the stored edges are drawn
+    Outline,
+    // the polygon is a rectangle of two opposite corners, drawn or not
+    Rectangle(Point, Point, bool),
+}
+
+// What an event does: the new core, the action, and 01's number (0 for none).
+pub struct Acted {
+    pub core: Core,
+    pub action: Action,
+    pub number: u8,
+}
+
+// The edges that EP draws: as many as the polygon counts.
+pub struct Store {
+    pub edges: [Edge; 112],
+}
+
+// The segments that wait, all from one byte: none; one move, between two page points; the chords of a circle, or the stored edges, from one
+// on, with how many are left.
+pub enum Work {
+    Nothing,
+    Line(Point, Point),
+    Chords(Circle, u16, u16),
+    Edges(u8, u8),
+}
+
+// The whole machine.
+pub struct State {
+    pub reader: Reader,
+    pub core: Core,
+    pub store: Store,
+    pub work: Work,
+}
+
+// A stroke: pen and ends, on the page.
+pub struct Stroke {
+    pub pen: u8,
+    pub x0: i64,
+    pub y0: i64,
+    pub x1: i64,
+    pub y1: i64,
+}
+
+// What draw answers.
+pub enum Drawn {
+    Idle,
+    Hidden,
+    Stroke(Stroke),
+}
+
+// What look answers.
+pub struct Look {
+    pub location: Point,
+    pub pen: u8,
+    pub down: bool,
+    pub bytes: u16,
+}

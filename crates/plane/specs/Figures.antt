@@ -1,0 +1,93 @@
+-- The checked figures of 01 that are about the plane, by computation from the definitions.
+use mathlib.Core.Path.{_≡_, refl}
+use mathlib.Core.Bool.{true, false}
+use Prim.Native.Nat.{ℕ}
+use lib.IntN.{pos, negsuc}
+use Rattle.exact.specs.Whole.{_<?_}
+use Rattle.exact.specs.Divide.{nearestDiv}
+use Rattle.clip.specs.declared.Point.{Point}
+use Rattle.sines.specs.Table.{sines, sineAt}
+use Rattle.sines.specs.Angle.{sineIn, restOf, sineOf, cosineOf}
+use Rattle.plane.specs.declared.position.Axis.{Axis}
+use Rattle.plane.specs.Turn.{turns, turnOf, turnedOf, lesserOf, greaterOf, orderedOf, turnedBoxOf}
+use Rattle.plane.specs.Position.{axisOf, absoluteOf, relativeOf, locationOf}
+use Rattle.plane.specs.Circle.{chordsOf, angleOf, rotatedOf, vertexOf, vertexPointOf}
+
+-- no scaling; P1 0, P2 1000 and SC from 0 to 3, and from 3 to 0
+abbrev plain : Axis
+plain = axisOf false (pos 0) (pos 0) (pos 0) (pos 0)
+
+abbrev thirds : Axis
+thirds = axisOf true (pos 0) (pos 1000) (pos 0) (pos 30000)
+
+abbrev mirrored : Axis
+mirrored = axisOf true (pos 0) (pos 1000) (pos 30000) (pos 0)
+
+-- (a) PA2.5,-2.5 is at (3, −2).
+pub figure-a : (locationOf plain (absoluteOf plain (pos 25000)) ≡ pos 3) × (locationOf plain (absoluteOf plain (negsuc 24999)) ≡ negsuc 1)
+unfolding axisOf absoluteOf locationOf nearestDiv
+figure-a = (refl, refl)
+
+-- (b) P1 (0,0), P2 (1000,1000), SC0,3,0,3: PA1,2 is at (333, 667).
+pub figure-b : (locationOf thirds (absoluteOf thirds (pos 10000)) ≡ pos 333) × (locationOf thirds (absoluteOf thirds (pos 20000)) ≡ pos 667)
+unfolding axisOf absoluteOf locationOf nearestDiv
+figure-b = (refl, refl)
+
+-- (c) Then PA0,0 and PR1,0 three times: x 333, 667, 1000.
+pub figure-c : let p = absoluteOf thirds (pos 0) in
+    let q = relativeOf p (pos 10000) in
+    let r = relativeOf q (pos 10000) in
+    let s = relativeOf r (pos 10000) in
+    (locationOf thirds q ≡ pos 333) × (locationOf thirds r ≡ pos 667) × (locationOf thirds s ≡ pos 1000)
+unfolding axisOf absoluteOf relativeOf locationOf nearestDiv
+figure-c = (refl, refl, refl)
+
+-- (d) SC3,0,0,3, PA1,0: x 667.
+pub figure-d : locationOf mirrored (absoluteOf mirrored (pos 10000)) ≡ pos 667
+unfolding axisOf absoluteOf locationOf nearestDiv
+figure-d = refl
+
+-- (i) RO90, (0,100) is page (−100,0).
+pub figure-i : turnedOf (record { x = pos 0; y = pos 100 }) 1 ≡ record { x = negsuc 99; y = pos 0 }
+unfolding turnedOf turnOf turns
+figure-i = refl
+
+-- (k) Chord angle 7: 52 chords.
+pub figure-k : chordsOf 70 ≡ 52
+unfolding chordsOf
+figure-k = refl
+
+-- (l) Radius 1000, angle 60, at (0,0): vertex one (500, 866).
+pub figure-l : let c = absoluteOf plain (pos 0) in vertexPointOf plain plain c c (record { u = pos 10000000; v = pos 0 }) (angleOf 600 1) ≡ record { x = pos 500; y = pos 866 }
+unfolding axisOf absoluteOf vertexPointOf vertexOf angleOf chordsOf rotatedOf sineOf cosineOf restOf sineIn sineAt sines nearestDiv
+figure-l = refl
+
+-- ---- beyond 01's own figures: readings that another rule would fail
+
+-- A half goes to the larger number whichever of W and D is below 0, and also below zero: PA-0.5 and -0.5001; then SC0,-1 with P2 1; then P1 1, P2 0.
+pub halves : let one = axisOf true (pos 0) (pos 1) (pos 0) (negsuc 9999) in
+    let two = axisOf true (pos 1) (pos 0) (pos 0) (pos 10000) in
+    (locationOf plain (absoluteOf plain (negsuc 4999)) ≡ pos 0) × (locationOf plain (absoluteOf plain (negsuc 5000)) ≡ negsuc 0) ×
+    (locationOf one (absoluteOf one (pos 5000)) ≡ pos 0) × (locationOf one (absoluteOf one (pos 5001)) ≡ negsuc 0) ×
+    (locationOf two (absoluteOf two (pos 5000)) ≡ pos 1)
+unfolding axisOf absoluteOf locationOf nearestDiv
+halves = (refl, refl, refl, refl, refl)
+
+-- A location is rounded before it is turned: RO90;PA0,2.5 is page x −3, not −2.
+pub turned-half : turnedOf (record { x = locationOf plain (absoluteOf plain (pos 0)); y = locationOf plain (absoluteOf plain (pos 25000)) }) 1 ≡ record { x = negsuc 2; y = pos 0 }
+unfolding axisOf absoluteOf locationOf nearestDiv turnedOf turnOf turns
+turned-half = refl
+
+-- A turned window is put in order again: IW0,0,5,10;RO90.
+pub turned-window : turnedBoxOf (record { left = pos 0; bottom = pos 0; right = pos 5; top = pos 10 }) 1 ≡ record { left = negsuc 9; bottom = pos 0; right = pos 0; top = pos 5 }
+unfolding turnedBoxOf orderedOf lesserOf greaterOf turnedOf turnOf turns _<?_
+turned-window = refl
+
+-- A vertex is rounded once: CI.5,90 at (0,0) has the vertices (1,0), (0,1), (0,0), (0,0), and (1,0) again.
+abbrev small : ℕ → Point
+small i = let c = absoluteOf plain (pos 0) in vertexPointOf plain plain c c (record { u = pos 5000; v = pos 0 }) (angleOf 900 i)
+
+pub small-circle : (small 0 ≡ record { x = pos 1; y = pos 0 }) × (small 1 ≡ record { x = pos 0; y = pos 1 }) ×
+    (small 2 ≡ record { x = pos 0; y = pos 0 }) × (small 3 ≡ record { x = pos 0; y = pos 0 }) × (small 4 ≡ record { x = pos 1; y = pos 0 })
+unfolding axisOf absoluteOf vertexPointOf vertexOf angleOf chordsOf rotatedOf sineOf cosineOf restOf sineIn sineAt sines nearestDiv
+small-circle = (refl, refl, refl, refl, refl)

@@ -1,0 +1,14 @@
+pub mod Fractions
+pub mod Turn
+pub mod Position
+pub mod Bounds
+pub mod Circle
+pub mod Limits
+pub mod FractionLaws
+pub mod TurnLaws
+pub mod BoxLaws
+pub mod PositionLaws
+pub mod CircleLaws
+pub mod LimitsLaws
+pub mod StrokeLaws
+pub mod Figures

@@ -1,0 +1,82 @@
+-- The turn of the paper: "The quarter turn is a two by two table of whole numbers: point (x, y) goes to page (−y, x)."
+-- Definitions only: TurnLaws.antt and BoxLaws.antt have what follows of them.
+use mathlib.Core.List.{List, [], _∷_}
+use Prim.Native.Nat.{ℕ}
+use lib.IntN.{ℤ, pos, negsuc, _+ℤ_, _*ℤ_}
+use lib.ListN.{getD}
+use Rattle.exact.specs.Whole.{pick, _<?_}
+use Rattle.clip.specs.Line.{Frac, Exact}
+use Rattle.plane.specs.Fractions.{timesF, sumF}
+use Rattle.clip.specs.declared.Point.{Point}
+use Rattle.clip.specs.declared.Rect.{Rect}
+
+-- the tables, row by row: turn 0 leaves a point in its place, turn 1 is the quarter turn
+unfoldable pub turns : List (List (List ℤ))
+turns =
+    ((pos 1 ∷ pos 0 ∷ []) ∷ (pos 0 ∷ pos 1 ∷ []) ∷ []) ∷
+    ((pos 0 ∷ negsuc 0 ∷ []) ∷ (pos 1 ∷ pos 0 ∷ []) ∷ []) ∷
+    []
+
+abbrev pub turnCount : ℕ
+turnCount = 2
+
+-- the number in row i and column j of the table of turn t
+unfoldable pub turnOf : ℕ → ℕ → ℕ → ℤ
+turnOf t i j = getD (getD (getD turns t []) i []) j (pos 0)
+
+-- ---- points
+
+-- a row times a point
+abbrev pub alongOf : ℤ → ℤ → ℤ → ℤ → ℤ
+alongOf a b x y = a *ℤ x +ℤ b *ℤ y
+
+-- "Location is turned to the page"
+unfoldable pub turnedOf : Point → ℕ → Point
+turnedOf p t = record {
+  x = alongOf (turnOf t 0 0) (turnOf t 0 1) (p .x) (p .y);
+  y = alongOf (turnOf t 1 0) (turnOf t 1 1) (p .x) (p .y);
+}
+
+-- the way back: by the transposed table, its rows the columns of this one
+unfoldable pub turnedBackOf : Point → ℕ → Point
+turnedBackOf p t = record {
+  x = alongOf (turnOf t 0 0) (turnOf t 1 0) (p .x) (p .y);
+  y = alongOf (turnOf t 0 1) (turnOf t 1 1) (p .x) (p .y);
+}
+
+-- "The page point stays" (RO, and IN, which turns back to 0): the point that has under the new turn the page point that p has under the old one
+unfoldable pub rebasedOf : Point → ℕ → ℕ → Point
+rebasedOf p old new = turnedBackOf (turnedOf p old) new
+
+-- ---- boxes
+
+unfoldable pub lesserOf : ℤ → ℤ → ℤ
+lesserOf a b = pick (b <? a) b a
+
+unfoldable pub greaterOf : ℤ → ℤ → ℤ
+greaterOf a b = pick (a <? b) b a
+
+-- "two corners .. put in order"
+unfoldable pub orderedOf : Point → Point → Rect
+orderedOf p q = record {
+  left = lesserOf (p .x) (q .x);
+  bottom = lesserOf (p .y) (q .y);
+  right = greaterOf (p .x) (q .x);
+  top = greaterOf (p .y) (q .y);
+}
+
+-- "the window turns along": its corners turned, and put in order again
+unfoldable pub turnedBoxOf : Rect → ℕ → Rect
+turnedBoxOf r t = orderedOf (turnedOf (record { x = r .left; y = r .bottom }) t) (turnedOf (record { x = r .right; y = r .top }) t)
+
+-- ---- exact points: "The exact line of a move joins the exact positions, turned."
+
+-- a row times an exact point
+abbrev pub alongF : ℤ → ℤ → Exact → Frac
+alongF a b e = sumF (timesF a (e .x)) (timesF b (e .y))
+
+unfoldable pub turnedExact : Exact → ℕ → Exact
+turnedExact e t = record {
+  x = alongF (turnOf t 0 0) (turnOf t 0 1) e;
+  y = alongF (turnOf t 1 0) (turnOf t 1 1) e;
+}

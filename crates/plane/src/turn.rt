@@ -1,0 +1,105 @@
+// The turn of the paper: an index into a table of two by two tables of whole numbers.
+ghost use mathlib.Core.Path.{_≡_};
+ghost use Prim.Native.Nat.{_<_};
+ghost use Rattle.exact.specs.Fit.{Bd};
+ghost use Rattle.clip.specs.Reach.{SmallPoint, SmallRect};
+ghost use Rattle.plane.specs.Turn.{turnCount, turnOf, alongOf, turnedOf, turnedBackOf, rebasedOf, lesserOf, greaterOf, orderedOf, turnedBoxOf};
+use clip::Point;
+use clip::Rect;
+
+// Turn 0 leaves a point in its place, turn 1 is the quarter turn.
+const TURNS: [[[i64; 2]; 2]; 2] = [[[1, 0], [0, 1]], [[0, -1], [1, 0]]];
+
+// The number in row i and column j of a turn's table.
+fn entry(turn: usize, i: usize, j: usize) -> i64
+    requires { ⌜ (turn < turnCount) × (i < 2) × (j < 2) ⌝ }
+    ensures { λ r. ⌜ r ≡ turnOf turn i j ⌝ }
+{
+    TURNS[turn][i][j]
+}
+
+// A row or a column of a table times a point.
+fn along(a: i64, b: i64, p: Point) -> i64
+    requires { ⌜ Bd a 1 × Bd b 1 × SmallPoint p ⌝ }
+    ensures { λ r. ⌜ r ≡ alongOf a b (p .x) (p .y) ⌝ }
+{
+    a * p.x + b * p.y
+}
+
+// The page point of a point.
+pub fn turned(p: Point, turn: usize) -> Point
+    requires { ⌜ SmallPoint p × (turn < turnCount) ⌝ }
+    ensures { λ r. ⌜ r ≡ turnedOf p turn ⌝ }
+{
+    let x = along(entry(turn, 0, 0), entry(turn, 0, 1), p);
+    let y = along(entry(turn, 1, 0), entry(turn, 1, 1), p);
+    Point { x: x, y: y }
+}
+
+// The point of a page point: by the transposed table.
+pub fn turned_back(p: Point, turn: usize) -> Point
+    requires { ⌜ SmallPoint p × (turn < turnCount) ⌝ }
+    ensures { λ r. ⌜ r ≡ turnedBackOf p turn ⌝ }
+{
+    let x = along(entry(turn, 0, 0), entry(turn, 1, 0), p);
+    let y = along(entry(turn, 0, 1), entry(turn, 1, 1), p);
+    Point { x: x, y: y }
+}
+
+// The point that has, under a new turn, the page point that a point has under the old one.
+pub fn rebased(p: Point, old: usize, new: usize) -> Point
+    requires { ⌜ SmallPoint p × (old < turnCount) × (new < turnCount) ⌝ }
+    ensures { λ r. ⌜ r ≡ rebasedOf p old new ⌝ }
+{
+    turned_back(turned(p, old), new)
+}
+
+pub fn lesser(a: i64, b: i64) -> i64
+    ensures { λ r. ⌜ r ≡ lesserOf a b ⌝ }
+{
+    if b < a { b } else { a }
+}
+
+pub fn greater(a: i64, b: i64) -> i64
+    ensures { λ r. ⌜ r ≡ greaterOf a b ⌝ }
+{
+    if a < b { b } else { a }
+}
+
+// The box of two corners, put in order.
+pub fn ordered(p: Point, q: Point) -> Rect
+    ensures { λ r. ⌜ r ≡ orderedOf p q ⌝ }
+{
+    let left = lesser(p.x, q.x);
+    let bottom = lesser(p.y, q.y);
+    let right = greater(p.x, q.x);
+    let top = greater(p.y, q.y);
+    Rect {
+        left: left,
+        bottom: bottom,
+        right: right,
+        top: top,
+    }
+}
+
+// The box on the page: two corners turned, and put in order.
+pub fn turned_box(r: Rect, turn: usize) -> Rect
+    requires { ⌜ SmallRect r × (turn < turnCount) ⌝ }
+    ensures { λ s. ⌜ s ≡ turnedBoxOf r turn ⌝ }
+{
+    let p = turned(
+        Point {
+            x: r.left,
+            y: r.bottom,
+        },
+        turn,
+    );
+    let q = turned(
+        Point {
+            x: r.right,
+            y: r.top,
+        },
+        turn,
+    );
+    ordered(p, q)
+}

@@ -1,0 +1,173 @@
+-- What the reader says of the instruction that it is inside: it is inside one only after naming it, and an instruction that ends is the one that was named last.
+-- Why: each row of the reader's table keeps the code of the instruction, but for the second letter of a name; by cases over modes and classes.
+use mathlib.Core.Path.{_≡_, refl, sym, _∙_}
+use mathlib.Core.Bool.{Bool, true, false, cond, false≢true}
+use Prim.Native.Nat.{ℕ}
+use Rattle.reader.specs.declared.bytes.Class.{Class}
+use Rattle.reader.specs.declared.bytes.Class.the-variants.{Blank, Semicolon, Letter, Digit, Sign, Point, Other}
+use Rattle.reader.specs.declared.table.Found.{Found}
+use Rattle.reader.specs.declared.table.Found.the-variants.{At, Nowhere}
+use Rattle.reader.specs.declared.Event.{Event}
+use Rattle.reader.specs.declared.Event.the-variants.{Nothing, Named, Pair, Ended, Refused}
+use Rattle.reader.specs.declared.Closed.{Closed}
+use Rattle.reader.specs.declared.Closed.the-variants.{Kept, Complete, Faulty}
+use Rattle.reader.specs.declared.Mode.{Mode}
+use Rattle.reader.specs.declared.Mode.the-variants.{Idle, First, Parameters, InNumber, PassOver, Label}
+use Rattle.reader.specs.declared.Reader.{Reader}
+use Rattle.reader.specs.declared.Step.{Step}
+use Rattle.reader.specs.declared.number.Number.{Number}
+use Rattle.reader.specs.Bytes.{classOf}
+use Rattle.reader.specs.Number.{digitOf, startOf, pointOf}
+use Rattle.reader.specs.Table.{findOf, countFits, isLabel}
+use Rattle.reader.specs.Reader.{goOnOf, quietOf, refuseOf, beginOf, openOf, withNumbers, labelEnd, count, range, unknown}
+use Rattle.reader.specs.Step.{foundOf, nameOf, endOf, completeOf, closeWith, closedOf, closeOf, closeEndWith, closeEndOf, idleOf, firstOf, parametersOf, inNumberOf, passOverOf, labelOf, byMode, stepOf, passedMode, passedOver}
+use lib.Dec.{eqb}
+use Rattle.reader.specs.Inside.{inside}
+
+-- the same instruction, if any
+pub record Stays (r s : Reader) : Type 0 where
+  pub op : s .op ≡ r .op
+  pub within : inside (s .mode) ≡ true → inside (r .mode) ≡ true
+
+pub record Ends (r s : Reader) (code : ℕ) : Type 0 where
+  pub op : r .op ≡ code
+  pub within : inside (r .mode) ≡ true
+  pub out : inside (s .mode) ≡ false
+
+-- from a reader to the next, by the event between them
+unfoldable pub Told : Reader → Reader → Event → Type 0
+Told r s Nothing = Stays r s
+Told r s (Named op) = s .op ≡ op
+Told r s (Pair p) = Stays r s
+Told r s (Ended op n) = Ends r s op
+Told r s (Refused k) = Stays r s
+
+never : {X : Type 0} {t : Bool} → t ≡ false → t ≡ true → X
+never h k = absurd (false≢true (sym h ∙ k))
+
+record Tells (r : Reader) (t : Step) : Type 0 where
+  told : Told r (t .reader) (t .event)
+
+module _ (r : Reader) where
+  both : (t : Bool) {x y : Step} → Tells r x → Tells r y → Tells r (cond t x y)
+  both true h k = h
+  both false h k = k
+
+  quiet : (m : Mode) → inside m ≡ false → Tells r (quietOf r m)
+  unfolding quietOf goOnOf Told
+  quiet m o = record { told = record { op = refl; within = λ e. never o e } }
+
+  refuses : (m : Mode) (n : ℕ) → inside m ≡ false → Tells r (refuseOf r m n)
+  unfolding refuseOf goOnOf Told
+  refuses m n o = record { told = record { op = refl; within = λ e. never o e } }
+
+  passes : (n : ℕ) → Tells r (refuseOf r PassOver n)
+  unfolding inside
+  passes n = refuses PassOver n refl
+
+  opens : (n : Number) → inside (r .mode) ≡ true → Tells r (openOf r n)
+  unfolding openOf Told
+  opens n w = record { told = record { op = refl; within = λ e. w } }
+
+  finds : (f : Found) → Tells r (foundOf r f)
+  unfolding foundOf beginOf Told
+  finds (At op) = record { told = refl }
+  finds Nowhere = passes unknown
+
+  names : (a b : ℕ) → Tells r (nameOf r a b)
+  unfolding nameOf inside
+  names a b = both (isLabel a b) (refuses Label unknown refl) (finds (findOf a b))
+
+  ends : (m : Mode) → inside (r .mode) ≡ true → inside m ≡ false → Tells r (endOf r m)
+  unfolding endOf goOnOf Told
+  ends m w o = both (countFits (r .op) (r .numbers .count)) (record { told = record { op = refl; within = w; out = o } }) (refuses m count o)
+
+  closes : (k : Closed) → inside (r .mode) ≡ true → Tells r (closeWith r k)
+  unfolding closeWith completeOf quietOf goOnOf Told withNumbers
+  closes (Kept ns) w = record { told = record { op = refl; within = λ e. w } }
+  closes (Complete p) w = record { told = record { op = refl; within = λ e. w } }
+  closes (Faulty n) w = passes n
+
+  close-ends : (m : Mode) (k : Closed) → inside (r .mode) ≡ true → inside m ≡ false → Tells r (closeEndWith r m k)
+  unfolding closeEndWith completeOf endOf refuseOf goOnOf Told withNumbers
+  close-ends m (Kept ns) w o =
+      both (countFits (r .op) (ns .count)) (record { told = record { op = refl; within = w; out = o } })
+      (record { told = record { op = refl; within = λ e. w } })
+  close-ends m (Complete p) w o = record { told = record { op = refl; within = λ e. w } }
+  close-ends m (Faulty n) w o = refuses m n o
+
+  idle : (k : Class) → Tells r (idleOf r k)
+  unfolding idleOf inside
+  idle Blank = quiet Idle refl
+  idle Semicolon = quiet Idle refl
+  idle (Letter l) = quiet (First l) refl
+  idle (Digit d) = passes unknown
+  idle (Sign s) = passes unknown
+  idle Point = passes unknown
+  idle Other = passes unknown
+
+  first : (a : ℕ) (k : Class) → Tells r (firstOf r a k)
+  unfolding firstOf inside
+  first a Blank = passes unknown
+  first a Semicolon = refuses Idle unknown refl
+  first a (Letter b) = names a b
+  first a (Digit d) = passes unknown
+  first a (Sign s) = passes unknown
+  first a Point = passes unknown
+  first a Other = passes unknown
+
+  parameters : (k : Class) → inside (r .mode) ≡ true → Tells r (parametersOf r k)
+  unfolding parametersOf quietOf goOnOf Told inside
+  parameters Blank w = record { told = record { op = refl; within = λ e. w } }
+  parameters Semicolon w = ends Idle w refl
+  parameters (Letter l) w = ends (First l) w refl
+  parameters (Digit d) w = opens (digitOf (startOf false) d) w
+  parameters (Sign s) w = opens (startOf s) w
+  parameters Point w = opens (pointOf (startOf false)) w
+  parameters Other w = passes unknown
+
+  in-number : (k : Class) → inside (r .mode) ≡ true → Tells r (inNumberOf r k)
+  unfolding inNumberOf closeOf closeEndOf inside
+  in-number Blank w = closes (closedOf r) w
+  in-number Semicolon w = close-ends Idle (closedOf r) w refl
+  in-number (Letter l) w = close-ends (First l) (closedOf r) w refl
+  in-number (Digit d) w = opens (digitOf (r .number) d) w
+  in-number (Sign s) w = passes range
+  in-number Point w = both (r .number .pointed) (passes range) (opens (pointOf (r .number)) w)
+  in-number Other w = passes unknown
+
+  pass-over : (k : Class) → Tells r (passOverOf r k)
+  unfolding passOverOf inside
+  pass-over Blank = quiet PassOver refl
+  pass-over Semicolon = quiet Idle refl
+  pass-over (Letter l) = quiet (First l) refl
+  pass-over (Digit d) = quiet PassOver refl
+  pass-over (Sign s) = quiet PassOver refl
+  pass-over Point = quiet PassOver refl
+  pass-over Other = quiet PassOver refl
+
+  by-mode : (b : ℕ) (m : Mode) → r .mode ≡ m → Tells r (byMode r b m)
+  unfolding byMode labelOf inside
+  by-mode b Idle e = idle (classOf b)
+  by-mode b (First a) e = first a (classOf b)
+  by-mode b Parameters e = parameters (classOf b) (rw e refl)
+  by-mode b InNumber e = in-number (classOf b) (rw e refl)
+  by-mode b PassOver e = pass-over (classOf b)
+  by-mode b Label e = both (eqb b labelEnd) (quiet Idle refl) (quiet Label refl)
+
+  pub step-tells : (b : ℕ) → Told r (stepOf r b .reader) (stepOf r b .event)
+  unfolding stepOf
+  step-tells b = by-mode b (r .mode) refl .told
+
+-- what a refusal leaves is inside no instruction
+pub passed-outside : (r : Reader) → inside (passedOver r .mode) ≡ false
+unfolding passedOver passedMode inside
+passed-outside r = go (r .mode)
+  where
+    go : (m : Mode) → inside (passedMode m) ≡ false
+    go Idle = refl
+    go (First a) = refl
+    go Parameters = refl
+    go InNumber = refl
+    go PassOver = refl
+    go Label = refl

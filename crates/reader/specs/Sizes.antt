@@ -1,0 +1,60 @@
+-- What holds of a reader that its calls have left, and of every event. That it holds stands in Laws.
+use mathlib.Core.Path.{_≡_}
+use mathlib.Core.Bool.{Bool, true, _&&_}
+use Prim.Native.Nat.{ℕ, _≤_, _<_}
+use lib.Dec.{T, leb}
+use Rattle.exact.specs.Fit.{Bd}
+use Rattle.reader.specs.declared.Coordinates.{Coordinates}
+use Rattle.reader.specs.declared.Numbers.{Numbers}
+use Rattle.reader.specs.declared.Event.{Event}
+use Rattle.reader.specs.declared.Event.the-variants.{Nothing, Named, Pair, Ended, Refused}
+use Rattle.reader.specs.declared.Reader.{Reader}
+use Rattle.reader.specs.declared.Step.{Step}
+use Rattle.reader.specs.Number.{bottom}
+use Rattle.reader.specs.Table.{rows, countFits}
+
+-- The reader refuses with 1, 2 or 3, and with no other number.
+abbrev pub isCause : ℕ → Bool
+isCause n = leb 1 n && leb n 3
+
+abbrev pub Caused : Event → Type 0
+Caused Nothing = Unit {0}
+Caused (Named op) = Unit {0}
+Caused (Pair p) = Unit {0}
+Caused (Ended op ns) = Unit {0}
+Caused (Refused n) = T (isCause n)
+
+-- The numbers of an instruction: at most four, and none is larger than the range allows.
+pub record Small (ns : Numbers) : Type 0 where
+  pub count : ns .count ≤ 4
+  pub first : Bd (ns .first) bottom
+  pub second : Bd (ns .second) bottom
+  pub third : Bd (ns .third) bottom
+  pub fourth : Bd (ns .fourth) bottom
+
+-- A reader as its calls leave it.
+pub record Readable (r : Reader) : Type 0 where
+  pub op : r .op < rows
+  pub numbers : Small (r .numbers)
+
+pub record SmallPair (p : Coordinates) : Type 0 where
+  pub x : Bd (p .x) bottom
+  pub y : Bd (p .y) bottom
+
+-- An instruction that has ended stands in the table, and the table allows the count of its numbers.
+pub record Fitting (op : ℕ) (ns : Numbers) : Type 0 where
+  pub listed : op < rows
+  pub count : countFits op (ns .count) ≡ true
+  pub numbers : Small ns
+
+-- What holds of an event.
+abbrev pub Sound : Event → Type 0
+Sound Nothing = Unit {0}
+Sound (Named op) = op < rows
+Sound (Pair p) = SmallPair p
+Sound (Ended op ns) = Fitting op ns
+Sound (Refused n) = Unit {0}
+
+pub record SoundStep (s : Step) : Type 0 where
+  pub reader : Readable (s .reader)
+  pub event : Sound (s .event)

@@ -1,0 +1,462 @@
+// The reader of bytes: what each byte of an instruction stream means. It knows nothing of paper, pens or limits.
+ghost use mathlib.Core.Path.{_≡_};
+ghost use Rattle.reader.specs.Reader.{noneOf, storedOf, pairOf, freshReader, goOnOf, quietOf, refuseOf, beginOf, openOf, withNumbers};
+ghost use Rattle.reader.specs.Step.{nameOf, keptOf, closedOf, endOf, completeOf, closeOf, closeEndOf, idleOf, firstOf, parametersOf, inNumberOf, passOverOf, labelOf, stepOf, passedMode, passedOver};
+
+mod bytes;
+mod number;
+mod table;
+
+use bytes::Class;
+use bytes::class_of;
+use number::Number;
+use number::Value;
+pub use table::CI;
+pub use table::DF;
+pub use table::EA;
+pub use table::EP;
+pub use table::ER;
+use table::Found;
+pub use table::IN;
+pub use table::IP;
+pub use table::IW;
+pub use table::PA;
+pub use table::PD;
+pub use table::PM;
+pub use table::PR;
+pub use table::PU;
+pub use table::RO;
+pub use table::SC;
+pub use table::SP;
+pub use table::changes_settings;
+use table::count_fits;
+use table::find;
+use table::has_room;
+use table::is_label;
+pub use table::known_in_polygon;
+pub use table::takes_pairs;
+
+// The causes of a refusal that the reader finds: an unknown byte or name, the count of numbers, a number out of range.
+const UNKNOWN: u8 = 1;
+
+const COUNT: u8 = 2;
+
+const RANGE: u8 = 3;
+
+// A label's text ends with this byte.
+const LABEL_END: u8 = 3;
+
+// A pair of numbers, in ten-thousandths.
+pub struct Coordinates {
+    pub x: i64,
+    pub y: i64,
+}
+
+// An instruction's numbers, in ten-thousandths, and how many there are. Of an instruction that takes pairs only the first
+// number of an open pair is kept.
+pub struct Numbers {
+    pub count: u8,
+    pub first: i64,
+    pub second: i64,
+    pub third: i64,
+    pub fourth: i64,
+}
+
+// What a byte means: nothing yet; an instruction is named; a pair is complete; an instruction has ended, with its numbers;
+// the byte is refused, with the cause's number.
+pub enum Event {
+    Nothing,
+    Named(usize),
+    Pair(Coordinates),
+    Ended(usize, Numbers),
+    Refused(u8),
+}
+
+// What becomes of a number that ends: it is kept among the others, completes a pair, or is refused.
+enum Closed {
+    Kept(Numbers),
+    Complete(Coordinates),
+    Faulty(u8),
+}
+
+// Where the reader is: between instructions; after a first letter; in an instruction with no number open; in a number;
+// passing over what a refusal leaves of an instruction; in a label's text.
+pub enum Mode {
+    Idle,
+    First(u8),
+    Parameters,
+    InNumber,
+    PassOver,
+    Label,
+}
+
+pub struct Reader {
+    mode: Mode,
+    // The instruction that was named last, its numbers, and the number that is open or was the last.
+    op: usize,
+    numbers: Numbers,
+    number: Number,
+}
+
+pub struct Step {
+    pub reader: Reader,
+    pub event: Event,
+}
+
+impl Numbers {
+    fn none() -> Numbers
+        ensures { λ r. ⌜ r ≡ noneOf ⌝ }
+    {
+        Numbers {
+            count: 0,
+            first: 0,
+            second: 0,
+            third: 0,
+            fourth: 0,
+        }
+    }
+
+    // One number more, at the place that the count says.
+    fn stored(self, value: i64) -> Numbers
+        ensures { λ r. ⌜ r ≡ storedOf self value ⌝ }
+    {
+        let mut n = self;
+        let count = self.count;
+        if count == 0 {
+            n.count = 1;
+            n.first = value;
+            return n;
+        }
+        if count == 1 {
+            n.count = 2;
+            n.second = value;
+            return n;
+        }
+        if count == 2 {
+            n.count = 3;
+            n.third = value;
+            return n;
+        }
+        n.count = 4;
+        n.fourth = value;
+        n
+    }
+
+    // The pair that a number completes.
+    fn pair(self, value: i64) -> Coordinates
+        ensures { λ r. ⌜ r ≡ pairOf self value ⌝ }
+    {
+        Coordinates {
+            x: self.first,
+            y: value,
+        }
+    }
+}
+
+fn passed_mode(mode: Mode) -> Mode
+    ensures { λ r. ⌜ r ≡ passedMode mode ⌝ }
+{
+    match mode {
+        Mode::Idle => Mode::Idle,
+        Mode::First(letter) => Mode::First(letter),
+        Mode::Parameters => Mode::PassOver,
+        Mode::InNumber => Mode::PassOver,
+        Mode::PassOver => Mode::PassOver,
+        Mode::Label => Mode::Label,
+    }
+}
+
+impl Reader {
+    pub fn fresh() -> Reader
+        ensures { λ r. ⌜ r ≡ freshReader ⌝ }
+    {
+        Reader {
+            mode: Mode::Idle,
+            op: IN,
+            numbers: Numbers::none(),
+            number: Number::start(false),
+        }
+    }
+
+    // One byte.
+    pub fn step(self, byte: u8) -> Step
+        ensures { λ q. ⌜ q ≡ stepOf self byte ⌝ }
+    {
+        let mode = self.mode;
+        let class = class_of(byte);
+        match mode {
+            Mode::Idle => self.idle(class),
+            Mode::First(letter) => self.first(letter, class),
+            Mode::Parameters => self.parameters(class),
+            Mode::InNumber => self.in_number(class),
+            Mode::PassOver => self.pass_over(class),
+            Mode::Label => self.label(byte),
+        }
+    }
+
+    // Where a refusal by a layer above leaves the reader.
+    pub fn passed_over(self) -> Reader
+        ensures { λ q. ⌜ q ≡ passedOver self ⌝ }
+    {
+        let mode = self.mode;
+        let numbers = self.numbers;
+        let number = self.number;
+        let passed = passed_mode(mode);
+        Reader {
+            mode: passed,
+            op: self.op,
+            numbers: numbers,
+            number: number,
+        }
+    }
+
+    // Between instructions.
+    fn idle(self, class: Class) -> Step
+        ensures { λ q. ⌜ q ≡ idleOf self class ⌝ }
+    {
+        match class {
+            Class::Blank => self.quiet(Mode::Idle),
+            Class::Semicolon => self.quiet(Mode::Idle),
+            Class::Letter(letter) => self.quiet(Mode::First(letter)),
+            Class::Digit(_) => self.refuse(Mode::PassOver, UNKNOWN),
+            Class::Sign(_) => self.refuse(Mode::PassOver, UNKNOWN),
+            Class::Point => self.refuse(Mode::PassOver, UNKNOWN),
+            Class::Other => self.refuse(Mode::PassOver, UNKNOWN),
+        }
+    }
+
+    // After a first letter.
+    fn first(self, letter: u8, class: Class) -> Step
+        ensures { λ q. ⌜ q ≡ firstOf self letter class ⌝ }
+    {
+        match class {
+            Class::Blank => self.refuse(Mode::PassOver, UNKNOWN),
+            Class::Semicolon => self.refuse(Mode::Idle, UNKNOWN),
+            Class::Letter(second) => self.name(letter, second),
+            Class::Digit(_) => self.refuse(Mode::PassOver, UNKNOWN),
+            Class::Sign(_) => self.refuse(Mode::PassOver, UNKNOWN),
+            Class::Point => self.refuse(Mode::PassOver, UNKNOWN),
+            Class::Other => self.refuse(Mode::PassOver, UNKNOWN),
+        }
+    }
+
+    // In an instruction, with no number open.
+    fn parameters(self, class: Class) -> Step
+        ensures { λ q. ⌜ q ≡ parametersOf self class ⌝ }
+    {
+        match class {
+            Class::Blank => self.quiet(Mode::Parameters),
+            Class::Semicolon => self.end(Mode::Idle),
+            Class::Letter(letter) => self.end(Mode::First(letter)),
+            Class::Digit(digit) => self.open(Number::start(false).with_digit(digit)),
+            Class::Sign(minus) => self.open(Number::start(minus)),
+            Class::Point => self.open(Number::start(false).with_point()),
+            Class::Other => self.refuse(Mode::PassOver, UNKNOWN),
+        }
+    }
+
+    // In an instruction, with a number open.
+    fn in_number(self, class: Class) -> Step
+        ensures { λ q. ⌜ q ≡ inNumberOf self class ⌝ }
+    {
+        let number = self.number;
+        match class {
+            Class::Blank => self.close(),
+            Class::Semicolon => self.close_end(Mode::Idle),
+            Class::Letter(letter) => self.close_end(Mode::First(letter)),
+            Class::Digit(digit) => self.open(number.with_digit(digit)),
+            Class::Sign(_) => self.refuse(Mode::PassOver, RANGE),
+            Class::Point => {
+                if number.has_point() {
+                    return self.refuse(Mode::PassOver, RANGE);
+                }
+                self.open(number.with_point())
+            }
+            Class::Other => self.refuse(Mode::PassOver, UNKNOWN),
+        }
+    }
+
+    // After a refusal, up to a semicolon or letter.
+    fn pass_over(self, class: Class) -> Step
+        ensures { λ q. ⌜ q ≡ passOverOf self class ⌝ }
+    {
+        match class {
+            Class::Blank => self.quiet(Mode::PassOver),
+            Class::Semicolon => self.quiet(Mode::Idle),
+            Class::Letter(letter) => self.quiet(Mode::First(letter)),
+            Class::Digit(_) => self.quiet(Mode::PassOver),
+            Class::Sign(_) => self.quiet(Mode::PassOver),
+            Class::Point => self.quiet(Mode::PassOver),
+            Class::Other => self.quiet(Mode::PassOver),
+        }
+    }
+
+    // In a label's text.
+    fn label(self, byte: u8) -> Step
+        ensures { λ q. ⌜ q ≡ labelOf self byte ⌝ }
+    {
+        if byte == LABEL_END {
+            return self.quiet(Mode::Idle);
+        }
+        self.quiet(Mode::Label)
+    }
+
+    // The second letter of a name.
+    fn name(self, first: u8, second: u8) -> Step
+        ensures { λ q. ⌜ q ≡ nameOf self first second ⌝ }
+    {
+        if is_label(first, second) {
+            return self.refuse(Mode::Label, UNKNOWN);
+        }
+        match find(first, second) {
+            Found::At(op) => self.begin(op),
+            Found::Nowhere => self.refuse(Mode::PassOver, UNKNOWN),
+        }
+    }
+
+    // An instruction begins.
+    fn begin(self, op: usize) -> Step
+        ensures { λ q. ⌜ q ≡ beginOf self op ⌝ }
+    {
+        let number = self.number;
+        Step {
+            reader: Reader {
+                mode: Mode::Parameters,
+                op: op,
+                numbers: Numbers::none(),
+                number: number,
+            },
+            event: Event::Named(op),
+        }
+    }
+
+    // An instruction ends.
+    fn end(self, mode: Mode) -> Step
+        ensures { λ q. ⌜ q ≡ endOf self mode ⌝ }
+    {
+        let op = self.op;
+        let numbers = self.numbers;
+        if count_fits(op, numbers.count) {
+            return self.go_on(mode, Event::Ended(op, numbers));
+        }
+        self.refuse(mode, COUNT)
+    }
+
+    // What becomes of a good number: the second of a pair completes it.
+    fn kept(self, value: i64) -> Closed
+        ensures { λ q. ⌜ q ≡ keptOf self value ⌝ }
+    {
+        let op = self.op;
+        let numbers = self.numbers;
+        let count = numbers.count;
+        if has_room(op, count) {
+            if takes_pairs(op) {
+                if count == 1 {
+                    return Closed::Complete(numbers.pair(value));
+                }
+                return Closed::Kept(numbers.stored(value));
+            }
+            return Closed::Kept(numbers.stored(value));
+        }
+        Closed::Faulty(COUNT)
+    }
+
+    // What becomes of the open number.
+    fn closed(self) -> Closed
+        ensures { λ q. ⌜ q ≡ closedOf self ⌝ }
+    {
+        let number = self.number;
+        match number.finish() {
+            Value::Good(value) => self.kept(value),
+            Value::Bad => Closed::Faulty(RANGE),
+        }
+    }
+
+    // A pair is complete, and no number of it is kept.
+    fn complete(self, mode: Mode, pair: Coordinates) -> Step
+        ensures { λ q. ⌜ q ≡ completeOf self mode pair ⌝ }
+    {
+        let none = Numbers::none();
+        self.with_numbers(none).go_on(mode, Event::Pair(pair))
+    }
+
+    // A number ends, its instruction does not.
+    fn close(self) -> Step
+        ensures { λ q. ⌜ q ≡ closeOf self ⌝ }
+    {
+        match self.closed() {
+            Closed::Kept(numbers) => self.with_numbers(numbers).quiet(Mode::Parameters),
+            Closed::Complete(pair) => self.complete(Mode::Parameters, pair),
+            Closed::Faulty(cause) => self.refuse(Mode::PassOver, cause),
+        }
+    }
+
+    // A number and its instruction end.
+    fn close_end(self, mode: Mode) -> Step
+        ensures { λ q. ⌜ q ≡ closeEndOf self mode ⌝ }
+    {
+        match self.closed() {
+            Closed::Kept(numbers) => self.with_numbers(numbers).end(mode),
+            Closed::Complete(pair) => self.complete(mode, pair),
+            Closed::Faulty(cause) => self.refuse(mode, cause),
+        }
+    }
+
+    // The reader in an open number.
+    fn open(self, number: Number) -> Step
+        ensures { λ q. ⌜ q ≡ openOf self number ⌝ }
+    {
+        let numbers = self.numbers;
+        Step {
+            reader: Reader {
+                mode: Mode::InNumber,
+                op: self.op,
+                numbers: numbers,
+                number: number,
+            },
+            event: Event::Nothing,
+        }
+    }
+
+    fn with_numbers(self, numbers: Numbers) -> Reader
+        ensures { λ q. ⌜ q ≡ withNumbers self numbers ⌝ }
+    {
+        let mode = self.mode;
+        let number = self.number;
+        Reader {
+            mode: mode,
+            op: self.op,
+            numbers: numbers,
+            number: number,
+        }
+    }
+
+    // The reader goes on in a mode, and the byte has a meaning: an event, nothing yet, or a refusal.
+    fn go_on(self, mode: Mode, event: Event) -> Step
+        ensures { λ q. ⌜ q ≡ goOnOf self mode event ⌝ }
+    {
+        let numbers = self.numbers;
+        let number = self.number;
+        Step {
+            reader: Reader {
+                mode: mode,
+                op: self.op,
+                numbers: numbers,
+                number: number,
+            },
+            event: event,
+        }
+    }
+
+    fn quiet(self, mode: Mode) -> Step
+        ensures { λ q. ⌜ q ≡ quietOf self mode ⌝ }
+    {
+        self.go_on(mode, Event::Nothing)
+    }
+
+    fn refuse(self, mode: Mode, cause: u8) -> Step
+        ensures { λ q. ⌜ q ≡ refuseOf self mode cause ⌝ }
+    {
+        self.go_on(mode, Event::Refused(cause))
+    }
+}

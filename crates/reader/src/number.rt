@@ -1,0 +1,161 @@
+// A number as it is read, mark by mark, and its value in ten-thousandths.
+ghost use mathlib.Core.Path.{_≡_};
+ghost use Prim.Native.Nat.{_≤_};
+ghost use Rattle.reader.specs.Number.{bottom, startOf, pointOf, countedOf, digitOf, unitOf, tenThousandths, signedOf, largestOf, finishOf};
+
+// Decimals that are kept.
+const PLACES: u8 = 4;
+
+// The largest magnitudes, in ten-thousandths: 32767.9999, and 32768 below zero.
+const TOP: u64 = 327_679_999;
+
+const BOTTOM: u64 = 327_680_000;
+
+// Past this magnitude a number is out of range whatever follows.
+const PAST: u32 = 327_680_000;
+
+pub struct Number {
+    negative: bool,
+    // Whether it has a digit, and a point.
+    filled: bool,
+    pointed: bool,
+    // How many of its digits stand after the point, at most four.
+    decimals: u8,
+    // Its digits as one whole number, without the point. It stays once it is out of range.
+    magnitude: u32,
+}
+
+pub enum Value {
+    Good(i64),
+    Bad,
+}
+
+// What the last of so many decimals counts for, in ten-thousandths.
+fn unit(decimals: u8) -> u64
+    ensures { λ r. ⌜ r ≡ unitOf decimals ⌝ }
+{
+    if decimals == 0 {
+        return 10_000;
+    }
+    if decimals == 1 {
+        return 1_000;
+    }
+    if decimals == 2 {
+        return 100;
+    }
+    if decimals == 3 {
+        return 10;
+    }
+    1
+}
+
+// The largest magnitude on either side of zero.
+fn largest(negative: bool) -> u64
+    ensures { λ r. ⌜ r ≡ largestOf negative ⌝ }
+{
+    if negative {
+        return BOTTOM;
+    }
+    TOP
+}
+
+// A magnitude with its sign.
+fn signed(negative: bool, magnitude: u64) -> i64
+    requires { ⌜ magnitude ≤ bottom ⌝ }
+    ensures { λ r. ⌜ r ≡ signedOf negative magnitude ⌝ }
+{
+    if negative {
+        return 0 - (magnitude as i64);
+    }
+    magnitude as i64
+}
+
+impl Number {
+    // A number of which at most the sign is read.
+    pub fn start(negative: bool) -> Number
+        ensures { λ r. ⌜ r ≡ startOf negative ⌝ }
+    {
+        Number {
+            negative: negative,
+            filled: false,
+            pointed: false,
+            decimals: 0,
+            magnitude: 0,
+        }
+    }
+
+    // The number with its point.
+    pub fn with_point(self) -> Number
+        ensures { λ r. ⌜ r ≡ pointOf self ⌝ }
+    {
+        Number {
+            negative: self.negative,
+            filled: self.filled,
+            pointed: true,
+            decimals: self.decimals,
+            magnitude: self.magnitude,
+        }
+    }
+
+    pub fn has_point(self) -> bool
+        ensures { λ r. ⌜ r ≡ self .pointed ⌝ }
+    {
+        self.pointed
+    }
+
+    // The number with a digit, so many decimals and that magnitude.
+    fn counted(self, decimals: u8, magnitude: u32) -> Number
+        ensures { λ r. ⌜ r ≡ countedOf self decimals magnitude ⌝ }
+    {
+        Number {
+            negative: self.negative,
+            filled: true,
+            pointed: self.pointed,
+            decimals: decimals,
+            magnitude: magnitude,
+        }
+    }
+
+    // The number with one digit more. A decimal past the fourth is dropped.
+    pub fn with_digit(self, digit: u8) -> Number
+        ensures { λ r. ⌜ r ≡ digitOf self digit ⌝ }
+    {
+        let decimals = self.decimals;
+        let magnitude = self.magnitude;
+        let pointed = self.pointed;
+        if PLACES <= decimals {
+            return self.counted(decimals, magnitude);
+        }
+        if PAST < magnitude {
+            return self.counted(decimals, magnitude);
+        }
+        if pointed {
+            return self.counted(decimals + 1, magnitude * 10 + (digit as u32));
+        }
+        self.counted(decimals, magnitude * 10 + (digit as u32))
+    }
+
+    // Its magnitude in ten-thousandths.
+    fn ten_thousandths(self) -> u64
+        ensures { λ r. ⌜ r ≡ tenThousandths self ⌝ }
+    {
+        let decimals = self.decimals;
+        (self.magnitude as u64) * unit(decimals)
+    }
+
+    // The value of a number that has ended; bad if it has no digit or is out of range.
+    pub fn finish(self) -> Value
+        ensures { λ r. ⌜ r ≡ finishOf self ⌝ }
+    {
+        let negative = self.negative;
+        let filled = self.filled;
+        if filled {
+            let magnitude = self.ten_thousandths();
+            if magnitude <= largest(negative) {
+                return Value::Good(signed(negative, magnitude));
+            }
+            return Value::Bad;
+        }
+        Value::Bad
+    }
+}
