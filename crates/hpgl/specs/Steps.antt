@@ -342,7 +342,7 @@ module _ (c : Core) (es : List Edge) (g : ExactPolygon) (f : Fit (c .settings) (
       record {
         kept = recast (cond-true _ _ _ o) refl (record {
           fit = record { sound = f .sound; room = λ m. omega arith };
-          linked = ended-closed (c .settings) (f .sound) p (k .first) k true 11 (c .carriage .pen .down) es g (omega arith) o e l;
+          linked = ended-closed (c .settings) (f .sound) p _ k true 11 (c .carriage .pen .down) es g (omega arith) o e l;
           queue = refl;
         });
       })
