@@ -1,0 +1,131 @@
+-- A turn of the loop of `run` is a byte taken, whole: the loop keeps the parts of the machine apart.
+-- Why: what the turn's calls gave are the parts of `applied`, and a byte that means nothing yet changes the reader alone and leaves no work.
+use mathlib.Core.Path.{_≡_, refl, sym, ap, ap₂, _∙_, subst}
+use mathlib.Core.Bool.{Bool, true, false, cond}
+use mathlib.Core.List.{List, [], _∷_}
+use Prim.Native.Nat.{ℕ, _+_, _≤_, _<_}
+use native.Mathlib.Omega.{arith}
+use native.Mathlib.Numerals.{add-one}
+use borrow.Author.Tests.{eq-eqb, ne-eqb, eqb-true, eqb-false, ltb-true, ltb-false}
+use lib.Dec.{eqb, ltb}
+use lib.ListN.{length, getD, drop, drop-of-length-le}
+use lib.Seq.{drop-cons}
+use Rattle.reader.specs.declared.Event.{Event}
+use Rattle.reader.specs.declared.Event.the-variants as event
+use Rattle.reader.specs.declared.Step.{Step}
+use Rattle.reader.specs.Step.{stepOf}
+use Rattle.hpgl.specs.declared.Edge.{Edge}
+use Rattle.hpgl.specs.declared.Action.{Action}
+use Rattle.hpgl.specs.declared.Action.the-variants.{Keep, Line, Chords, Join, Outline, Rectangle}
+use Rattle.hpgl.specs.declared.Acted.{Acted}
+use Rattle.hpgl.specs.declared.Work.{Work}
+use Rattle.hpgl.specs.declared.Work.the-variants.{Nothing}
+use Rattle.hpgl.specs.declared.State.{State}
+use Rattle.hpgl.specs.Rules.{done, actOn}
+use Rattle.hpgl.specs.Machine.{waiting, stored, queued, readerAfter, applied, acted, takeState, takeNumber}
+use Rattle.hpgl.specs.Valid.{Valid}
+use Rattle.machine.specs.Run.{ranOf, runOf, whole, quietOf, storesOf, stopsOf}
+use Rattle.hpgl.specs.ValidKept.{valid-take}
+
+-- what the calls of one turn gave: the step of the reader, what the core did, and the parts of the next machine
+pub record Turn (m : State) (b : ℕ) (q : Step) (t : Acted) (next : State) : Type 0 where
+  pub step : q ≡ stepOf (m .reader) b
+  pub act : t ≡ actOn (m .core) (q .event)
+  pub reader : next .reader ≡ readerAfter (q .reader) (t .number)
+  pub core : next .core ≡ t .core
+  pub edges : next .store .edges ≡ stored (m .store .edges) (m .core .carriage .polygon .edges) (t .action)
+  pub work : next .work ≡ queued (t .core .carriage .polygon .edges) (t .action)
+
+-- an action that leaves the store
+pub store-kept : (es : List Edge) (k : ℕ) (a : Action) → storesOf a ≡ false → stored es k a ≡ es
+unfolding stored storesOf
+store-kept es k Keep h = refl
+store-kept es k (Line p q) h = refl
+store-kept es k (Chords o) h = refl
+store-kept es k (Join e) h = let z : _≡_ {A = ℕ} 0 1 = cc in absurd (omega arith)
+store-kept es k Outline h = refl
+store-kept es k (Rectangle p q shown) h = let z : _≡_ {A = ℕ} 0 1 = cc in absurd (omega arith)
+
+quiet-is : (e : Event) → quietOf e ≡ true → e ≡ event.Nothing
+unfolding quietOf
+quiet-is event.Nothing h = refl
+quiet-is (event.Named op) h = let z : _≡_ {A = ℕ} 0 1 = cc in absurd (omega arith)
+quiet-is (event.Pair n) h = let z : _≡_ {A = ℕ} 0 1 = cc in absurd (omega arith)
+quiet-is (event.Ended op n) h = let z : _≡_ {A = ℕ} 0 1 = cc in absurd (omega arith)
+quiet-is (event.Refused k) h = let z : _≡_ {A = ℕ} 0 1 = cc in absurd (omega arith)
+
+-- a byte that means nothing yet
+pub quiet-turn : (m : State) (b : ℕ) (q : Step) → q ≡ stepOf (m .reader) b → quietOf (q .event) ≡ true →
+    Turn m b q (done (m .core) Keep) (whole (q .reader) (m .core) (m .store) Nothing)
+unfolding actOn done readerAfter stored queued
+quiet-turn m b q e h = record {
+  step = e;
+  act = rw (quiet-is (q .event) h) refl;
+  reader = refl;
+  core = refl;
+  edges = refl;
+  work = refl;
+}
+
+module _ (m next : State) (b : ℕ) (q : Step) (t : Acted) (turn : Turn m b q t next) (idle : waiting (m .work) ≡ 0) where
+  acted-is : t ≡ acted m b
+  unfolding acted
+  acted-is = turn .act ∙ ap (λ (x : Step). actOn (m .core) (x .event)) (turn .step)
+
+  pub turn-number : takeNumber m b ≡ t .number
+  unfolding takeNumber
+  turn-number = rw (eq-eqb (waiting (m .work)) 0 idle) (ap (λ (x : Acted). x .number) (sym acted-is))
+
+  pub turn-taken : takeState m b ≡ next
+  unfolding takeState applied
+  turn-taken =
+      let parts : next ≡ applied m (q .reader) t = λ i. record { reader = turn .reader i; core = turn .core i; store = record { edges = turn .edges i }; work = turn .work i } in
+      rw (eq-eqb (waiting (m .work)) 0 idle) (sym (parts ∙ ap₂ (λ (x : Step) (y : Acted). applied m (x .reader) y) (turn .step) acted-is))
+
+  pub turn-valid : Valid m → Valid next
+  turn-valid v = subst Valid turn-taken (valid-take b v)
+
+-- no byte is taken while a segment waits
+pub run-waits : (m : State) (bs : List ℕ) (at : ℕ) → (waiting (m .work) ≡ 0 → ⊥) → runOf m bs at ≡ ranOf m at 0
+unfolding runOf
+run-waits m [] at h = refl
+run-waits m (b ∷ bs) at h = rw (ne-eqb (waiting (m .work)) 0 h) refl
+
+pub run-end : (m : State) (s : List ℕ) (at : ℕ) → length s ≤ at → runOf m (drop at s) at ≡ ranOf m at 0
+unfolding runOf
+run-end m s at h = rw (drop-of-length-le s h) refl
+
+pub idle-of : (w : Work) (n : ℕ) → stopsOf w n ≡ false → (n ≡ 0) × (waiting w ≡ 0)
+unfolding stopsOf
+idle-of w n = go (eqb n 0) refl
+  where
+    go : (e : Bool) → eqb n 0 ≡ e → cond e (ltb 0 (waiting w)) true ≡ false → (n ≡ 0) × (waiting w ≡ 0)
+    go true e h = (eqb-true n 0 e, omega (arith, ltb-false 0 (waiting w) h))
+    go false e h = let z : _≡_ {A = ℕ} 0 1 = cc in absurd (omega arith)
+
+-- a turn, by whether the run stops after it
+module _ (m next : State) (s : List ℕ) (at : ℕ) (h : at < length s) (q : Step) (t : Acted) (turn : Turn m (getD s at 0) q t next) (idle : waiting (m .work) ≡ 0) where
+  on : t .number ≡ 0 → runOf m (drop at s) at ≡ runOf next (drop (at + 1) s) (at + 1)
+  unfolding runOf
+  on e =
+      let b = getD s at 0 in
+      simp (drop-cons s at 0 h, eq-eqb (waiting (m .work)) 0 idle, eq-eqb (takeNumber m b) 0 (turn-number m next b q t turn idle ∙ e), turn-taken m next b q t turn idle, add-one)
+
+  off : (t .number ≡ 0 → ⊥) → runOf m (drop at s) at ≡ ranOf next (at + 1) (t .number)
+  unfolding runOf
+  off e =
+      let b = getD s at 0 in
+      simp (drop-cons s at 0 h, eq-eqb (waiting (m .work)) 0 idle, turn-taken m next b q t turn idle, turn-number m next b q t turn idle, ne-eqb (t .number) 0 e)
+
+  pub run-on : stopsOf (next .work) (t .number) ≡ false → runOf m (drop at s) at ≡ runOf next (drop (at + 1) s) (at + 1)
+  run-on k = on (idle-of (next .work) (t .number) k .0)
+
+  pub run-stops : stopsOf (next .work) (t .number) ≡ true → runOf m (drop at s) at ≡ ranOf next (at + 1) (t .number)
+  unfolding stopsOf
+  run-stops = go (eqb (t .number) 0) refl
+    where
+      go : (e : Bool) → eqb (t .number) 0 ≡ e → cond e (ltb 0 (waiting (next .work))) true ≡ true → runOf m (drop at s) at ≡ ranOf next (at + 1) (t .number)
+      go true e k =
+          let z = eqb-true (t .number) 0 e in
+          rw z (on z ∙ run-waits next (drop (at + 1) s) (at + 1) (λ w. omega (arith, ltb-true 0 (waiting (next .work)) k)))
+      go false e k = off (eqb-false (t .number) 0 e)

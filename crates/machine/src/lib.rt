@@ -1,0 +1,170 @@
+// The machine of document 01. The crate hpgl says what each call does; here it is done.
+ghost use mathlib.Core.Path.{_≡_};
+ghost use lib.ListN.{drop};
+ghost use Rattle.hpgl.specs.Machine as M;
+ghost use Rattle.hpgl.specs.Made.{Made};
+ghost use Rattle.machine.specs.Calls.{startedOf, takenOf, workedOf};
+ghost use Rattle.machine.specs.Run.{runOf};
+
+mod changes;
+mod circles;
+mod drawing;
+mod events;
+mod moves;
+mod numbers;
+mod places;
+mod polygons;
+mod running;
+mod settings;
+mod storing;
+
+use clip::Rect;
+use drawing::draw_work;
+use drawing::work_after;
+use events::act_on;
+pub use hpgl::Drawn;
+pub use hpgl::Look;
+use hpgl::State;
+pub use hpgl::Stroke;
+use numbers::BAD_LIMITS;
+use numbers::BUSY;
+use places::located;
+use running::run;
+use settings::good_limits;
+use storing::applied;
+use storing::fresh_state;
+use storing::waiting;
+
+// A machine comes only from the calls below.
+pub struct Machine {
+    state: State,
+}
+
+// What the calls answer: the machine, with 01's number (0 for none), or with what was drawn.
+pub struct Started {
+    pub machine: Machine,
+    pub number: u8,
+}
+
+pub struct Taken {
+    pub machine: Machine,
+    pub number: u8,
+}
+
+pub struct Worked {
+    pub machine: Machine,
+    pub drawn: Drawn,
+}
+
+// How far a run of bytes went: the place of the next byte, and the last one's number.
+pub struct Ran {
+    pub machine: Machine,
+    pub at: usize,
+    pub number: u8,
+}
+
+impl Machine {
+    // A new machine, on paper with these hard limits.
+    pub fn fresh(left: i64, bottom: i64, right: i64, top: i64) -> Started
+        ensures { λ r. ⌜ r ≡ startedOf (M.rect left bottom right top) ⌝ }
+    {
+        let hard = Rect {
+            left: left,
+            bottom: bottom,
+            right: right,
+            top: top,
+        };
+        let state = fresh_state(hard);
+        if good_limits(hard) {
+            return Started {
+                machine: Machine { state: state },
+                number: 0,
+            };
+        }
+        Started {
+            machine: Machine { state: state },
+            number: BAD_LIMITS,
+        }
+    }
+
+    // One byte.
+    pub fn take(self, byte: u8) -> Taken
+        requires { ⌜ Made (self .state) ⌝ }
+        ensures { λ r. ⌜ r ≡ takenOf (self .state) byte ⌝ }
+    {
+        let m = self.state;
+        let work = m.work;
+        if waiting(work) == 0 {
+            let reader = m.reader;
+            let core = m.core;
+            let q = reader.step(byte);
+            let next = q.reader;
+            let event = q.event;
+            let t = act_on(core, event);
+            let state = applied(m, next, t);
+            return Taken {
+                machine: Machine { state: state },
+                number: t.number,
+            };
+        }
+        Taken {
+            machine: self,
+            number: BUSY,
+        }
+    }
+
+    // Works off one waiting segment.
+    pub fn draw(self) -> Worked
+        requires { ⌜ Made (self .state) ⌝ }
+        ensures { λ r. ⌜ r ≡ workedOf (self .state) ⌝ }
+    {
+        let m = self.state;
+        let reader = m.reader;
+        let core = m.core;
+        let store = m.store;
+        let work = m.work;
+        let drawn = draw_work(m, work);
+        let rest = work_after(work);
+        Worked {
+            machine: Machine {
+                state: State {
+                    reader: reader,
+                    core: core,
+                    store: store,
+                    work: rest,
+                },
+            },
+            drawn: drawn,
+        }
+    }
+
+    // Where the carriage is, and with what. It changes nothing.
+    pub fn look(self) -> Look
+        requires { ⌜ Made (self .state) ⌝ }
+        ensures { λ r. ⌜ r ≡ M.lookAt (self .state) ⌝ }
+    {
+        let m = self.state;
+        let core = m.core;
+        let settings = core.settings;
+        let carriage = core.carriage;
+        let position = carriage.position;
+        let pen = carriage.pen;
+        let polygon = carriage.polygon;
+        let location = located(settings, position);
+        Look {
+            location: location,
+            pen: pen.number,
+            down: pen.down,
+            bytes: polygon.bytes,
+        }
+    }
+
+    // Bytes from a place of the input on, up to the first that is refused or makes a segment wait.
+    pub fn run(self, bytes: &[u8], from: usize) -> Ran
+        requires { ⌜ Made (self .state) ⌝ }
+        ensures { λ r. ⌜ r ≡ runOf (self .state) (drop from (now (bytes .entry))) from ⌝ }
+    {
+        let m = self.state;
+        run(m, bytes, from)
+    }
+}

@@ -1,0 +1,25 @@
+// The numbers of document 01, as specs/Numbers.antt of the crate hpgl has them.
+
+// Refusals: unknown in polygon mode, number or setting out of range, location out of range, polygon bytes, bad hard limits, take while a segment waits.
+pub const UNKNOWN: u8 = 1;
+
+pub const OUT_OF_RANGE: u8 = 3;
+
+pub const TOO_FAR: u8 = 6;
+
+pub const POLYGON_FULL: u8 = 7;
+
+pub const BAD_LIMITS: u8 = 10;
+
+pub const BUSY: u8 = 20;
+
+// The bytes of a polygon, at most; those of PM0 and PM1, of a point, of a changed pen, of a rectangle.
+pub const POLYGON_BYTES: u16 = 1024;
+
+pub const MODE_BYTES: u16 = 2;
+
+pub const POINT_BYTES: u16 = 9;
+
+pub const PEN_BYTES: u16 = 2;
+
+pub const RECTANGLE_BYTES: u16 = 49;

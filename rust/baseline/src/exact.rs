@@ -1,0 +1,862 @@
+//! A checker of condition 3 in exact whole-number arithmetic.
+//!
+//! [`Exact`] is a second machine beside the program's: it is fed with the calls alone and
+//! keeps what the specification speaks of. Positions are fractions, a polygon is a list of
+//! lists of exact points, waiting segments are a queue, each with its exact page line, its
+//! pen and whether it is owed paint. It reads the bytes by itself, so it also tells the
+//! number of each take ([`Exact::take`]) and the look ([`Exact::look`]). It is written to be
+//! read, not to be fast, and shares with the machine only the record types and the sines.
+//!
+//! # What is checked of a draw
+//!
+//! [`Exact::draw`] removes the first segment of the queue and judges the machine's answer.
+//!
+//! * Idle exactly when nothing waits.
+//! * A stroke has the segment's pen, lies within the limits in force, and every point of it
+//!   is within one unit, in x and in y, of a point of the exact line.
+//! * If the segment is owed paint, every point of its exact line that is at least one unit
+//!   inside the limits is within one unit of a point of the stroke; if the answer is hidden,
+//!   there is no such point.
+//! * A segment that is not owed paint (a polygon edge reached pen up) is answered hidden.
+//!
+//! # Why a few parameters decide about all points
+//!
+//! Distance is the larger of the differences in x and y. Both the stroke and the line are
+//! segments, so convex sets, and the distance of a point to a convex set is a convex function
+//! of the point. Along a segment it is therefore a convex (here: piecewise linear) function of
+//! the parameter, and its largest value over an interval is taken at an end of the interval.
+//!
+//! * *Stroke near line.* The parameters 0 and 1 of the stroke decide.
+//! * *Line near stroke.* The line at a parameter t is at least one unit inside the limits
+//!   exactly when four inequalities, linear in t, hold; with 0 and 1 they cut out one closed
+//!   interval of t. If it is empty nothing is claimed; otherwise its two ends decide.
+//! * *A point near a segment.* A point is within one unit of a point of a segment exactly when
+//!   some parameter from 0 to 1 satisfies two pairs of linear inequalities, that is, when the
+//!   intersection of closed intervals is not empty: the largest low end is at most the smallest
+//!   high end.
+//!
+//! All data are fractions, so all ends of intervals are fractions too. The points of the
+//! specification (at k of n equal parts) are those with a parameter that is a fraction; an
+//! interval that is not empty holds one, and the ends 0, 1 and those computed are such points.
+//! So nothing is lost by looking at fractions only, and no rounding takes place: every
+//! comparison is multiplied out, in numbers of up to 384 bits.
+
+use crate::machine::{Drawn, Look, Stroke};
+use crate::sines::SINES;
+use crate::wide::Wide;
+use std::cmp::Ordering;
+use std::collections::VecDeque;
+use std::fmt;
+
+/// A fraction in lowest terms, its divisor above 0.
+#[derive(Clone, Copy, PartialEq, Eq, Debug)]
+struct Fraction {
+    over: i128,
+    under: i128,
+}
+
+impl Fraction {
+    fn new(over: i128, under: i128) -> Self {
+        assert_ne!(under, 0);
+        let (mut a, mut b) = (over.unsigned_abs(), under.unsigned_abs());
+        while b != 0 {
+            (a, b) = (b, a % b);
+        }
+        let common = a as i128 * under.signum();
+        Fraction { over: over / common, under: under / common }
+    }
+
+    fn whole(value: i128) -> Self {
+        Fraction { over: value, under: 1 }
+    }
+
+    fn plus(self, other: Fraction) -> Self {
+        Fraction::new(self.over * other.under + other.over * self.under, self.under * other.under)
+    }
+
+    fn times(self, factor: i128) -> Self {
+        Fraction::new(self.over * factor, self.under)
+    }
+
+    /// The nearest whole; a half goes to the larger number.
+    fn round(self) -> i128 {
+        let (n, d) = (2 * self.over + self.under, 2 * self.under);
+        let down = n / d;
+        if n % d < 0 {
+            down - 1
+        } else {
+            down
+        }
+    }
+}
+
+/// An exact point: x and y.
+type Spot = [Fraction; 2];
+/// A whole point: x and y.
+type Whole = [i128; 2];
+
+fn location(spot: &Spot) -> Whole {
+    [spot[0].round(), spot[1].round()]
+}
+
+fn spot(whole: &Whole) -> Spot {
+    [Fraction::whole(whole[0]), Fraction::whole(whole[1])]
+}
+
+fn reachable(spot: &Spot) -> bool {
+    location(spot).iter().all(|v| (-1_000_000..=1_000_000).contains(v))
+}
+
+/// Rows of the two by two table of a turn.
+type Table = [[i128; 2]; 2];
+const STRAIGHT: Table = [[1, 0], [0, 1]];
+const QUARTER: Table = [[0, -1], [1, 0]];
+
+fn turned(table: &Table, p: &Spot) -> Spot {
+    [0, 1].map(|row| p[0].times(table[row][0]).plus(p[1].times(table[row][1])))
+}
+
+fn transposed(t: &Table) -> Table {
+    [[t[0][0], t[1][0]], [t[0][1], t[1][1]]]
+}
+
+/// A closed box, low and high corner.
+#[derive(Clone, Copy, Debug)]
+struct Area {
+    low: Whole,
+    high: Whole,
+}
+
+impl Area {
+    fn spanned(a: Whole, b: Whole) -> Area {
+        Area { low: [a[0].min(b[0]), a[1].min(b[1])], high: [a[0].max(b[0]), a[1].max(b[1])] }
+    }
+}
+
+/// A waiting segment.
+#[derive(Clone, Debug)]
+struct Segment {
+    /// The exact line on the page.
+    line: [Spot; 2],
+    pen: u8,
+    owed: bool,
+}
+
+/// A stored polygon point.
+#[derive(Clone, Debug)]
+struct Stored {
+    spot: Spot,
+    down: bool,
+}
+
+#[derive(Clone, Debug)]
+struct Saved {
+    spot: Spot,
+    relative: bool,
+    down: bool,
+}
+
+/// Where the reading of bytes stands.
+#[derive(Clone, Debug)]
+enum Reading {
+    Between,
+    FirstLetter(u8),
+    Within { name: [u8; 2], numbers: Vec<i128>, open: Option<Vec<u8>> },
+    PassedOver,
+    LabelText,
+}
+
+/// How a draw's answer breaks condition 3.
+#[derive(Clone, Copy, PartialEq, Eq, Debug)]
+pub enum Violation {
+    /// An answer other than idle, but nothing waits.
+    NothingWaits,
+    /// Idle, but a segment waits.
+    Waits,
+    /// Hidden, but paint one unit inside the limits is owed.
+    PaintMissing,
+    /// A stroke for a segment that is not owed paint.
+    NotOwed,
+    /// A stroke with another pen.
+    Pen,
+    /// A stroke that leaves the limits in force.
+    Limits,
+    /// A point of the stroke is farther than one unit from the exact line.
+    Astray,
+    /// Owed paint one unit inside the limits is farther than one unit from the stroke.
+    TooShort,
+}
+
+impl fmt::Display for Violation {
+    fn fmt(&self, f: &mut fmt::Formatter<'_>) -> fmt::Result {
+        f.write_str(match self {
+            Violation::NothingWaits => "drawn although nothing waits",
+            Violation::Waits => "idle although a segment waits",
+            Violation::PaintMissing => "hidden although owed paint shows",
+            Violation::NotOwed => "stroke for a segment that is not owed paint",
+            Violation::Pen => "wrong pen",
+            Violation::Limits => "stroke leaves the limits",
+            Violation::Astray => "stroke leaves the exact line",
+            Violation::TooShort => "owed paint is not covered by the stroke",
+        })
+    }
+}
+
+impl std::error::Error for Violation {}
+
+/// The exact model.
+#[derive(Clone, Debug)]
+pub struct Exact {
+    reading: Reading,
+    hard: Area,
+    position: Spot,
+    pen: u8,
+    down: bool,
+    relative: bool,
+    p1: Whole,
+    p2: Whole,
+    /// xmin, xmax, ymin, ymax in ten-thousandths.
+    scaling: Option<[i128; 4]>,
+    turn: Table,
+    /// Not turned.
+    window: Option<Area>,
+    polygon: Vec<Vec<Stored>>,
+    bytes: usize,
+    saved: Option<Saved>,
+    /// The pen was changed by the PU or PD that is being read, and no pair of it is stored.
+    pen_change_open: bool,
+    queue: VecDeque<Segment>,
+}
+
+fn is_blank(byte: u8) -> bool {
+    matches!(byte, 9 | 10 | 13 | 32 | b',')
+}
+
+fn is_mover(name: &[u8; 2]) -> bool {
+    matches!(name, b"PU" | b"PD" | b"PA" | b"PR")
+}
+
+/// The counts of numbers an instruction allows; none for an unknown name.
+fn counts(name: &[u8; 2]) -> Option<&'static [usize]> {
+    Some(match name {
+        b"IN" | b"DF" | b"EP" => &[0],
+        b"IP" => &[0, 2, 4],
+        b"SC" | b"IW" => &[0, 4],
+        b"RO" | b"SP" | b"PM" => &[0, 1],
+        b"CI" => &[1, 2],
+        b"EA" | b"ER" => &[2],
+        b"PU" | b"PD" | b"PA" | b"PR" => &[0],
+        _ => return None,
+    })
+}
+
+/// The value of a number's text in ten-thousandths, if it has a digit and is in range.
+fn value(text: &[u8]) -> Option<i128> {
+    let negative = text.first() == Some(&b'-');
+    let unsigned: Vec<u8> = text.iter().copied().filter(|b| !matches!(b, b'+' | b'-')).collect();
+    if !unsigned.iter().any(u8::is_ascii_digit) {
+        return None;
+    }
+    let mut halves = unsigned.splitn(2, |&b| b == b'.');
+    let whole = halves.next().unwrap_or_default();
+    let decimals = halves.next().unwrap_or_default();
+    let whole: Vec<u8> = whole.iter().copied().skip_while(|&b| b == b'0').collect();
+    if whole.len() > 5 {
+        return None;
+    }
+    let decimals = decimals.iter().copied().chain(std::iter::repeat(b'0')).take(4);
+    let size = whole.into_iter().chain(decimals).fold(0, |sum, b| sum * 10 + i128::from(b - b'0'));
+    let value = if negative { -size } else { size };
+    (-327_680_000..=327_679_999).contains(&value).then_some(value)
+}
+
+/// A number in ten-thousandths, rounded.
+fn rounded(number: i128) -> i128 {
+    Fraction::new(number, 10_000).round()
+}
+
+/// The sine of any whole number of tenths from 0 on, scaled by 100,000.
+fn sine(tenths: i128) -> i128 {
+    let tenths = tenths % 3_600;
+    if tenths >= 1_800 {
+        -sine(tenths - 1_800)
+    } else if tenths > 900 {
+        i128::from(SINES[(1_800 - tenths) as usize])
+    } else {
+        i128::from(SINES[tenths as usize])
+    }
+}
+
+impl Exact {
+    /// The model of a fresh machine, and 0 or 10.
+    pub fn fresh(left: i64, bottom: i64, right: i64, top: i64) -> (Exact, u8) {
+        let all = [left, bottom, right, top];
+        let good =
+            all.iter().all(|v| (-32_768..=32_767).contains(v)) && left < right && bottom < top;
+        let [left, bottom, right, top] = if good { all.map(i128::from) } else { [0, 0, 1, 1] };
+        let hard = Area { low: [left, bottom], high: [right, top] };
+        let model = Exact {
+            reading: Reading::Between,
+            hard,
+            position: spot(&[0, 0]),
+            pen: 0,
+            down: false,
+            relative: false,
+            p1: hard.low,
+            p2: hard.high,
+            scaling: None,
+            turn: STRAIGHT,
+            window: None,
+            polygon: Vec::new(),
+            bytes: 0,
+            saved: None,
+            pen_change_open: false,
+            queue: VecDeque::new(),
+        };
+        (model, if good { 0 } else { 10 })
+    }
+
+    /// A take of this byte; the number it is due to answer.
+    pub fn take(&mut self, byte: u8) -> u8 {
+        if !self.queue.is_empty() {
+            return 20;
+        }
+        self.read(byte).err().unwrap_or(0)
+    }
+
+    /// What a look is due to answer.
+    pub fn look(&self) -> Look {
+        let [x, y] = location(&self.position).map(|v| v as i64);
+        Look { x, y, pen: self.pen, down: self.down, bytes: self.bytes }
+    }
+
+    /// How many segments wait.
+    pub fn waiting(&self) -> usize {
+        self.queue.len()
+    }
+
+    // ----- reading -----
+
+    /// What a byte is to the rest of a refused instruction.
+    fn usual_part(byte: u8) -> Reading {
+        match byte {
+            b';' => Reading::Between,
+            b if b.is_ascii_alphabetic() => Reading::FirstLetter(b.to_ascii_uppercase()),
+            _ => Reading::PassedOver,
+        }
+    }
+
+    fn read(&mut self, byte: u8) -> Result<(), u8> {
+        let ends = byte == b';' || byte.is_ascii_alphabetic();
+        match std::mem::replace(&mut self.reading, Reading::PassedOver) {
+            Reading::LabelText => {
+                self.reading = if byte == 3 { Reading::Between } else { Reading::LabelText };
+                Ok(())
+            }
+            Reading::PassedOver => {
+                self.reading = Self::usual_part(byte);
+                Ok(())
+            }
+            Reading::Between if is_blank(byte) => {
+                self.reading = Reading::Between;
+                Ok(())
+            }
+            Reading::Between => {
+                self.reading = Self::usual_part(byte);
+                if ends {
+                    Ok(())
+                } else {
+                    Err(1)
+                }
+            }
+            Reading::FirstLetter(first) if byte.is_ascii_alphabetic() => {
+                let name = [first, byte.to_ascii_uppercase()];
+                if name == *b"LB" {
+                    self.reading = Reading::LabelText;
+                    return Err(1);
+                }
+                self.name(&name)?;
+                self.reading = Reading::Within { name, numbers: Vec::new(), open: None };
+                Ok(())
+            }
+            Reading::FirstLetter(_) => {
+                self.reading = Self::usual_part(byte);
+                Err(1)
+            }
+            Reading::Within { name, mut numbers, open } if ends || is_blank(byte) => {
+                // Where the reading goes if something is refused.
+                self.reading = Self::usual_part(byte);
+                if let Some(text) = open {
+                    numbers.push(value(&text).ok_or(3)?);
+                    if is_mover(&name) {
+                        if numbers.len() == 2 {
+                            let pair = [numbers[0], numbers[1]];
+                            numbers.clear();
+                            self.pair(pair)?;
+                        }
+                    } else if counts(&name).is_some_and(|c| numbers.len() > c[c.len() - 1]) {
+                        return Err(2);
+                    }
+                }
+                if !ends {
+                    self.reading = Reading::Within { name, numbers, open: None };
+                    return Ok(());
+                }
+                if counts(&name).is_some_and(|c| c.contains(&numbers.len())) {
+                    self.perform(&name, &numbers)
+                } else {
+                    Err(2)
+                }
+            }
+            Reading::Within { name, numbers, open } => {
+                let text = match (byte, open) {
+                    (b'0'..=b'9' | b'+' | b'-' | b'.', None) => vec![byte],
+                    (b'0'..=b'9', Some(mut text)) => {
+                        text.push(byte);
+                        text
+                    }
+                    (b'.', Some(mut text)) if !text.contains(&b'.') => {
+                        text.push(byte);
+                        text
+                    }
+                    (b'+' | b'-' | b'.', Some(_)) => return Err(3),
+                    _ => return Err(1),
+                };
+                self.reading = Reading::Within { name, numbers, open: Some(text) };
+                Ok(())
+            }
+        }
+    }
+
+    // ----- carrying out -----
+
+    fn name(&mut self, name: &[u8; 2]) -> Result<(), u8> {
+        let known = match self.saved {
+            None => counts(name).is_some(),
+            Some(_) => is_mover(name) || matches!(name, b"PM" | b"IN"),
+        };
+        if !known {
+            return Err(1);
+        }
+        let before = self.down;
+        match name {
+            b"PU" => self.down = false,
+            b"PD" => self.down = true,
+            b"PA" => self.relative = false,
+            b"PR" => self.relative = true,
+            _ => {}
+        }
+        self.pen_change_open = before != self.down;
+        Ok(())
+    }
+
+    /// D over W on an axis.
+    fn unit(&self, axis: usize) -> Fraction {
+        match self.scaling {
+            None => Fraction::new(1, 10_000),
+            Some(sc) => {
+                Fraction::new(self.p2[axis] - self.p1[axis], sc[2 * axis + 1] - sc[2 * axis])
+            }
+        }
+    }
+
+    fn absolute(&self, numbers: [i128; 2]) -> Spot {
+        [0, 1].map(|axis| {
+            let (base, min) = match self.scaling {
+                None => (0, 0),
+                Some(sc) => (self.p1[axis], sc[2 * axis]),
+            };
+            self.unit(axis).times(numbers[axis] - min).plus(Fraction::whole(base))
+        })
+    }
+
+    fn relative(&self, numbers: [i128; 2]) -> Spot {
+        [0, 1].map(|axis| self.position[axis].plus(self.unit(axis).times(numbers[axis])))
+    }
+
+    fn pair(&mut self, numbers: [i128; 2]) -> Result<(), u8> {
+        let to = if self.relative { self.relative(numbers) } else { self.absolute(numbers) };
+        if !reachable(&to) {
+            return Err(6);
+        }
+        if self.saved.is_some() {
+            self.spend(if self.pen_change_open { 11 } else { 9 })?;
+            self.pen_change_open = false;
+            let down = self.down;
+            self.subpolygon().push(Stored { spot: to, down });
+        } else if self.down {
+            self.queue_line(self.position, to, true);
+        }
+        self.position = to;
+        Ok(())
+    }
+
+    fn spend(&mut self, bytes: usize) -> Result<(), u8> {
+        if self.bytes + bytes > 1024 {
+            return Err(7);
+        }
+        self.bytes += bytes;
+        Ok(())
+    }
+
+    /// The open subpolygon.
+    fn subpolygon(&mut self) -> &mut Vec<Stored> {
+        if self.polygon.is_empty() {
+            self.polygon.push(Vec::new());
+        }
+        let last = self.polygon.len() - 1;
+        &mut self.polygon[last]
+    }
+
+    /// Queues the line between two unturned spots; pen 0 queues nothing.
+    fn queue_line(&mut self, from: Spot, to: Spot, owed: bool) {
+        if self.pen != 0 {
+            let line = [turned(&self.turn, &from), turned(&self.turn, &to)];
+            self.queue.push_back(Segment { line, pen: self.pen, owed });
+        }
+    }
+
+    fn perform(&mut self, name: &[u8; 2], numbers: &[i128]) -> Result<(), u8> {
+        let first = numbers.first().copied().unwrap_or(0);
+        match name {
+            b"IN" => {
+                let page = turned(&self.turn, &spot(&location(&self.position)));
+                let (pen, hard) = (self.pen, self.hard);
+                let reading = self.reading.clone();
+                let l = [hard.low[0], hard.low[1], hard.high[0], hard.high[1]].map(|v| v as i64);
+                *self = Exact::fresh(l[0], l[1], l[2], l[3]).0;
+                self.position = page;
+                self.pen = pen;
+                self.reading = reading;
+            }
+            b"DF" => {
+                self.scaling = None;
+                self.window = None;
+                self.relative = false;
+                self.rebase();
+            }
+            b"IP" => {
+                let n: Vec<i128> = numbers.iter().map(|&n| rounded(n)).collect();
+                let (p1, p2) = match n[..] {
+                    [a, b] => {
+                        let [dx, dy] = [0, 1].map(|axis| self.p2[axis] - self.p1[axis]);
+                        ([a, b], [a + dx, b + dy])
+                    }
+                    [a, b, c, d] => ([a, b], [c, d]),
+                    _ => (self.hard.low, self.hard.high),
+                };
+                let fits = |p: &Whole| p.iter().all(|v| (-32_768..=32_767).contains(v));
+                if !fits(&p1) || !fits(&p2) || p1[0] == p2[0] || p1[1] == p2[1] {
+                    return Err(3);
+                }
+                self.p1 = p1;
+                self.p2 = p2;
+                self.rebase();
+            }
+            b"SC" => {
+                self.scaling = match *numbers {
+                    [a, b, c, d] if a != b && c != d => Some([a, b, c, d]),
+                    [] => None,
+                    _ => return Err(3),
+                };
+                self.rebase();
+            }
+            b"RO" => {
+                let table = match rounded(first) {
+                    0 => STRAIGHT,
+                    90 => QUARTER,
+                    _ => return Err(3),
+                };
+                let page = turned(&self.turn, &spot(&location(&self.position)));
+                self.turn = table;
+                self.position = turned(&transposed(&table), &page);
+            }
+            b"IW" => {
+                self.window = match *numbers {
+                    [a, b, c, d] => {
+                        let (p, q) = (self.absolute([a, b]), self.absolute([c, d]));
+                        if !reachable(&p) || !reachable(&q) {
+                            return Err(3);
+                        }
+                        Some(Area::spanned(location(&p), location(&q)))
+                    }
+                    _ => None,
+                };
+            }
+            b"SP" => {
+                self.pen = u8::try_from(rounded(first)).ok().filter(|&p| p <= 8).ok_or(3)?;
+            }
+            b"PM" => return self.polygon_mode(rounded(first)),
+            b"EP" => self.edges(),
+            b"EA" => return self.rectangle(self.absolute([numbers[0], numbers[1]])),
+            b"ER" => return self.rectangle(self.relative([numbers[0], numbers[1]])),
+            b"CI" => return self.circle(first, numbers.get(1).copied()),
+            _ => {}
+        }
+        Ok(())
+    }
+
+    fn rebase(&mut self) {
+        self.position = spot(&location(&self.position));
+    }
+
+    fn polygon_mode(&mut self, part: i128) -> Result<(), u8> {
+        match (part, self.saved.take()) {
+            (0, None) => {
+                self.saved =
+                    Some(Saved { spot: self.position, relative: self.relative, down: self.down });
+                self.polygon = vec![vec![Stored { spot: self.position, down: self.down }]];
+                self.bytes = 11;
+                Ok(())
+            }
+            (1, Some(saved)) => {
+                self.saved = Some(saved);
+                self.close(2)?;
+                self.down = false;
+                self.polygon.push(Vec::new());
+                Ok(())
+            }
+            (2, Some(saved)) => {
+                let answer = self.close(0);
+                self.position = saved.spot;
+                self.relative = saved.relative;
+                self.down = saved.down;
+                answer
+            }
+            (_, saved) => {
+                self.saved = saved;
+                Err(3)
+            }
+        }
+    }
+
+    /// Adds the first point of the open subpolygon if the last differs in location.
+    fn close(&mut self, mark: usize) -> Result<(), u8> {
+        let down = self.down;
+        let missing = match &self.subpolygon()[..] {
+            [first, .., last] if location(&first.spot) != location(&last.spot) => Some(first.spot),
+            _ => None,
+        };
+        self.spend(mark + if missing.is_some() { 9 } else { 0 })?;
+        if let Some(spot) = missing {
+            self.subpolygon().push(Stored { spot, down });
+            self.position = spot;
+        }
+        Ok(())
+    }
+
+    fn edges(&mut self) {
+        for sub in self.polygon.clone() {
+            for two in sub.windows(2) {
+                self.queue_line(two[0].spot, two[1].spot, two[1].down);
+            }
+        }
+    }
+
+    fn rectangle(&mut self, corner: Spot) -> Result<(), u8> {
+        if !reachable(&corner) {
+            return Err(6);
+        }
+        let [x, y] = self.position;
+        let [cx, cy] = corner;
+        let spots = [[x, y], [cx, y], [cx, cy], [x, cy], [x, y]];
+        self.polygon = vec![spots.iter().map(|&spot| Stored { spot, down: true }).collect()];
+        self.bytes = 49;
+        self.edges();
+        Ok(())
+    }
+
+    fn circle(&mut self, radius: i128, angle: Option<i128>) -> Result<(), u8> {
+        let angle = angle.map_or(50, |angle| Fraction::new(angle, 1_000).round());
+        if !(5..=1_200).contains(&angle) {
+            return Err(3);
+        }
+        for (x, y) in [(radius, 0), (0, radius), (-radius, 0), (0, -radius)] {
+            if !reachable(&self.relative([x, y])) {
+                return Err(6);
+            }
+        }
+        let chords = (3_600 + angle - 1) / angle;
+        let vertex = |k: i128| -> Spot {
+            let tenths = k % chords * angle;
+            let swing = [sine(tenths + 900), sine(tenths)];
+            [0, 1].map(|axis| {
+                let unit = self.unit(axis);
+                let grown = Fraction::new(radius * swing[axis] * unit.over, 100_000 * unit.under);
+                self.position[axis].plus(grown)
+            })
+        };
+        let vertices: Vec<Spot> = (0..=chords).map(vertex).collect();
+        for two in vertices.windows(2) {
+            self.queue_line(two[0], two[1], true);
+        }
+        Ok(())
+    }
+
+    // ----- judging -----
+
+    /// A draw with this answer: removes the first segment and judges.
+    pub fn draw(&mut self, answer: Drawn) -> Result<(), Violation> {
+        match (self.queue.pop_front(), answer) {
+            (None, Drawn::Idle) => Ok(()),
+            (None, _) => Err(Violation::NothingWaits),
+            (Some(_), Drawn::Idle) => Err(Violation::Waits),
+            (Some(segment), Drawn::Hidden) => {
+                let line = Line::of(&segment.line);
+                if segment.owed && line.within(&self.limits(), 1).is_some() {
+                    return Err(Violation::PaintMissing);
+                }
+                Ok(())
+            }
+            (Some(segment), Drawn::Stroke(stroke)) => self.judge(&segment, &stroke),
+        }
+    }
+
+    /// The limits in force, one area after another.
+    fn limits(&self) -> Vec<Area> {
+        let mut limits = vec![self.hard];
+        if let Some(window) = &self.window {
+            let corner = |w: &Whole| location(&turned(&self.turn, &spot(w)));
+            limits.push(Area::spanned(corner(&window.low), corner(&window.high)));
+        }
+        limits
+    }
+
+    fn judge(&self, segment: &Segment, stroke: &Stroke) -> Result<(), Violation> {
+        if !segment.owed {
+            return Err(Violation::NotOwed);
+        }
+        if stroke.pen != segment.pen {
+            return Err(Violation::Pen);
+        }
+        let ends = [[stroke.x0, stroke.y0], [stroke.x1, stroke.y1]].map(|end| end.map(i128::from));
+        let limits = self.limits();
+        for area in &limits {
+            for end in &ends {
+                if (0..2).any(|axis| end[axis] < area.low[axis] || end[axis] > area.high[axis]) {
+                    return Err(Violation::Limits);
+                }
+            }
+        }
+        let line = Line::of(&segment.line);
+        for end in &ends {
+            let near = Area { low: end.map(|v| v - 1), high: end.map(|v| v + 1) };
+            if line.within(&[near], 0).is_none() {
+                return Err(Violation::Astray);
+            }
+        }
+        if let Some((from, to)) = line.within(&limits, 1) {
+            if !line.near_stroke(&ends, &from) || !line.near_stroke(&ends, &to) {
+                return Err(Violation::TooShort);
+            }
+        }
+        Ok(())
+    }
+}
+
+/// A parameter: a fraction with a divisor above 0.
+#[derive(Clone, Copy, Debug)]
+struct Parameter {
+    over: Wide,
+    under: Wide,
+}
+
+impl Parameter {
+    /// `over / under` for `under` not 0.
+    fn new(over: Wide, under: Wide) -> Self {
+        if under.sign() < 0 {
+            Parameter { over: -over, under: -under }
+        } else {
+            Parameter { over, under }
+        }
+    }
+
+    fn compare(&self, other: &Parameter) -> Ordering {
+        (self.over * other.under).cmp(&(other.over * self.under))
+    }
+}
+
+/// The parameters from 0 to 1 with `low <= start + parameter * slope <= high`.
+struct Band {
+    start: Wide,
+    slope: Wide,
+    low: Wide,
+    high: Wide,
+}
+
+/// The interval of the parameters from 0 to 1 that satisfy all bands, if there are any.
+fn interval(bands: impl IntoIterator<Item = Band>) -> Option<(Parameter, Parameter)> {
+    let one = Wide::from(1i64);
+    let mut from = Parameter { over: Wide::ZERO, under: one };
+    let mut to = Parameter { over: one, under: one };
+    for band in bands {
+        if band.slope.sign() == 0 {
+            if band.start < band.low || band.start > band.high {
+                return None;
+            }
+            continue;
+        }
+        let at_low = Parameter::new(band.low - band.start, band.slope);
+        let at_high = Parameter::new(band.high - band.start, band.slope);
+        let (first, last) =
+            if band.slope.sign() > 0 { (at_low, at_high) } else { (at_high, at_low) };
+        if first.compare(&from) == Ordering::Greater {
+            from = first;
+        }
+        if last.compare(&to) == Ordering::Less {
+            to = last;
+        }
+    }
+    (from.compare(&to) != Ordering::Greater).then_some((from, to))
+}
+
+/// An exact line: on each axis `(start + t * slope) / under`, t from 0 to 1.
+struct Line {
+    start: [Wide; 2],
+    slope: [Wide; 2],
+    under: [Wide; 2],
+}
+
+impl Line {
+    fn of(ends: &[Spot; 2]) -> Line {
+        let axes = [0, 1].map(|axis| {
+            let (a, b) = (ends[0][axis], ends[1][axis]);
+            // The least common divisor: a.under times what b.under has beyond it.
+            let common = a.under * Fraction::new(a.under, b.under).under;
+            let (a, b) = (a.over * (common / a.under), b.over * (common / b.under));
+            (a, b - a, common)
+        });
+        Line {
+            start: axes.map(|(start, _, _)| Wide::from(start)),
+            slope: axes.map(|(_, slope, _)| Wide::from(slope)),
+            under: axes.map(|(_, _, under)| Wide::from(under)),
+        }
+    }
+
+    /// The parameters where the line is at least `depth` inside all of the areas.
+    fn within(&self, areas: &[Area], depth: i128) -> Option<(Parameter, Parameter)> {
+        interval(areas.iter().flat_map(|area| {
+            [0, 1].map(|axis| Band {
+                start: self.start[axis],
+                slope: self.slope[axis],
+                low: Wide::from(area.low[axis] + depth) * self.under[axis],
+                high: Wide::from(area.high[axis] - depth) * self.under[axis],
+            })
+        }))
+    }
+
+    /// Whether the line's point at `t` is within one unit of a point of the stroke.
+    fn near_stroke(&self, ends: &[Whole; 2], t: &Parameter) -> bool {
+        interval([0, 1].map(|axis| {
+            let point = self.start[axis] * t.under + self.slope[axis] * t.over;
+            let unit = self.under[axis] * t.under;
+            Band {
+                start: Wide::from(ends[0][axis]) * unit,
+                slope: Wide::from(ends[1][axis] - ends[0][axis]) * unit,
+                low: point - unit,
+                high: point + unit,
+            }
+        }))
+        .is_some()
+    }
+}
