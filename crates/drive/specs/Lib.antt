@@ -1,0 +1,4 @@
+pub mod Drive
+pub mod Floats
+pub mod Laws
+pub mod Figures
