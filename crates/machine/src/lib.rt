@@ -6,34 +6,24 @@ ghost use Rattle.hpgl.specs.Made.{Made};
 ghost use Rattle.machine.specs.Calls.{startedOf, takenOf, workedOf};
 ghost use Rattle.machine.specs.Run.{runOf};
 
-mod changes;
-mod circles;
-mod drawing;
-mod events;
-mod moves;
-mod numbers;
-mod places;
-mod polygons;
 mod running;
-mod settings;
-mod storing;
 
 use clip::Rect;
-use drawing::draw_work;
-use drawing::work_after;
-use events::act_on;
 pub use hpgl::Drawn;
 pub use hpgl::Look;
 use hpgl::State;
 pub use hpgl::Stroke;
-use numbers::BAD_LIMITS;
-use numbers::BUSY;
-use places::located;
+use instructions::drawing::draw_work;
+use instructions::drawing::work_after;
+use instructions::events::act_on;
+use instructions::numbers::BAD_LIMITS;
+use instructions::numbers::BUSY;
+use instructions::places::located;
+use instructions::settings::good_limits;
+use instructions::storing::applied;
+use instructions::storing::fresh_state;
+use instructions::storing::waiting;
 use running::run;
-use settings::good_limits;
-use storing::applied;
-use storing::fresh_state;
-use storing::waiting;
 
 // A machine comes only from the calls below.
 pub struct Machine {

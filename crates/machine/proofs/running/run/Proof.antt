@@ -15,7 +15,7 @@ use Rattle.hpgl.specs.Rules.{done, actOn}
 use Rattle.hpgl.specs.Machine.{waiting, stored, queued}
 use Rattle.hpgl.specs.Valid.{ValidActed, Valid}
 use Rattle.machine.specs.Run.{runOf, whole, stopsOf}
-use Rattle.machine.specs.Alone.{action-alone}
+use Rattle.instructions.specs.Alone.{action-alone}
 use Rattle.hpgl.specs.ReaderKept.{step-event}
 use Rattle.hpgl.specs.ValidKept.{valid-event}
 use Rattle.machine.proofs.Runs.{Turn, store-kept, quiet-turn, turn-valid, run-waits, run-end, idle-of, run-on, run-stops}

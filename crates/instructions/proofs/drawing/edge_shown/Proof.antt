@@ -1,0 +1,37 @@
+-- The proof of `edge_shown`: the turn keeps the bound that clipping asks.
+use borrow.Author.Needs.{needs}
+use mathlib.Core.Path.{refl, ap₂, _∙_}
+use Rattle.plane.specs.TurnLaws.{turned-small}
+use Rattle.hpgl.specs.Machine as M
+use Rattle.instructions.proofs.drawing.edge_shown.Statement.{statement}
+use Rattle.instructions.proofs.drawing.edge_shown.Tie as tie
+
+turned-requires : tie.Need-turned-requires
+turned-requires c κs = search needs
+
+turned-requires-2 : tie.Need-turned-requires-2
+turned-requires-2 c κs = search needs
+
+shown-requires : tie.Need-shown-requires
+shown-requires c κs =
+    let s : tie.Start = search in
+    let a : tie.After-turned = search in
+    rw (a .turned .ensures, c .turned2 .ensures)
+    (s .pre .0, turned-small (s .pre .1 .from) (s .pre .0 .turn), turned-small (s .pre .1 .to) (s .pre .0 .turn))
+
+returns : tie.Need-returns
+unfolding M.edgeShown
+returns c =
+    let s : tie.Start = search in
+    let t : tie.Then1 = search in
+    let a : tie.After-turned = search in
+    let b : tie.After-turned2 = search in
+    rw (t .if1 .taken) (c .shown .ensures ∙ ap₂ (M.shown (s .args .c)) (a .turned .ensures) (b .turned2 .ensures))
+
+returns-2 : tie.Need-returns-2
+unfolding M.edgeShown
+returns-2 c = rw (c .if1 .left) refl
+
+pub edge-shown-spec : {M : Type 1} → statement M
+edge-shown-spec =
+    tie.close (tie.spec turned-requires turned-requires-2 shown-requires returns returns-2)
