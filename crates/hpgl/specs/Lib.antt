@@ -3,6 +3,7 @@ pub mod Place
 pub mod Change
 pub mod Rules
 pub mod Machine
+pub mod Feed
 pub mod Trace
 pub mod ExactModel
 pub mod Condition3

@@ -27,6 +27,10 @@ badLimits = 10
 abbrev pub busy : ℕ
 busy = 20
 
+-- feed: list full
+abbrev pub listFull : ℕ
+listFull = 21
+
 -- ---- "Bytes, at most 1024: 2 for PM0 and PM1, 9 for each point, 2 when the point is the first of a PU or PD that itself changed the pen"; "49 bytes by definition"
 
 abbrev pub polygonBytes : ℕ
