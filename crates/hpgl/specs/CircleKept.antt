@@ -9,9 +9,9 @@ use Rattle.reader.specs.declared.Numbers.{Numbers}
 use Rattle.reader.specs.Sizes.{Small}
 use Rattle.plane.specs.Bounds.{mostNumber, mostAngle}
 use Rattle.hpgl.specs.declared.Core.{Core}
-use Rattle.hpgl.specs.Numbers.{outOfRange, tooFar}
+use Rattle.hpgl.specs.Numbers.{outOfRange, tooFar, leastAngle}
 use Rattle.hpgl.specs.Rules.{inked, circleFits, circleWith, chordAngle, ciRule}
-use Rattle.hpgl.specs.Valid.{leastAngle, ValidCore, ValidAction, ValidActed}
+use Rattle.hpgl.specs.Valid.{ValidCore, ValidAction, ValidActed}
 use Rattle.hpgl.specs.CodeFacts.{from-to, circle-valid}
 use Rattle.hpgl.specs.Cases.{pick}
 use Rattle.hpgl.specs.KeptCases.{when, refuses, acts}
@@ -19,7 +19,7 @@ use Rattle.hpgl.specs.KeptCases.{when, refuses, acts}
 pub valid-circle : {c : Core} {r : ℤ} (a : ℤ) → ValidCore c → Bd r mostNumber → ValidActed c (circleWith c r a)
 unfolding circleWith
 valid-circle {c} {r} a w h =
-    when (ValidActed c) ((pos 5 ≤? a) && (a ≤? pos 1200))
+    when (ValidActed c) ((pos leastAngle ≤? a) && (a ≤? pos mostAngle))
     (λ e. let b = from-to leastAngle mostAngle a e in
     when (ValidActed c) (circleFits c r)
     (λ f. acts c _ _ (pick (ValidAction (c .carriage .polygon .edges)) (inked c) (circle-valid w h (b .1) (b .2) f) tt) w)

@@ -31,12 +31,12 @@ use Rattle.hpgl.specs.declared.Polygon.{Polygon}
 use Rattle.hpgl.specs.declared.Core.{Core}
 use Rattle.hpgl.specs.declared.Edge.{Edge}
 use Rattle.hpgl.specs.declared.Circle.{Circle}
-use Rattle.hpgl.specs.Numbers.{polygonBytes, pointBytes, penBytes}
+use Rattle.hpgl.specs.Numbers.{polygonBytes, pointBytes, penBytes, leastAngle, mostEdges}
 use Rattle.hpgl.specs.Place.{rounded, axisX, axisY, location, inRange, absolutePosition, relativePosition, restAt, pagePoint, limits}
 use Rattle.hpgl.specs.Change.{withRelative, withCarriage}
 use Rattle.hpgl.specs.Rules.{origin, carried, aimed, pointCost, circleFits, circle}
 use Rattle.hpgl.specs.Machine.{noEdge, vertex}
-use Rattle.hpgl.specs.Valid.{leastAngle, mostChords, mostEdges, ShortPoint, ValidRange, ValidSettings, LocatablePosition, Placed, ValidPolygon, ValidCore, SmallEdge, ValidCircle, Every, none, more}
+use Rattle.hpgl.specs.Valid.{mostChords, ShortPoint, ValidRange, ValidSettings, LocatablePosition, Placed, ValidPolygon, ValidCore, SmallEdge, ValidCircle, Every, none, more}
 
 pub and-both : (x y : Bool) → x && y ≡ true → (x ≡ true) × (y ≡ true)
 and-both true y e = (refl, e)

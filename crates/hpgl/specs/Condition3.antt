@@ -36,7 +36,7 @@ modelAfter p draw = drawModel p
 -- ---- what a draw promises
 
 -- "at least one unit inside", for c = 1; within, for c = 0: "of the hard limits and of the turned window, if set"
-pub record Inside (s : Settings) (c : ℕ) (e : Exact) : Type 0 where
+pub record InLimits (s : Settings) (c : ℕ) (e : Exact) : Type 0 where
   pub hard : Within (s .hard) c e
   pub window : s .window .set ≡ true → Within (turnedBoxOf (s .window .area) (s .turn)) c e
 
@@ -55,13 +55,13 @@ pub record Painted (c : Settings) (g : Segment) (s : Stroke) : Type 0 where
   pub owed : g .owed ≡ true
   pub pen : s .pen ≡ g .pen
   pub clipped : drawn.Stroke s ≡ strokeOf (g .pen) (clip (limits c) (g .start) (g .end))
-  pub within : (k n : ℕ) → k ≤ n → (p : 0 < n) → Inside c 0 (at (startOf s) (endOf s) k n p)
+  pub within : (k n : ℕ) → k ≤ n → (p : 0 < n) → InLimits c 0 (at (startOf s) (endOf s) k n p)
   pub near : (k n : ℕ) → k ≤ n → (p : 0 < n) → HasNear (at (startOf s) (endOf s) k n p) (g .from) (g .to)
-  pub covers : (k n : ℕ) → k ≤ n → (p : 0 < n) → Inside c 1 (at (g .from) (g .to) k n p) → HasNear (at (g .from) (g .to) k n p) (startOf s) (endOf s)
+  pub covers : (k n : ℕ) → k ≤ n → (p : 0 < n) → InLimits c 1 (at (g .from) (g .to) k n p) → HasNear (at (g .from) (g .to) k n p) (startOf s) (endOf s)
 
 -- "hidden": if paint was owed, no point of the line is at least one unit inside
 pub record Unseen (c : Settings) (g : Segment) : Type 0 where
-  pub none : g .owed ≡ true → (k n : ℕ) → k ≤ n → (p : 0 < n) → ¬ Inside c 1 (at (g .from) (g .to) k n p)
+  pub none : g .owed ≡ true → (k n : ℕ) → k ≤ n → (p : 0 < n) → ¬ InLimits c 1 (at (g .from) (g .to) k n p)
 
 -- a draw answers for the first segment of the queue, and "idle" exactly where there is none
 unfoldable pub Holds : Settings → List Segment → Drawn → Type 0

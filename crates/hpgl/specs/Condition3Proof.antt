@@ -22,6 +22,7 @@ use Rattle.hpgl.specs.declared.Work.the-variants as work
 use Rattle.hpgl.specs.declared.State.{State}
 use Rattle.hpgl.specs.declared.Drawn.{Drawn}
 use Rattle.hpgl.specs.declared.Drawn.the-variants as drawn
+use Rattle.hpgl.specs.Numbers.{mostEdges}
 use Rattle.hpgl.specs.Rules.{freshCore, freshCarriage, noPolygon, actOn}
 use Rattle.hpgl.specs.Machine.{hardLimits, noEdge, freshState, waiting, readerAfter, applied, acted, takeState, shown, chordShown, edgeShown, workAfter, drawWork, drawState, drawAnswer}
 use Rattle.hpgl.specs.ExactModel.{ExactPolygon, Segment, Model, noPoints, freshModel, coreAfter, numberOf, taken, takeWhen, takeModel, rest, drawModel}
@@ -203,7 +204,7 @@ fresh-related : (r : Rect) → Related (freshState r) noPoints []
 unfolding freshState freshCore freshCarriage noPolygon Knows view onPage edgesFrom polygonEdges edgesOf allEdges
 fresh-related r = record {
   fit = record { sound = sound-fresh (hardLimits r); room = λ h. never refl h };
-  linked = record { size = length-replicate 112 noEdge; edges = refl; current = λ h. never refl h };
+  linked = record { size = length-replicate mostEdges noEdge; edges = refl; current = λ h. never refl h };
   knows = λ h. never refl h;
   queue = refl;
   located = none;

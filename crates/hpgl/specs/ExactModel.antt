@@ -31,7 +31,7 @@ use Rattle.hpgl.specs.Machine.{readerAfter}
 
 -- a polygon point: "A polygon's points keep the exact positions they had when stored"; and whether it was reached pen down
 pub record PolygonPoint : Type 0 where
-  pub at : Exact
+  pub exact : Exact
   pub down : Bool
 
 abbrev pub Subpolygon : Type 0
@@ -73,7 +73,7 @@ segment c e f owed = record {
 -- "for each two neighbours of a subpolygon, a segment"; owed if the "second point was reached pen down"
 unfoldable pub sidesFrom : Core → PolygonPoint → Subpolygon → List Segment
 sidesFrom c p [] = []
-sidesFrom c p (q ∷ ps) = segment c (p .at) (q .at) (q .down) ∷ sidesFrom c q ps
+sidesFrom c p (q ∷ ps) = segment c (p .exact) (q .exact) (q .down) ∷ sidesFrom c q ps
 
 unfoldable pub sides : Core → Subpolygon → List Segment
 sides c [] = []
@@ -103,7 +103,7 @@ chords c r a i (suc n) = segment c (vertexAt c r a i) (vertexAt c r a (i + 1)) t
 -- ---- the polygon
 
 abbrev pub here : Core → PolygonPoint
-here c = record { at = exactPosition (c .settings) (c .carriage .position); down = c .carriage .pen .down }
+here c = record { exact = exactPosition (c .settings) (c .carriage .position); down = c .carriage .pen .down }
 
 abbrev pub noPoints : ExactPolygon
 noPoints = record { ended = []; current = [] }
@@ -117,7 +117,7 @@ lastOf p (q ∷ ps) = lastOf q ps
 unfoldable pub closed : Subpolygon → Bool → Subpolygon
 closed [] down = []
 closed (p ∷ ps) down =
-    cond (differ (nearest (lastOf p ps .at)) (nearest (p .at))) ((p ∷ ps) ++ (record { at = p .at; down = down } ∷ [])) (p ∷ ps)
+    cond (differ (nearest (lastOf p ps .exact)) (nearest (p .exact))) ((p ∷ ps) ++ (record { exact = p .exact; down = down } ∷ [])) (p ∷ ps)
 
 unfoldable pub endCurrent : ExactPolygon → Bool → ExactPolygon
 endCurrent g down = record { ended = g .ended ++ (closed (g .current) down ∷ []); current = [] }
@@ -125,15 +125,16 @@ endCurrent g down = record { ended = g .ended ++ (closed (g .current) down ∷ [
 -- "five points, first along x, all pen down": from p to the corner q
 unfoldable pub rectangle : Settings → Position → Position → ExactPolygon
 rectangle s p q =
-    let corner : (u v : Position) → PolygonPoint = λ u v. record { at = exactPosition s (record { x = u .x; y = v .y }); down = true } in
+    let corner : (u v : Position) → PolygonPoint = λ u v. record { exact = exactPosition s (record { x = u .x; y = v .y }); down = true } in
     record { ended = []; current = corner p p ∷ corner q p ∷ corner q q ∷ corner p q ∷ corner p p ∷ [] }
 
 -- PM carried out: in polygon mode before and after it is PM1, only after PM0, only before PM2
 unfoldable pub polygonMode : Core → Core → ExactPolygon → ExactPolygon
 polygonMode c d g = cond (c .carriage .polygon .mode) (endCurrent g (c .carriage .pen .down)) (record { ended = []; current = here d ∷ [] })
 
-unfoldable pub ended : Core → Core → ℕ → Numbers → ExactPolygon → ExactPolygon
-ended c d op n g =
+-- after an instruction that ended
+unfoldable pub afterEnd : Core → Core → ℕ → Numbers → ExactPolygon → ExactPolygon
+afterEnd c d op n g =
     cond (eqb op IN) noPoints
     (cond (eqb op PM) (polygonMode c d g)
     (cond (eqb op EA) (rectangle (c .settings) (c .carriage .position) (absolutePosition (c .settings) (firstTwo n)))
@@ -145,7 +146,7 @@ unfoldable pub polygonAfter : Core → Core → Event → ExactPolygon → Exact
 polygonAfter c d Nothing g = g
 polygonAfter c d (Named op) g = g
 polygonAfter c d (Pair p) g = cond (d .carriage .polygon .mode) (record { ended = g .ended; current = g .current ++ (here d ∷ []) }) g
-polygonAfter c d (Ended op n) g = ended c d op n g
+polygonAfter c d (Ended op n) g = afterEnd c d op n g
 polygonAfter c d (Refused k) g = g
 
 -- ---- the queue

@@ -10,9 +10,9 @@ use Rattle.hpgl.specs.declared.Polygon.{Polygon}
 use Rattle.hpgl.specs.declared.Core.{Core}
 use Rattle.hpgl.specs.declared.Action.{Action}
 use Rattle.hpgl.specs.declared.Action.the-variants.{Keep}
-use Rattle.hpgl.specs.Numbers.{polygonBytes}
+use Rattle.hpgl.specs.Numbers.{polygonBytes, mostPen, mostEdges}
 use Rattle.hpgl.specs.Rules.{done, refuse}
-use Rattle.hpgl.specs.Valid.{mostPen, mostEdges, ValidSettings, Placed, ValidPolygon, ValidCore, ValidAction, ValidActed}
+use Rattle.hpgl.specs.Valid.{ValidSettings, Placed, ValidPolygon, ValidCore, ValidAction, ValidActed}
 use Rattle.hpgl.specs.Cases.{never}
 
 -- with what the test says

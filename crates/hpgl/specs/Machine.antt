@@ -32,7 +32,7 @@ use Rattle.hpgl.specs.declared.Stroke.{Stroke}
 use Rattle.hpgl.specs.declared.Drawn.{Drawn}
 use Rattle.hpgl.specs.declared.Drawn.the-variants as drawn
 use Rattle.hpgl.specs.declared.Look.{Look}
-use Rattle.hpgl.specs.Numbers.{badLimits, busy}
+use Rattle.hpgl.specs.Numbers.{badLimits, busy, mostEdges}
 use Rattle.hpgl.specs.Place.{point, location, limits}
 use Rattle.hpgl.specs.Rules.{origin, int16, freshCore, actOn}
 
@@ -56,7 +56,7 @@ unfoldable pub freshState : Rect → State
 freshState r = record {
   reader = freshReader;
   core = freshCore (hardLimits r);
-  store = record { edges = replicate 112 noEdge };
+  store = record { edges = replicate mostEdges noEdge };
   work = Nothing;
 }
 
@@ -144,7 +144,7 @@ chordShown c o i = shown c (vertex (c .settings) o i) (vertex (c .settings) o (i
 unfoldable pub edgeShown : Core → Edge → Drawn
 edgeShown c e = cond (e .down) (shown c (turnedOf (e .from) (c .settings .turn)) (turnedOf (e .to) (c .settings .turn))) drawn.Hidden
 
--- the work without its first segment, and what is drawn of that
+-- the work without its first segment, and what is drawn of that. A count of 0 is EP's, of a polygon without edges; a circle has chords
 unfoldable pub workAfter : Work → Work
 workAfter Nothing = Nothing
 workAfter (Line a b) = Nothing

@@ -22,13 +22,13 @@ use Rattle.hpgl.specs.declared.Drawn.the-variants as drawn
 use Rattle.hpgl.specs.Place.{limits}
 use Rattle.hpgl.specs.Machine.{strokeOf, shown}
 use Rattle.hpgl.specs.ExactModel.{Segment}
-use Rattle.hpgl.specs.Condition3.{Inside, HasNear, Painted, Holds}
+use Rattle.hpgl.specs.Condition3.{InLimits, HasNear, Painted, Holds}
 use Rattle.hpgl.specs.Related.{Located}
 
 -- ---- the limits
 
 module _ (s : Settings) (c : ℕ) (e : Exact) where
-  to-limits : Inside s c e → Within (limits s) c e
+  to-limits : InLimits s c e → Within (limits s) c e
   unfolding limits limitsOf
   to-limits h = go (s .window .set) (h .window)
     where
@@ -36,7 +36,7 @@ module _ (s : Settings) (c : ℕ) (e : Exact) where
       go true w = intersection-within (s .hard) (turnedBoxOf (s .window .area) (s .turn)) c e .1 (h .hard, w refl)
       go false w = h .hard
 
-  of-limits : Within (limits s) c e → Inside s c e
+  of-limits : Within (limits s) c e → InLimits s c e
   unfolding limits limitsOf
   of-limits h = record { hard = go (s .window .set) h; window = went (s .window .set) h }
     where

@@ -1,4 +1,5 @@
--- The numbers of document 01: its refusals ("Causes and numbers") and its bounds, each named once.
+-- The numbers of document 01: its refusals ("Causes and numbers") and its bounds, each named once. Those of reading stand in the crate reader, those of
+-- the plane (a location's range, the largest chord angle) in clip and plane.
 use Prim.Native.Nat.{ℕ, _+_}
 
 -- ---- "Causes and numbers"
@@ -47,3 +48,31 @@ penBytes = 2
 
 abbrev pub rectangleBytes : ℕ
 rectangleBytes = 49
+
+-- the edges that fit, and so the store's length: of 1024 bytes PM0 and its point take 11, and each edge at least 9
+abbrev pub mostEdges : ℕ
+mostEdges = 112
+
+-- ---- "SP: 0 to 8"; "RO: 0 or 90"
+
+abbrev pub mostPen : ℕ
+mostPen = 8
+
+abbrev pub quarterAngle : ℕ
+quarterAngle = 90
+
+-- ---- "the angle in tenths of a degree, rounded, 5 to 1200, default 50"
+
+abbrev pub leastAngle : ℕ
+leastAngle = 5
+
+abbrev pub defaultAngle : ℕ
+defaultAngle = 50
+
+-- ---- a number "is kept in ten-thousandths": what one and a tenth are in them
+
+abbrev pub one : ℕ
+one = 10000
+
+abbrev pub tenth : ℕ
+tenth = 1000

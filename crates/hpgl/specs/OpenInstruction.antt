@@ -64,7 +64,7 @@ knows-done c r s Nothing t k z = λ m i. rw (t .op) (k m (t .within i))
 knows-done c r s (Named op) t k z = λ m i. rw t (name-known c op z m)
 knows-done c r s (Pair n) t k z = λ m i. rw (t .op) (k (sym (pair-mode c n .same) ∙ m) (t .within i))
 knows-done c r s (Ended op n) t k z = λ m i. never (t .out) i
-knows-done c r s (Refused j) t k z = λ m i. rw (t .op) (k m (t .within i))
+knows-done c r s (Refused j) t k z = λ m i. never (t .1) i
 
 reader-refused : (s : Reader) (n : ℕ) → readerAfter s (suc n) ≡ passedOver s
 unfolding readerAfter

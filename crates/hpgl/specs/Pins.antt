@@ -22,6 +22,7 @@ use Rattle.reader.specs.Sizes.{isCause, Caused}
 use Rattle.reader.specs.CauseLaws.{step-caused}
 use Rattle.reader.specs.Reader.{goOnOf, quietOf, labelEnd}
 use Rattle.reader.specs.Step.{labelOf, byMode, stepOf}
+use Rattle.plane.specs.Bounds.{mostAngle}
 use Rattle.hpgl.specs.Cases.{pick}
 use Rattle.hpgl.specs.declared.Position.{Position}
 use Rattle.hpgl.specs.declared.Core.{Core}
@@ -30,7 +31,7 @@ use Rattle.hpgl.specs.declared.Action.the-variants.{Keep}
 use Rattle.hpgl.specs.declared.Acted.{Acted}
 use Rattle.hpgl.specs.declared.Work.the-variants as work
 use Rattle.hpgl.specs.declared.State.{State}
-use Rattle.hpgl.specs.Numbers.{unknown, outOfRange, tooFar, polygonFull, busy, polygonBytes, modeBytes, pointBytes}
+use Rattle.hpgl.specs.Numbers.{unknown, outOfRange, tooFar, polygonFull, busy, polygonBytes, modeBytes, pointBytes, mostPen, quarterAngle, leastAngle}
 use Rattle.hpgl.specs.Place.{rounded, location, inRange, absolutePosition, relativePosition}
 use Rattle.hpgl.specs.Rules.{done, refuse, nameRule, inRule, dfRule, goodCorners, setCorners, ipRule, scRule, setTurn, roRule, setWindow, iwRule, setPen, spRule, moveTo, pointCost, storePoint, aimed, goTo, pairRule, pm0, closes, ended, pm1In, pm1, leave, pm2In, pm2, pmRule, epRule, rectangleTo, firstTwo, eaRule, erRule, circleFits, circleWith, chordAngle, ciRule, endRule, actOn}
 use Rattle.hpgl.specs.Machine.{waiting, stored, queued, readerAfter, applied, acted, takeState, takeNumber}
@@ -135,7 +136,7 @@ module _ (c : Core) (e : Event) where
     unfolding roRule setTurn
     pin-ro h =
         pick (Pinned c e) (eqb (n .count) 0) (sets _ h)
-        (pick (Pinned c e) (rounded (n .first) ≡? pos 0) (sets _ h) (pick (Pinned c e) (rounded (n .first) ≡? pos 90) (sets _ h) (refuses range)))
+        (pick (Pinned c e) (rounded (n .first) ≡? pos 0) (sets _ h) (pick (Pinned c e) (rounded (n .first) ≡? pos quarterAngle) (sets _ h) (refuses range)))
 
     pin-iw : changesSettings op ≡ true → Pinned c e (iwRule c n)
     unfolding iwRule setWindow
@@ -148,7 +149,7 @@ module _ (c : Core) (e : Event) where
     unfolding spRule setPen
     pin-sp =
         pick (Pinned c e) (eqb (n .count) 0) (carries _ Keep refl)
-        (pick (Pinned c e) ((pos 0 ≤? rounded (n .first)) && (rounded (n .first) ≤? pos 8)) (carries _ Keep refl) (refuses range))
+        (pick (Pinned c e) ((pos 0 ≤? rounded (n .first)) && (rounded (n .first) ≤? pos mostPen)) (carries _ Keep refl) (refuses range))
 
     pin-pm0 : Pinned c e (pm0 c)
     unfolding pm0
@@ -197,7 +198,7 @@ module _ (c : Core) (e : Event) where
     pin-ci : Pinned c e (ciRule c n)
     unfolding ciRule circleWith
     pin-ci =
-        pick (Pinned c e) ((pos 5 ≤? chordAngle n) && (chordAngle n ≤? pos 1200)) (pick (Pinned c e) (circleFits c (n .first)) (carries c _ refl) (refuses far)) (refuses range)
+        pick (Pinned c e) ((pos leastAngle ≤? chordAngle n) && (chordAngle n ≤? pos mostAngle)) (pick (Pinned c e) (circleFits c (n .first)) (carries c _ refl) (refuses far)) (refuses range)
 
     -- the instruction k changes settings
     changing : (k : ℕ) → changesSettings k ≡ true → op ≡ k → changesSettings op ≡ true

@@ -17,6 +17,7 @@ use Rattle.reader.specs.declared.Numbers.{Numbers}
 use Rattle.reader.specs.declared.Event.{Event}
 use Rattle.reader.specs.declared.Event.the-variants.{Nothing, Named, Pair, Ended, Refused}
 use Rattle.reader.specs.Table.{IN, DF, EP, IP, SC, IW, RO, SP, PM, CI, EA, ER, PU, PD, PA, PR, cellOf, knownInPolygon}
+use Rattle.plane.specs.Bounds.{mostAngle}
 use Rattle.hpgl.specs.Cases.{never, pick, cond-true}
 use Rattle.hpgl.specs.declared.Position.{Position}
 use Rattle.hpgl.specs.declared.Saved.{Saved}
@@ -26,7 +27,7 @@ use Rattle.hpgl.specs.declared.Core.{Core}
 use Rattle.hpgl.specs.declared.Action.{Action}
 use Rattle.hpgl.specs.declared.Action.the-variants.{Keep}
 use Rattle.hpgl.specs.declared.Acted.{Acted}
-use Rattle.hpgl.specs.Numbers.{outOfRange, polygonFull, polygonBytes, modeBytes, pointBytes, penBytes}
+use Rattle.hpgl.specs.Numbers.{outOfRange, polygonFull, polygonBytes, modeBytes, pointBytes, penBytes, mostPen, quarterAngle, leastAngle}
 use Rattle.hpgl.specs.Place.{rounded, location, inRange}
 use Rattle.hpgl.specs.Rules.{done, refuse, noPolygon, freshCarriage, freshCore, letters, nameRule, rebased, inRule, dfRule, goodCorners, setCorners, ipRule, scRule, setTurn, roRule, setWindow, iwRule, setPen, spRule, moveTo, pointCost, longer, storePoint, aimed, goTo, pairRule, begun, pm0, closes, endedWith, ended, pm1In, pm1, leave, pm2In, pm2, pmRule, epRule, rectangular, rectangleTo, eaRule, erRule, circleFits, circleWith, chordAngle, ciRule, endRule, actOn}
 use Rattle.hpgl.specs.PinsPosition.{after}
@@ -299,7 +300,7 @@ module _ (c : Core) (h : List Stored) (is : bytesOf c ≡ costs h) (fits : bytes
   unfolding roRule setTurn rebased
   counts-ro n =
       pick (Counts h) (eqb (n .count) 0) (keeps _ _ refl)
-      (pick (Counts h) (rounded (n .first) ≡? pos 0) (keeps _ _ refl) (pick (Counts h) (rounded (n .first) ≡? pos 90) (keeps _ _ refl) (refuses h _ _ refl)))
+      (pick (Counts h) (rounded (n .first) ≡? pos 0) (keeps _ _ refl) (pick (Counts h) (rounded (n .first) ≡? pos quarterAngle) (keeps _ _ refl) (refuses h _ _ refl)))
 
   counts-iw : (n : Numbers) → Counts h (iwRule c n)
   unfolding iwRule setWindow
@@ -309,7 +310,7 @@ module _ (c : Core) (h : List Stored) (is : bytesOf c ≡ costs h) (fits : bytes
   unfolding spRule setPen
   counts-sp n =
       pick (Counts h) (eqb (n .count) 0) (keeps _ _ refl)
-      (pick (Counts h) ((pos 0 ≤? rounded (n .first)) && (rounded (n .first) ≤? pos 8)) (keeps _ _ refl) (refuses h _ _ refl))
+      (pick (Counts h) ((pos 0 ≤? rounded (n .first)) && (rounded (n .first) ≤? pos mostPen)) (keeps _ _ refl) (refuses h _ _ refl))
 
   counts-pm0 : Counts (PM0 ∷ point ∷ []) (pm0 c)
   unfolding pm0 begun costs
@@ -362,7 +363,7 @@ module _ (c : Core) (h : List Stored) (is : bytesOf c ≡ costs h) (fits : bytes
   counts-ci : (n : Numbers) → Counts h (ciRule c n)
   unfolding ciRule circleWith
   counts-ci n =
-      pick (Counts h) ((pos 5 ≤? chordAngle n) && (chordAngle n ≤? pos 1200)) (pick (Counts h) (circleFits c (n .first)) (keeps c _ refl) (refuses h _ _ refl)) (refuses h _ _ refl)
+      pick (Counts h) ((pos leastAngle ≤? chordAngle n) && (chordAngle n ≤? pos mostAngle)) (pick (Counts h) (circleFits c (n .first)) (keeps c _ refl) (refuses h _ _ refl)) (refuses h _ _ refl)
 
   counts-end : (op : ℕ) (n : Numbers) → Counts (storedBy c (Ended op n) h) (endRule c op n)
   unfolding endRule storedBy dfRule rebased epRule eaRule erRule

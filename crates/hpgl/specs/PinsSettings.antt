@@ -25,6 +25,7 @@ use Rattle.hpgl.specs.declared.Position.{Position}
 use Rattle.hpgl.specs.declared.Settings.{Settings}
 use Rattle.hpgl.specs.declared.Core.{Core}
 use Rattle.hpgl.specs.declared.Acted.{Acted}
+use Rattle.hpgl.specs.Numbers.{quarterAngle}
 use Rattle.hpgl.specs.Place.{point, rounded, axisX, axisY, exactPosition, location, inRange, absolutePosition, restAt, pagePoint, limits}
 use Rattle.hpgl.specs.Change.{withRelative, withCarriage}
 use Rattle.hpgl.specs.Rules.{done, refuse, freshSettings, freshCarriage, rebased, inRule, dfRule, goodCorners, setCorners, ipRule, scRule, setTurn, roRule, setWindow, iwRule, endRule}
@@ -141,7 +142,7 @@ module _ (c : Core) (h : c .settings .turn < turnCount) where
   settles-ro n =
       pick (Settles SamePage) (eqb (n .count) 0) (λ e. turned c _ (omega arith))
       (pick (Settles SamePage) (rounded (n .first) ≡? pos 0) (λ e. turned c _ (omega arith))
-      (pick (Settles SamePage) (rounded (n .first) ≡? pos 90) (λ e. turned c _ (omega arith)) (refuses SamePage _ _)))
+      (pick (Settles SamePage) (rounded (n .first) ≡? pos quarterAngle) (λ e. turned c _ (omega arith)) (refuses SamePage _ _)))
 
   -- IN, DF, IP, SC and RO, carried out
   pub settled : {op : ℕ} (k : Rebasing op) (n : Numbers) → endRule c op n .number ≡ 0 → Rests (Stays k) c (endRule c op n .core)
@@ -214,7 +215,7 @@ pub record TurnedAlong (c d : Core) : Type 0 where
 pub turned-along : (c : Core) (n : Numbers) → roRule c n .number ≡ 0 → TurnedAlong c (roRule c n .core)
 unfolding roRule setTurn rebased done refuse limits limitsOf
 turned-along c n =
-    pick P (eqb (n .count) 0) (along 0) (pick P (rounded (n .first) ≡? pos 0) (along 0) (pick P (rounded (n .first) ≡? pos 90) (along 1) (λ e. absurd (omega arith))))
+    pick P (eqb (n .count) 0) (along 0) (pick P (rounded (n .first) ≡? pos 0) (along 0) (pick P (rounded (n .first) ≡? pos quarterAngle) (along 1) (λ e. absurd (omega arith))))
   where
     P : Acted → Type 0
     P t = t .number ≡ 0 → TurnedAlong c (t .core)

@@ -14,13 +14,14 @@ use Rattle.plane.specs.Turn.{turnedOf}
 use Rattle.plane.specs.Limits.{limitsOf}
 use Rattle.hpgl.specs.declared.Position.{Position}
 use Rattle.hpgl.specs.declared.Settings.{Settings}
+use Rattle.hpgl.specs.Numbers.{one}
 
 abbrev pub point : ℤ → ℤ → Point
 point x y = record { x = x; y = y }
 
 -- "SP, RO, PM, IP numbers are rounded first": ten-thousandths to the nearest whole
 abbrev pub rounded : ℤ → ℤ
-rounded n = nearestDiv n (pos 10000)
+rounded n = nearestDiv n (pos one)
 
 -- "For each axis: base B, offset O, span D, width W. Scaling on: D is P2 − P1, W is max − min of SC in ten-thousandths. Off: D 1, W 10,000."
 unfoldable pub axisX : Settings → Axis

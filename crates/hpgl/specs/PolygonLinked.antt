@@ -16,6 +16,7 @@ use Rattle.hpgl.specs.declared.Polygon.{Polygon}
 use Rattle.hpgl.specs.declared.Core.{Core}
 use Rattle.hpgl.specs.declared.Edge.{Edge}
 use Rattle.hpgl.specs.declared.Action.the-variants.{Keep, Join}
+use Rattle.hpgl.specs.Numbers.{mostEdges}
 use Rattle.hpgl.specs.Place.{point, axisX, axisY, exactPosition, location}
 use Rattle.hpgl.specs.Rules.{differ, longer, endedWith, rectangular}
 use Rattle.hpgl.specs.Machine.{noEdge, rectangleEdges, stored}
@@ -39,14 +40,14 @@ put-at es i (suc n) k v e h =
     let tail : edgesFrom (set es k v) (i + 1) (suc n) ≡ edgesFrom es (i + 1) n ++ (v ∷ []) = put-at es (i + 1) n k v (omega arith) h in
     λ j. head j ∷ tail j
 
-pub one-more : (es : List Edge) (k : ℕ) (v : Edge) → length es ≡ 112 → k < 112 → edgesFrom (set es k v) 0 (k + 1) ≡ edgesFrom es 0 k ++ (v ∷ [])
+pub one-more : (es : List Edge) (k : ℕ) (v : Edge) → length es ≡ mostEdges → k < mostEdges → edgesFrom (set es k v) 0 (k + 1) ≡ edgesFrom es 0 k ++ (v ∷ [])
 one-more es k v size h =
     let e : k + 1 ≡ suc k = omega arith in
     let small : k < length es = omega arith in
     rw e (put-at es 0 k k v (omega arith) small)
 
 -- the first four edges written anew
-first-four : (es : List Edge) (a b c d : Edge) → length es ≡ 112 → edgesFrom (set (set (set (set es 0 a) 1 b) 2 c) 3 d) 0 4 ≡ a ∷ b ∷ c ∷ d ∷ []
+first-four : (es : List Edge) (a b c d : Edge) → length es ≡ mostEdges → edgesFrom (set (set (set (set es 0 a) 1 b) 2 c) 3 d) 0 4 ≡ a ∷ b ∷ c ∷ d ∷ []
 unfolding edgesFrom
 first-four [] a b c d h = absurd (omega arith)
 first-four (x ∷ []) a b c d h = absurd (omega arith)
@@ -81,7 +82,7 @@ abbrev pub edgeBetween : Settings → Position → Position → Bool → Edge
 edgeBetween s p q down = record { from = location s p; to = location s q; down = down }
 
 module _ (s : Settings) (w : Sound s) where
-  edge-joined : (p q : Position) (x y : PolygonPoint) → x .at ≡ exactPosition s p → y .at ≡ exactPosition s q → edgeBetween s p q (y .down) ≡ joined x y
+  edge-joined : (p q : Position) (x y : PolygonPoint) → x .exact ≡ exactPosition s p → y .exact ≡ exactPosition s q → edgeBetween s p q (y .down) ≡ joined x y
   edge-joined p q x y e f = λ i. record {
     from = (location-nearest s p w ∙ ap nearest (sym e)) i;
     to = (location-nearest s q w ∙ ap nearest (sym f)) i;
@@ -91,33 +92,33 @@ module _ (s : Settings) (w : Sound s) where
   -- ---- one point more
 
   grown-edges : (first last p : Position) (down empty : Bool) (es : List Edge) (n : ℕ) (ss : List Subpolygon) (ps : Subpolygon) →
-      length es ≡ 112 → n < 112 → edgesFrom es 0 n ≡ allEdges ss ++ edgesOf ps → Open s first last empty ps →
+      length es ≡ mostEdges → n < mostEdges → edgesFrom es 0 n ≡ allEdges ss ++ edgesOf ps → Open s first last empty ps →
       edgesFrom (stored es n (cond empty Keep (Join (edgeBetween s last p down)))) 0 (cond empty n (n + 1))
-      ≡ allEdges ss ++ edgesOf (ps ++ (record { at = exactPosition s p; down = down } ∷ []))
+      ≡ allEdges ss ++ edgesOf (ps ++ (record { exact = exactPosition s p; down = down } ∷ []))
   unfolding stored edgesOf edgesAfter
   grown-edges first last p down empty es n ss ps size small h none = h
   grown-edges first last p down empty es n ss ps size small h (some {p = q} {ps = qs} a b) =
-      let x : PolygonPoint = record { at = exactPosition s p; down = down } in
+      let x : PolygonPoint = record { exact = exactPosition s p; down = down } in
       one-more es n (edgeBetween s last p down) size small
       ∙ ap₂ (λ (l : List Edge) (e : Edge). l ++ (e ∷ [])) h (edge-joined last p (lastOf q qs) x b refl)
       ∙ append-assoc (allEdges ss) (edgesAfter q qs) (joined (lastOf q qs) x ∷ [])
       ∙ ap (λ (l : List Edge). allEdges ss ++ l) (sym (edges-after-more q qs x))
 
   grown-open : (first last p : Position) (down empty : Bool) (ps : Subpolygon) → Open s first last empty ps →
-      Open s (cond empty p first) p false (ps ++ (record { at = exactPosition s p; down = down } ∷ []))
+      Open s (cond empty p first) p false (ps ++ (record { exact = exactPosition s p; down = down } ∷ []))
   unfolding lastOf
   grown-open first last p down empty ps none = some refl refl
   grown-open first last p down empty ps (some {p = q} {ps = qs} a b) =
-      some a (ap (λ (y : PolygonPoint). y .at) (last-more q qs (record { at = exactPosition s p; down = down })))
+      some a (ap (λ (y : PolygonPoint). y .exact) (last-more q qs (record { exact = exactPosition s p; down = down })))
 
-  join-size : (es : List Edge) (n : ℕ) (empty : Bool) (e : Edge) → length es ≡ 112 → length (stored es n (cond empty Keep (Join e))) ≡ 112
+  join-size : (es : List Edge) (n : ℕ) (empty : Bool) (e : Edge) → length es ≡ mostEdges → length (stored es n (cond empty Keep (Join e))) ≡ mostEdges
   unfolding stored
   join-size es n true e h = h
   join-size es n false e h = length-set es n e ∙ h
 
-  pub grown : (last p : Position) (k : Polygon) (cost : ℕ) (down : Bool) (es : List Edge) (g : ExactPolygon) → k .edges < 112 → k .mode ≡ true → Linked s last k es g →
+  pub grown : (last p : Position) (k : Polygon) (cost : ℕ) (down : Bool) (es : List Edge) (g : ExactPolygon) → k .edges < mostEdges → k .mode ≡ true → Linked s last k es g →
       Linked s p (longer k cost p) (stored es (k .edges) (cond (k .empty) Keep (Join (edgeBetween s last p down))))
-      (record { ended = g .ended; current = g .current ++ (record { at = exactPosition s p; down = down } ∷ []) })
+      (record { ended = g .ended; current = g .current ++ (record { exact = exactPosition s p; down = down } ∷ []) })
   unfolding longer polygonEdges
   grown last p k cost down es g small m l = record {
     size = join-size es (k .edges) (k .empty) (edgeBetween s last p down) (l .size);
@@ -127,8 +128,8 @@ module _ (s : Settings) (w : Sound s) where
 
   -- ---- a subpolygon is ended
 
-  same-differ : (first last : Position) (q : PolygonPoint) (qs : Subpolygon) → q .at ≡ exactPosition s first → lastOf q qs .at ≡ exactPosition s last →
-      differ (location s last) (location s first) ≡ differ (nearest (lastOf q qs .at)) (nearest (q .at))
+  same-differ : (first last : Position) (q : PolygonPoint) (qs : Subpolygon) → q .exact ≡ exactPosition s first → lastOf q qs .exact ≡ exactPosition s last →
+      differ (location s last) (location s first) ≡ differ (nearest (lastOf q qs .exact)) (nearest (q .exact))
   same-differ first last q qs a b =
       ap₂ differ (location-nearest s last w ∙ ap nearest (sym b)) (location-nearest s first w ∙ ap nearest (sym a))
 
@@ -136,21 +137,21 @@ module _ (s : Settings) (w : Sound s) where
       not empty && differ (location s last) (location s first) ≡ true → edgesOf (closed ps down) ≡ edgesOf ps ++ (edgeBetween s last first down ∷ [])
   unfolding closed edgesOf
   closed-adds first last down empty ps none h = never refl h
-  closed-adds first last down empty ps (some {p = q} {ps = qs} a b) h = go (differ (nearest (lastOf q qs .at)) (nearest (q .at))) (sym (same-differ first last q qs a b) ∙ h)
+  closed-adds first last down empty ps (some {p = q} {ps = qs} a b) h = go (differ (nearest (lastOf q qs .exact)) (nearest (q .exact))) (sym (same-differ first last q qs a b) ∙ h)
     where
-      go : (t : Bool) → t ≡ true → edgesOf (cond t (q ∷ (qs ++ (record { at = q .at; down = down } ∷ []))) (q ∷ qs)) ≡ edgesAfter q qs ++ (edgeBetween s last first down ∷ [])
+      go : (t : Bool) → t ≡ true → edgesOf (cond t (q ∷ (qs ++ (record { exact = q .exact; down = down } ∷ []))) (q ∷ qs)) ≡ edgesAfter q qs ++ (edgeBetween s last first down ∷ [])
       go true e =
-          edges-after-more q qs (record { at = q .at; down = down })
-          ∙ ap (λ (v : Edge). edgesAfter q qs ++ (v ∷ [])) (sym (edge-joined last first (lastOf q qs) (record { at = q .at; down = down }) b a))
+          edges-after-more q qs (record { exact = q .exact; down = down })
+          ∙ ap (λ (v : Edge). edgesAfter q qs ++ (v ∷ [])) (sym (edge-joined last first (lastOf q qs) (record { exact = q .exact; down = down }) b a))
       go false e = never refl e
 
   closed-keeps : (first last : Position) (down empty : Bool) (ps : Subpolygon) → Open s first last empty ps →
       not empty && differ (location s last) (location s first) ≡ false → closed ps down ≡ ps
   unfolding closed
   closed-keeps first last down empty ps none h = refl
-  closed-keeps first last down empty ps (some {p = q} {ps = qs} a b) h = go (differ (nearest (lastOf q qs .at)) (nearest (q .at))) (sym (same-differ first last q qs a b) ∙ h)
+  closed-keeps first last down empty ps (some {p = q} {ps = qs} a b) h = go (differ (nearest (lastOf q qs .exact)) (nearest (q .exact))) (sym (same-differ first last q qs a b) ∙ h)
     where
-      go : (t : Bool) → t ≡ false → cond t (q ∷ (qs ++ (record { at = q .at; down = down } ∷ []))) (q ∷ qs) ≡ q ∷ qs
+      go : (t : Bool) → t ≡ false → cond t (q ∷ (qs ++ (record { exact = q .exact; down = down } ∷ []))) (q ∷ qs) ≡ q ∷ qs
       go true e = never e refl
       go false e = refl
 
@@ -159,7 +160,7 @@ module _ (s : Settings) (w : Sound s) where
   ended-edges g down = append-nil (allEdges (g .ended ++ (closed (g .current) down ∷ []))) ∙ all-edges-more (g .ended) (closed (g .current) down)
 
   -- with the edge to its first point
-  pub ended-closed : (last p : Position) (k : Polygon) (mode : Bool) (n : ℕ) (down : Bool) (es : List Edge) (g : ExactPolygon) → k .edges < 112 → k .mode ≡ true →
+  pub ended-closed : (last p : Position) (k : Polygon) (mode : Bool) (n : ℕ) (down : Bool) (es : List Edge) (g : ExactPolygon) → k .edges < mostEdges → k .mode ≡ true →
       not (k .empty) && differ (location s last) (location s (k .first)) ≡ true → Linked s last k es g →
       Linked s p (endedWith k mode n 1) (stored es (k .edges) (Join (edgeBetween s last (k .first) down))) (endCurrent g down)
   unfolding endedWith stored polygonEdges endCurrent
@@ -195,12 +196,12 @@ module _ (s : Settings) (w : Sound s) where
 
   -- ---- a rectangle
 
-  pub rectangle-linked : (p q last : Position) (k : Polygon) (es : List Edge) → length es ≡ 112 →
+  pub rectangle-linked : (p q last : Position) (k : Polygon) (es : List Edge) → length es ≡ mostEdges →
       Linked s last (rectangular k) (rectangleEdges es (location s p) (location s q)) (rectangle s p q)
   unfolding rectangular rectangleEdges rectangle polygonEdges allEdges edgesOf edgesAfter location
   rectangle-linked p q last k es size =
-      let side : (u v : Position) → edgeBetween s u v true ≡ joined (record { at = exactPosition s u; down = true }) (record { at = exactPosition s v; down = true }) =
-      λ u v. edge-joined u v (record { at = exactPosition s u; down = true }) (record { at = exactPosition s v; down = true }) refl refl in
+      let side : (u v : Position) → edgeBetween s u v true ≡ joined (record { exact = exactPosition s u; down = true }) (record { exact = exactPosition s v; down = true }) =
+      λ u v. edge-joined u v (record { exact = exactPosition s u; down = true }) (record { exact = exactPosition s v; down = true }) refl refl in
       let f : Position = record { x = q .x; y = p .y } in
       let b : Position = record { x = p .x; y = q .y } in
       record {

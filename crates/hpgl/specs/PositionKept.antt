@@ -9,10 +9,10 @@ use Rattle.reader.specs.declared.Coordinates.{Coordinates}
 use Rattle.reader.specs.Sizes.{SmallPair}
 use Rattle.hpgl.specs.declared.Position.{Position}
 use Rattle.hpgl.specs.declared.Core.{Core}
-use Rattle.hpgl.specs.Numbers.{tooFar, polygonFull, polygonBytes, modeBytes, pointBytes}
+use Rattle.hpgl.specs.Numbers.{tooFar, polygonFull, polygonBytes, modeBytes, pointBytes, mostEdges}
 use Rattle.hpgl.specs.Place.{location, inRange}
 use Rattle.hpgl.specs.Rules.{inked, moveTo, pointCost, longer, edgeTo, storePoint, goTo, pairRule}
-use Rattle.hpgl.specs.Valid.{mostEdges, LocatablePosition, Placed, ValidCore, ValidAction, ValidActed}
+use Rattle.hpgl.specs.Valid.{LocatablePosition, Placed, ValidCore, ValidAction, ValidActed}
 use Rattle.hpgl.specs.CodeFacts.{page-small, aimed-locatable, located-placed, cost-least, edge-room}
 use Rattle.hpgl.specs.Cases.{pick}
 use Rattle.hpgl.specs.KeptCases.{when, valid-core, refuses, acts}

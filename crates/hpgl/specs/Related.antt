@@ -21,6 +21,7 @@ use Rattle.hpgl.specs.declared.Circle.{Circle}
 use Rattle.hpgl.specs.declared.Work.{Work}
 use Rattle.hpgl.specs.declared.Work.the-variants.{Nothing, Line, Chords, Edges}
 use Rattle.hpgl.specs.declared.State.{State}
+use Rattle.hpgl.specs.Numbers.{modeBytes, pointBytes, mostEdges}
 use Rattle.hpgl.specs.Place.{axisX, axisY, exactPosition}
 use Rattle.hpgl.specs.Machine.{noEdge, vertex}
 use Rattle.hpgl.specs.Valid.{Knows}
@@ -37,7 +38,7 @@ pub record Sound (s : Settings) : Type 0 where
 -- and in polygon mode the bytes leave the store room for an edge more
 pub record Fit (s : Settings) (k : Polygon) : Type 0 where
   pub sound : Sound s
-  pub room : k .mode ≡ true → 11 + 9 * k .edges ≤ k .bytes
+  pub room : k .mode ≡ true → modeBytes + pointBytes + pointBytes * k .edges ≤ k .bytes
 
 -- ---- the store
 
@@ -48,7 +49,7 @@ edgesFrom es i (suc n) = getD es i noEdge ∷ edgesFrom es (i + 1) n
 
 -- the edge between two points of a polygon
 abbrev pub joined : PolygonPoint → PolygonPoint → Edge
-joined p q = record { from = nearest (p .at); to = nearest (q .at); down = q .down }
+joined p q = record { from = nearest (p .exact); to = nearest (q .exact); down = q .down }
 
 unfoldable pub edgesAfter : PolygonPoint → Subpolygon → List Edge
 edgesAfter p [] = []
@@ -68,10 +69,10 @@ polygonEdges g = allEdges (g .ended) ++ edgesOf (g .current)
 -- the subpolygon that is not ended: without a point, or with the given first and last one
 pub data Open (s : Settings) (first last : Position) : Bool → Subpolygon → Type 0 where
   none : Open s first last true []
-  some : {p : PolygonPoint} {ps : Subpolygon} → p .at ≡ exactPosition s first → lastOf p ps .at ≡ exactPosition s last → Open s first last false (p ∷ ps)
+  some : {p : PolygonPoint} {ps : Subpolygon} → p .exact ≡ exactPosition s first → lastOf p ps .exact ≡ exactPosition s last → Open s first last false (p ∷ ps)
 
 pub record Linked (s : Settings) (p : Position) (k : Polygon) (es : List Edge) (g : ExactPolygon) : Type 0 where
-  pub size : length es ≡ 112
+  pub size : length es ≡ mostEdges
   pub edges : edgesFrom es 0 (k .edges) ≡ polygonEdges g
   pub current : k .mode ≡ true → Open s (k .first) p (k .empty) (g .current)
 

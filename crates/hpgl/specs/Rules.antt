@@ -14,7 +14,8 @@ use Rattle.reader.specs.declared.Event.{Event}
 use Rattle.reader.specs.declared.Event.the-variants.{Nothing, Named, Pair, Ended, Refused}
 use Rattle.reader.specs.Table.{IN, DF, EP, IP, SC, IW, RO, SP, PM, CI, EA, ER, PU, PD, PA, PR, knownInPolygon}
 use Rattle.plane.specs.declared.position.ExactPosition.{ExactPosition}
-use Rattle.plane.specs.Turn.{turnedOf, turnedBackOf, orderedOf}
+use Rattle.plane.specs.Turn.{upright, quarter, turnedBackOf, orderedOf}
+use Rattle.plane.specs.Bounds.{mostAngle}
 use Rattle.plane.specs.Circle.{centreOf}
 use Rattle.hpgl.specs.declared.Position.{Position}
 use Rattle.hpgl.specs.declared.Range.{Range}
@@ -30,7 +31,7 @@ use Rattle.hpgl.specs.declared.Circle.{Circle}
 use Rattle.hpgl.specs.declared.Action.{Action}
 use Rattle.hpgl.specs.declared.Action.the-variants.{Keep, Line, Chords, Join, Outline, Rectangle}
 use Rattle.hpgl.specs.declared.Acted.{Acted}
-use Rattle.hpgl.specs.Numbers.{unknown, outOfRange, tooFar, polygonFull, polygonBytes, modeBytes, pointBytes, penBytes, rectangleBytes}
+use Rattle.hpgl.specs.Numbers.{unknown, outOfRange, tooFar, polygonFull, polygonBytes, modeBytes, pointBytes, penBytes, rectangleBytes, mostPen, quarterAngle, leastAngle, defaultAngle, tenth}
 use Rattle.hpgl.specs.Place.{point, rounded, axisX, axisY, location, inRange, absolutePosition, relativePosition, restAt, pagePoint}
 use Rattle.hpgl.specs.Change.{withPosition, withPen, withRelative, withPolygon, withSettings, withCarriage, withCorners, withScale, withTurn, withWindow}
 
@@ -60,7 +61,7 @@ freshSettings r = record {
   p1 = point (r .left) (r .bottom);
   p2 = point (r .right) (r .top);
   scale = unscaled;
-  turn = 0;
+  turn = upright;
   window = noWindow;
 }
 
@@ -171,9 +172,9 @@ setTurn c t = done (rebased c (withTurn (c .settings) t)) Keep
 -- "RO: 0 or 90; none is 0"
 unfoldable pub roRule : Core → Numbers → Acted
 roRule c n =
-    cond (eqb (n .count) 0) (setTurn c 0)
-    (cond (rounded (n .first) ≡? pos 0) (setTurn c 0)
-    (cond (rounded (n .first) ≡? pos 90) (setTurn c 1)
+    cond (eqb (n .count) 0) (setTurn c upright)
+    (cond (rounded (n .first) ≡? pos 0) (setTurn c upright)
+    (cond (rounded (n .first) ≡? pos quarterAngle) (setTurn c quarter)
     (refuse c outOfRange)))
 
 unfoldable pub setWindow : Core → Point → Point → Acted
@@ -197,7 +198,7 @@ setPen c n =
 unfoldable pub spRule : Core → Numbers → Acted
 spRule c n =
     cond (eqb (n .count) 0) (setPen c 0)
-    (cond ((pos 0 ≤? rounded (n .first)) && (rounded (n .first) ≤? pos 8)) (setPen c (natAbs (rounded (n .first))))
+    (cond ((pos 0 ≤? rounded (n .first)) && (rounded (n .first) ≤? pos mostPen)) (setPen c (natAbs (rounded (n .first))))
     (refuse c outOfRange))
 
 -- ---- Strokes
@@ -283,7 +284,7 @@ closes c =
     not (c .carriage .polygon .empty) &&
     differ (location (c .settings) (c .carriage .position)) (location (c .settings) (c .carriage .polygon .first))
 
--- the subpolygon is ended: n bytes and k edges more
+-- the subpolygon is ended: n bytes and k edges more; mode says whether polygon mode goes on
 unfoldable pub endedWith : Polygon → Bool → ℕ → ℕ → Polygon
 endedWith g mode n k = record { mode = mode; bytes = g .bytes + n; edges = g .edges + k; empty = true; first = g .first; saved = g .saved }
 
@@ -367,7 +368,7 @@ erRule c n = rectangleTo c (relativePosition (c .carriage .position) (firstTwo n
 
 -- ---- Circles
 
--- "The four points at 0, 90, 180, 270 degrees must be in range."
+-- "The four points at 0, 90, 180, 270 degrees must be in range." They are the vertices at these angles: `point-90` and its like in CircleLaws.antt of plane
 unfoldable pub circleFits : Core → ℤ → Bool
 circleFits c r =
     inRange (location (c .settings) (relativePosition (c .carriage .position) (record { x = r; y = pos 0 }))) &&
@@ -387,13 +388,13 @@ circle c r a = record {
 -- "the angle in tenths of a degree, rounded, 5 to 1200"; "It is drawn also when the pen is up; position and pen stay."
 unfoldable pub circleWith : Core → ℤ → ℤ → Acted
 circleWith c r a =
-    cond ((pos 5 ≤? a) && (a ≤? pos 1200))
+    cond ((pos leastAngle ≤? a) && (a ≤? pos mostAngle))
     (cond (circleFits c r) (done c (cond (inked c) (Chords (circle c r (natAbs a))) Keep)) (refuse c tooFar))
     (refuse c outOfRange)
 
 -- "default 50"
 unfoldable pub chordAngle : Numbers → ℤ
-chordAngle n = cond (eqb (n .count) 1) (pos 50) (nearestDiv (n .second) (pos 1000))
+chordAngle n = cond (eqb (n .count) 1) (pos defaultAngle) (nearestDiv (n .second) (pos tenth))
 
 unfoldable pub ciRule : Core → Numbers → Acted
 ciRule c n = circleWith c (n .first) (chordAngle n)

@@ -34,7 +34,7 @@ module _ (d : Core) (t : d .settings .turn < turnCount) where
   located-from : (p : PolygonPoint) (ps : Subpolygon) → All (sidesFrom d p ps)
   unfolding sidesFrom
   located-from p [] = none
-  located-from p (q ∷ ps) = more (located-segment (p .at) (q .at) (q .down)) (located-from q ps)
+  located-from p (q ∷ ps) = more (located-segment (p .exact) (q .exact) (q .down)) (located-from q ps)
 
   located-sides : (ps : Subpolygon) → All (sides d ps)
   unfolding sides

@@ -23,11 +23,11 @@ use Rattle.hpgl.specs.declared.Window.{Window}
 use Rattle.hpgl.specs.declared.Settings.{Settings}
 use Rattle.hpgl.specs.declared.Carriage.{Carriage}
 use Rattle.hpgl.specs.declared.Core.{Core}
-use Rattle.hpgl.specs.Numbers.{unknown, outOfRange}
+use Rattle.hpgl.specs.Numbers.{unknown, outOfRange, mostPen, quarterAngle}
 use Rattle.hpgl.specs.Place.{rounded, axisX, axisY, location, inRange}
 use Rattle.hpgl.specs.Change.{withSettings, withCarriage, withCorners, withScale, withTurn, withWindow, withRelative}
 use Rattle.hpgl.specs.Rules.{unscaled, noWindow, freshSettings, noPolygon, freshCarriage, letters, nameRule, rebased, inRule, dfRule, int16, goodCorners, setCorners, ipRule, scRule, setTurn, roRule, setWindow, iwRule, setPen, spRule}
-use Rattle.hpgl.specs.Valid.{mostPen, ShortPoint, ShortRect, ValidRange, ValidSettings, Placed, ValidPolygon, ValidCore, ValidActed}
+use Rattle.hpgl.specs.Valid.{ShortPoint, ShortRect, ValidRange, ValidSettings, Placed, ValidPolygon, ValidCore, ValidActed}
 use Rattle.hpgl.specs.CodeFacts.{and-both, from-to, in-range-small, rest-placed, page-small, back-small, relative-valid}
 use Rattle.hpgl.specs.Cases.{never, pick}
 use Rattle.hpgl.specs.KeptCases.{when, valid-core, closed-polygon, refuses, keeps}
@@ -215,7 +215,7 @@ module _ {c : Core} (w : ValidCore c) (o : c .carriage .polygon .mode ≡ false)
   valid-ro n =
       pick (ValidActed c) (eqb (n .count) 0) (valid-turn 0 (omega arith))
       (pick (ValidActed c) (rounded (n .first) ≡? pos 0) (valid-turn 0 (omega arith))
-      (pick (ValidActed c) (rounded (n .first) ≡? pos 90) (valid-turn 1 (omega arith))
+      (pick (ValidActed c) (rounded (n .first) ≡? pos quarterAngle) (valid-turn 1 (omega arith))
       (refuses c c outOfRange (omega arith) w)))
 
   pub valid-window : (p q : Point) → ValidActed c (setWindow c p q)
@@ -239,4 +239,4 @@ unfolding spRule
 valid-sp {c} n w =
     let z : ℤ = rounded (n .first) in
     pick (ValidActed c) (eqb (n .count) 0) (valid-pen 0 w (omega arith))
-    (when (ValidActed c) ((pos 0 ≤? z) && (z ≤? pos 8)) (λ e. valid-pen (natAbs z) w (from-to 0 mostPen z e .2)) (λ e. refuses c c outOfRange (omega arith) w))
+    (when (ValidActed c) ((pos 0 ≤? z) && (z ≤? pos mostPen)) (λ e. valid-pen (natAbs z) w (from-to 0 mostPen z e .2)) (λ e. refuses c c outOfRange (omega arith) w))

@@ -17,6 +17,7 @@ use Rattle.reader.specs.declared.Numbers.{Numbers}
 use Rattle.reader.specs.declared.Event.{Event}
 use Rattle.reader.specs.declared.Event.the-variants.{Nothing, Named, Pair, Ended, Refused}
 use Rattle.reader.specs.Table.{IN, DF, EP, IP, SC, IW, RO, SP, PM, CI, EA, ER, PU, PD, PA, PR, cellOf, knownInPolygon}
+use Rattle.plane.specs.Bounds.{mostAngle}
 use Rattle.plane.specs.Position.{axisOf}
 use Rattle.plane.specs.Turn.{turnCount, turnedOf, orderedOf}
 use Rattle.plane.specs.declared.circle.Way.{Way}
@@ -35,14 +36,12 @@ use Rattle.hpgl.specs.declared.Action.{Action}
 use Rattle.hpgl.specs.declared.Action.the-variants.{Keep, Line, Chords, Outline}
 use Rattle.hpgl.specs.declared.Acted.{Acted}
 use Rattle.hpgl.specs.declared.Work.the-variants as work
-use Rattle.hpgl.specs.Numbers.{polygonBytes, modeBytes, pointBytes}
+use Rattle.hpgl.specs.Numbers.{polygonBytes, modeBytes, pointBytes, mostPen, quarterAngle, leastAngle}
 use Rattle.hpgl.specs.Place.{point, rounded, axisX, axisY, exactPosition, location, inRange, absolutePosition, relativePosition, pagePoint}
 use Rattle.hpgl.specs.Change.{withPosition, withPen, withPolygon, withSettings, withCarriage, withCorners, withScale, withTurn, withWindow}
-use Rattle.hpgl.specs.Rules as rules
-use Rattle.hpgl.specs.Rules.{done, refuse, unscaled, noWindow, freshSettings, noPolygon, freshCarriage, letters, nameRule, rebased, inRule, dfRule, goodCorners, setCorners, ipRule, scRule, setTurn, roRule, setWindow, iwRule, setPen, spRule, inked, spent, moveTo, pointCost, longer, edgeTo, storePoint, aimed, goTo, pairRule, begun, pm0, differ, closes, endedWith, pm1In, pm1, leave, pm2In, pm2, pmRule, epRule, rectangular, rectangleTo, firstTwo, eaRule, erRule, circleFits, circle, circleWith, chordAngle, ciRule, endRule, actOn}
+use Rattle.hpgl.specs.Rules.{done, refuse, unscaled, noWindow, freshSettings, noPolygon, freshCarriage, letters, nameRule, rebased, inRule, dfRule, goodCorners, setCorners, ipRule, scRule, setTurn, roRule, setWindow, iwRule, setPen, spRule, inked, spent, moveTo, pointCost, longer, edgeTo, storePoint, aimed, goTo, pairRule, begun, pm0, differ, closes, endedWith, ended, pm1In, pm1, leave, pm2In, pm2, pmRule, epRule, rectangular, rectangleTo, firstTwo, eaRule, erRule, circleFits, circle, circleWith, chordAngle, ciRule, endRule, actOn}
 use Rattle.hpgl.specs.Machine.{vertex, rectangleEdges, stored, queued}
-use Rattle.hpgl.specs.ExactModel as model
-use Rattle.hpgl.specs.ExactModel.{ExactPolygon, Segment, segment, outline, vertexAt, chords, rectangle, polygonMode, polygonAfter, inkedOnly, move, instructed, added}
+use Rattle.hpgl.specs.ExactModel.{ExactPolygon, Segment, segment, outline, vertexAt, chords, lastOf, rectangle, polygonMode, afterEnd, polygonAfter, inkedOnly, move, instructed, added}
 use Rattle.hpgl.specs.Related.{Sound, Fit, edgesFrom, edgesOf, edgesAfter, allEdges, polygonEdges, some, Linked, turnedEdges, chordsFrom, view, onPage}
 use Rattle.hpgl.specs.PolygonLinked.{location-nearest, grown, ended-closed, ended-open, rectangle-linked, turned-outline}
 
@@ -134,12 +133,12 @@ unfolding view onPage
 drawn-edges s es n gs true h = refl
 drawn-edges s es n gs false h = h
 
-cost : (p : Pen) → 9 ≤ pointCost p
+cost : (p : Pen) → pointBytes ≤ pointCost p
 unfolding pointCost
-cost p = pick (λ (n : ℕ). 9 ≤ n) (p .changed) (omega arith) (omega arith)
+cost p = pick (λ (n : ℕ). pointBytes ≤ n) (p .changed) (omega arith) (omega arith)
 
--- a point takes 9 bytes and makes at most one edge
-more-room : (empty : Bool) (e b n : ℕ) → 9 ≤ n → 11 + 9 * e ≤ b → 11 + 9 * cond empty e (e + 1) ≤ b + n
+-- a point takes the bytes of an edge and makes at most one
+more-room : (empty : Bool) (e b n : ℕ) → pointBytes ≤ n → modeBytes + pointBytes + pointBytes * e ≤ b → modeBytes + pointBytes + pointBytes * cond empty e (e + 1) ≤ b + n
 more-room true e b n h k = omega arith
 more-room false e b n h k = omega arith
 
@@ -188,7 +187,7 @@ module _ (c : Core) (es : List Edge) (g : ExactPolygon) (f : Fit (c .settings) (
   -- ---- settings
 
   keeps-in : (n : Numbers) → Keeps c es g (Ended IN n) (inRule c)
-  unfolding inRule done freshCarriage noPolygon polygonBy addedBy polygonAfter model.ended added instructed stored queued view onPage edgesFrom polygonEdges allEdges edgesOf
+  unfolding inRule done freshCarriage noPolygon polygonBy addedBy polygonAfter afterEnd added instructed stored queued view onPage edgesFrom polygonEdges allEdges edgesOf
   keeps-in n = record {
     kept = record {
       fit = record { sound = sound-fresh (c .settings .hard); room = λ h. never refl h };
@@ -206,11 +205,11 @@ module _ (c : Core) (es : List Edge) (g : ExactPolygon) (f : Fit (c .settings) (
       (record { size = l .size; edges = ap (λ (x : Polygon). edgesFrom es 0 (x .edges)) k ∙ l .edges; current = λ h. never m h })
 
   keeps-df : (n : Numbers) → c .carriage .polygon .mode ≡ false → Keeps c es g (Ended DF n) (dfRule c)
-  unfolding dfRule rebased polygonAfter model.ended added instructed
+  unfolding dfRule rebased polygonAfter afterEnd added instructed
   keeps-df n o = settles (Ended DF n) _ refl refl o refl (sound-window (withScale (c .settings) unscaled) noWindow (sound-unscaled (c .settings) (f .sound)))
 
   keeps-corners : (n : Numbers) (p q : Point) → c .carriage .polygon .mode ≡ false → Keeps c es g (Ended IP n) (setCorners c p q)
-  unfolding setCorners rebased polygonAfter model.ended added instructed
+  unfolding setCorners rebased polygonAfter afterEnd added instructed
   keeps-corners n p q o = both (goodCorners p q) (settles (Ended IP n) _ refl refl o refl (sound-corners (c .settings) p q (f .sound))) (refused (Ended IP n) 2)
 
   keeps-ip : (n : Numbers) → c .carriage .polygon .mode ≡ false → Keeps c es g (Ended IP n) (ipRule c n)
@@ -218,7 +217,7 @@ module _ (c : Core) (es : List Edge) (g : ExactPolygon) (f : Fit (c .settings) (
   keeps-ip n o = both (eqb (n .count) 0) (keeps-corners n _ _ o) (both (eqb (n .count) 2) (keeps-corners n _ _ o) (keeps-corners n _ _ o))
 
   keeps-sc : (n : Numbers) → c .carriage .polygon .mode ≡ false → Keeps c es g (Ended SC n) (scRule c n)
-  unfolding scRule rebased polygonAfter model.ended added instructed
+  unfolding scRule rebased polygonAfter afterEnd added instructed
   keeps-sc n o =
       both (eqb (n .count) 0) (settles (Ended SC n) _ refl refl o refl (sound-unscaled (c .settings) (f .sound)))
       (when (n .first ≡? n .second) (λ x. refused (Ended SC n) 2)
@@ -226,7 +225,7 @@ module _ (c : Core) (es : List Edge) (g : ExactPolygon) (f : Fit (c .settings) (
       (λ y. settles (Ended SC n) _ refl refl o refl (sound-scaled (c .settings) (n .first) (n .second) (n .third) (n .fourth) x y (f .sound)))))
 
   keeps-turn : (n : Numbers) (t : ℕ) → t < turnCount → c .carriage .polygon .mode ≡ false → Keeps c es g (Ended RO n) (setTurn c t)
-  unfolding setTurn rebased polygonAfter model.ended added instructed
+  unfolding setTurn rebased polygonAfter afterEnd added instructed
   keeps-turn n t h o = settles (Ended RO n) _ refl refl o refl (sound-turn (c .settings) t h (f .sound))
 
   keeps-ro : (n : Numbers) → c .carriage .polygon .mode ≡ false → Keeps c es g (Ended RO n) (roRule c n)
@@ -234,12 +233,12 @@ module _ (c : Core) (es : List Edge) (g : ExactPolygon) (f : Fit (c .settings) (
   keeps-ro n o =
       both (eqb (n .count) 0) (keeps-turn n 0 (omega arith) o)
       (both (rounded (n .first) ≡? pos 0) (keeps-turn n 0 (omega arith) o)
-      (both (rounded (n .first) ≡? pos 90) (keeps-turn n 1 (omega arith) o)
+      (both (rounded (n .first) ≡? pos quarterAngle) (keeps-turn n 1 (omega arith) o)
       (refused (Ended RO n) 2)))
 
   keeps-window : (n : Numbers) (k : Window) → c .carriage .polygon .mode ≡ false →
       Keeps c es g (Ended IW n) (done (withSettings c (withWindow (c .settings) k)) Keep)
-  unfolding polygonAfter model.ended added instructed
+  unfolding polygonAfter afterEnd added instructed
   keeps-window n k o = settles (Ended IW n) _ refl refl o refl (sound-window (c .settings) k (f .sound))
 
   keeps-iw : (n : Numbers) → c .carriage .polygon .mode ≡ false → Keeps c es g (Ended IW n) (iwRule c n)
@@ -251,14 +250,14 @@ module _ (c : Core) (es : List Edge) (g : ExactPolygon) (f : Fit (c .settings) (
       (both (inRange p && inRange q) (keeps-window n (record { set = true; area = orderedOf p q }) o) (refused (Ended IW n) 2))
 
   keeps-pen : (n : Numbers) (k : ℕ) → Keeps c es g (Ended SP n) (setPen c k)
-  unfolding setPen polygonAfter model.ended added instructed
+  unfolding setPen polygonAfter afterEnd added instructed
   keeps-pen n k = calm (Ended SP n) _ refl refl f l
 
   keeps-sp : (n : Numbers) → Keeps c es g (Ended SP n) (spRule c n)
   unfolding spRule
   keeps-sp n =
       both (eqb (n .count) 0) (keeps-pen n 0)
-      (both ((pos 0 ≤? rounded (n .first)) && (rounded (n .first) ≤? pos 8)) (keeps-pen n (natAbs (rounded (n .first)))) (refused (Ended SP n) 2))
+      (both ((pos 0 ≤? rounded (n .first)) && (rounded (n .first) ≤? pos mostPen)) (keeps-pen n (natAbs (rounded (n .first)))) (refused (Ended SP n) 2))
 
   -- ---- pairs
 
@@ -298,8 +297,8 @@ module _ (c : Core) (es : List Edge) (g : ExactPolygon) (f : Fit (c .settings) (
       let more : ℕ = pointCost (c .carriage .pen) in
       when (leb (k .bytes + more) polygonBytes)
       (λ e. let h : k .bytes + more ≤ polygonBytes = leb-true _ _ e in
-      let r : 11 + 9 * k .edges ≤ k .bytes = f .room o in
-      let q : 9 ≤ more = cost (c .carriage .pen) in
+      let r : modeBytes + pointBytes + pointBytes * k .edges ≤ k .bytes = f .room o in
+      let q : pointBytes ≤ more = cost (c .carriage .pen) in
       record {
         kept = recast (cond-true _ _ _ o) (cond-true _ _ _ o) (record {
           fit = record { sound = f .sound; room = λ m. more-room (k .empty) (k .edges) (k .bytes) more q r };
@@ -319,7 +318,7 @@ module _ (c : Core) (es : List Edge) (g : ExactPolygon) (f : Fit (c .settings) (
   -- ---- polygons
 
   keeps-pm0 : (n : Numbers) → Keeps c es g (Ended PM n) (pm0 c)
-  unfolding pm0 done begun polygonBy addedBy polygonAfter model.ended polygonMode added instructed stored queued view onPage edgesFrom polygonEdges allEdges edgesOf edgesAfter model.lastOf
+  unfolding pm0 done begun polygonBy addedBy polygonAfter afterEnd polygonMode added instructed stored queued view onPage edgesFrom polygonEdges allEdges edgesOf edgesAfter lastOf
   keeps-pm0 n =
       when (c .carriage .polygon .mode) (λ o. refused (Ended PM n) 2)
       (λ o. record {
@@ -331,18 +330,18 @@ module _ (c : Core) (es : List Edge) (g : ExactPolygon) (f : Fit (c .settings) (
       })
 
   keeps-pm1 : (n : Numbers) → c .carriage .polygon .mode ≡ true → Keeps c es g (Ended PM n) (pm1In c)
-  unfolding pm1In closes done rules.ended edgeTo endedWith polygonBy addedBy polygonAfter model.ended polygonMode added instructed stored queued view onPage
+  unfolding pm1In closes done ended edgeTo endedWith polygonBy addedBy polygonAfter afterEnd polygonMode added instructed stored queued view onPage
   keeps-pm1 n o =
       let k : Polygon = c .carriage .polygon in
       let p : Position = c .carriage .position in
-      let r : 11 + 9 * k .edges ≤ k .bytes = f .room o in
+      let r : modeBytes + pointBytes + pointBytes * k .edges ≤ k .bytes = f .room o in
       when (not (k .empty) && differ (location (c .settings) p) (location (c .settings) (k .first)))
       (λ e. when (leb (k .bytes + (modeBytes + pointBytes)) polygonBytes)
-      (λ b. let h : k .bytes + 11 ≤ polygonBytes = leb-true _ _ b in
+      (λ b. let h : k .bytes + (modeBytes + pointBytes) ≤ polygonBytes = leb-true _ _ b in
       record {
         kept = recast (cond-true _ _ _ o) refl (record {
           fit = record { sound = f .sound; room = λ m. omega arith };
-          linked = ended-closed (c .settings) (f .sound) p _ k true 11 (c .carriage .pen .down) es g (omega arith) o e l;
+          linked = ended-closed (c .settings) (f .sound) p _ k true (modeBytes + pointBytes) (c .carriage .pen .down) es g (omega arith) o e l;
           queue = refl;
         });
       })
@@ -351,27 +350,27 @@ module _ (c : Core) (es : List Edge) (g : ExactPolygon) (f : Fit (c .settings) (
       (record {
         kept = recast (cond-true _ _ _ o) refl (record {
           fit = record { sound = f .sound; room = λ m. omega arith };
-          linked = ended-open (c .settings) (f .sound) p p k true 2 (c .carriage .pen .down) es g o e l;
+          linked = ended-open (c .settings) (f .sound) p p k true modeBytes (c .carriage .pen .down) es g o e l;
           queue = refl;
         });
       })
       (refused (Ended PM n) 6))
 
   keeps-pm2 : (n : Numbers) → c .carriage .polygon .mode ≡ true → Keeps c es g (Ended PM n) (pm2In c)
-  unfolding pm2In closes done refuse leave edgeTo endedWith polygonBy addedBy polygonAfter model.ended polygonMode added instructed stored queued view onPage
+  unfolding pm2In closes done refuse leave edgeTo endedWith polygonBy addedBy polygonAfter afterEnd polygonMode added instructed stored queued view onPage
   keeps-pm2 n o =
       let k : Polygon = c .carriage .polygon in
       let p : Position = c .carriage .position in
       let back : Position = k .saved .position in
-      let r : 11 + 9 * k .edges ≤ k .bytes = f .room o in
+      let r : modeBytes + pointBytes + pointBytes * k .edges ≤ k .bytes = f .room o in
       let same : k .edges + 0 ≡ k .edges = omega arith in
       when (not (k .empty) && differ (location (c .settings) p) (location (c .settings) (k .first)))
       (λ e. when (leb (k .bytes + pointBytes) polygonBytes)
-      (λ b. let h : k .bytes + 9 ≤ polygonBytes = leb-true _ _ b in
+      (λ b. let h : k .bytes + pointBytes ≤ polygonBytes = leb-true _ _ b in
       record {
         kept = recast (cond-true _ _ _ o) refl (record {
           fit = record { sound = f .sound; room = λ m. never refl m };
-          linked = ended-closed (c .settings) (f .sound) p back k false 9 (c .carriage .pen .down) es g (omega arith) o e l;
+          linked = ended-closed (c .settings) (f .sound) p back k false pointBytes (c .carriage .pen .down) es g (omega arith) o e l;
           queue = refl;
         });
       })
@@ -400,7 +399,7 @@ module _ (c : Core) (es : List Edge) (g : ExactPolygon) (f : Fit (c .settings) (
       (refused (Ended PM n) 2))))
 
   keeps-ep : (n : Numbers) → Keeps c es g (Ended EP n) (epRule c)
-  unfolding epRule done inked polygonBy addedBy polygonAfter model.ended added instructed inkedOnly stored queued view onPage
+  unfolding epRule done inked polygonBy addedBy polygonAfter afterEnd added instructed inkedOnly stored queued view onPage
   keeps-ep n = record {
     kept = by-ink (λ (a : Action) (gs : List Segment). Matched c c a es g gs) (eqb (c .carriage .pen .number) 0) Outline (outline c g)
         (record { fit = f; linked = l; queue = ap (turnedEdges (c .settings .turn)) (l .edges) ∙ turned-outline c g })
@@ -430,11 +429,11 @@ module _ (c : Core) (es : List Edge) (g : ExactPolygon) (f : Fit (c .settings) (
       (refused e 5)
 
   keeps-ea : (n : Numbers) → Keeps c es g (Ended EA n) (eaRule c n)
-  unfolding eaRule polygonAfter model.ended added instructed
+  unfolding eaRule polygonAfter afterEnd added instructed
   keeps-ea n = keeps-rectangle (Ended EA n) (absolutePosition (c .settings) (firstTwo n)) (λ d. refl) (λ d x. refl)
 
   keeps-er : (n : Numbers) → Keeps c es g (Ended ER n) (erRule c n)
-  unfolding erRule polygonAfter model.ended added instructed
+  unfolding erRule polygonAfter afterEnd added instructed
   keeps-er n = keeps-rectangle (Ended ER n) (relativePosition (c .carriage .position) (firstTwo n)) (λ d. refl) (λ d x. refl)
 
   -- ---- circles
@@ -455,10 +454,10 @@ module _ (c : Core) (es : List Edge) (g : ExactPolygon) (f : Fit (c .settings) (
   same-chords r a i (suc n) = λ j. record { start = same-vertex r a i j; end = same-vertex r a (i + 1) j; shown = true } ∷ same-chords r a (i + 1) n j
 
   keeps-ci : (n : Numbers) → Keeps c es g (Ended CI n) (ciRule c n)
-  unfolding ciRule circleWith done inked circle polygonBy addedBy polygonAfter model.ended added instructed inkedOnly stored queued view onPage
+  unfolding ciRule circleWith done inked circle polygonBy addedBy polygonAfter afterEnd added instructed inkedOnly stored queued view onPage
   keeps-ci n =
       let a : ℤ = chordAngle n in
-      both ((pos 5 ≤? a) && (a ≤? pos 1200))
+      both ((pos leastAngle ≤? a) && (a ≤? pos mostAngle))
       (both (circleFits c (n .first))
       (record {
         kept = by-ink (λ (x : Action) (gs : List Segment). Matched c c x es g gs) (eqb (c .carriage .pen .number) 0) (Chords (circle c (n .first) (natAbs a)))
@@ -491,7 +490,7 @@ module _ (c : Core) (es : List Edge) (g : ExactPolygon) (f : Fit (c .settings) (
   -- PU, PD, PA, PR have done their work
   keeps-other : (op : ℕ) (n : Numbers) → eqb op IN ≡ false → eqb op EP ≡ false → eqb op PM ≡ false → eqb op CI ≡ false → eqb op EA ≡ false → eqb op ER ≡ false →
       Keeps c es g (Ended op n) (done c Keep)
-  unfolding polygonAfter model.ended added instructed
+  unfolding polygonAfter afterEnd added instructed
   keeps-other op n i p m k a r = calm (Ended op n) c (rw (i, m, a, r) refl) (rw (i, m, a, r, p, k) refl) f l
 
   keeps-end : (op : ℕ) (n : Numbers) → (c .carriage .polygon .mode ≡ true → knownInPolygon op ≡ true) → Keeps c es g (Ended op n) (endRule c op n)

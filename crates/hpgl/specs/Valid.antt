@@ -31,23 +31,12 @@ use Rattle.hpgl.specs.declared.Acted.{Acted}
 use Rattle.hpgl.specs.declared.Work.{Work}
 use Rattle.hpgl.specs.declared.Work.the-variants as work
 use Rattle.hpgl.specs.declared.State.{State}
-use Rattle.hpgl.specs.Numbers.{polygonBytes, modeBytes, pointBytes}
+use Rattle.hpgl.specs.Numbers.{polygonBytes, modeBytes, pointBytes, mostEdges, mostPen, leastAngle}
 use Rattle.hpgl.specs.Place.{axisX, axisY, location}
 
--- a pen has a number "0 to 8"
-abbrev pub mostPen : ℕ
-mostPen = 8
-
--- the chord angle is "5 to 1200" (the most stands in plane): so a circle has at most 3600 / 5 chords
-abbrev pub leastAngle : ℕ
-leastAngle = 5
-
+-- the chord angle is at least 5 tenths of a degree: so a circle has at most 3600 / 5 chords
 abbrev pub mostChords : ℕ
 mostChords = 720
-
--- the store's length: of 1024 bytes PM0 takes 11, and each edge at least 9
-abbrev pub mostEdges : ℕ
-mostEdges = 112
 
 -- ---- settings
 

@@ -29,7 +29,8 @@ use Rattle.hpgl.specs.declared.State.{State}
 use Rattle.hpgl.specs.Place.{point}
 use Rattle.hpgl.specs.Rules.{freshSettings, noPolygon, freshCarriage, freshCore, int16, endRule, actOn}
 use Rattle.hpgl.specs.Machine.{goodLimits, hardLimits, noEdge, freshState, waiting, rectangleEdges, stored, queued, applied, acted, takeState, workAfter, drawState}
-use Rattle.hpgl.specs.Valid.{mostEdges, ValidSettings, ValidCore, ValidEvent, SmallEdge, ValidAction, ValidActed, ValidWork, Every, none, more, Knows, Valid}
+use Rattle.hpgl.specs.Numbers.{mostEdges}
+use Rattle.hpgl.specs.Valid.{ValidSettings, ValidCore, ValidEvent, SmallEdge, ValidAction, ValidActed, ValidWork, Every, none, more, Knows, Valid}
 use Rattle.hpgl.specs.Made as made
 use Rattle.hpgl.specs.CodeFacts.{and-both, rest-placed, origin-small, unknown-outside, chords-most}
 use Rattle.hpgl.specs.Cases.{never, pick}
@@ -152,8 +153,8 @@ valid-fresh r = record {
   reader = fresh-law;
   known = λ o. never refl o;
   core = valid-core (hard-valid r) (rest-placed (hard-valid r) origin-small) (omega arith) no-polygon;
-  edges = all 112;
-  length = length-replicate 112 noEdge;
+  edges = all mostEdges;
+  length = length-replicate mostEdges noEdge;
   work = tt;
 }
   where

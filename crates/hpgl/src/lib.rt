@@ -32,7 +32,7 @@ pub struct Window {
     pub area: Rect,
 }
 
-// What belongs to the sheet: hard limits, P1, P2, scale, turn (its place in the table of turns), window.
+// What belongs to the sheet, whoever paints on it: hard limits, P1, P2, scale, turn (its place in the table of turns), window.
 pub struct Settings {
     pub hard: Rect,
     pub p1: Point,
@@ -107,7 +107,7 @@ pub enum Action {
     Join(Edge),
     // the stored edges are drawn
     Outline,
-    // the polygon is a rectangle of two opposite corners, drawn or not
+    // the store gets the edges of the rectangle between two opposite corners, and they are drawn or not
     Rectangle(Point, Point, bool),
 }
 
@@ -118,9 +118,12 @@ pub struct Acted {
     pub number: u8,
 }
 
+// The edges that fit into a polygon: mostEdges of specs/Numbers.antt.
+pub const MOST_EDGES: usize = 112;
+
 // The edges that EP draws: as many as the polygon counts.
 pub struct Store {
-    pub edges: [Edge; 112],
+    pub edges: [Edge; MOST_EDGES],
 }
 
 // The segments that wait, all from one byte: none; one move, between two page points; the chords of a circle, or the stored edges, from one

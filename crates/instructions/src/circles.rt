@@ -7,7 +7,11 @@ ghost use Rattle.hpgl.specs.Place as P;
 ghost use Rattle.hpgl.specs.Rules as R;
 ghost use Rattle.hpgl.specs.Valid.{ValidCore};
 use super::moves::inked;
+use super::numbers::DEFAULT_ANGLE;
+use super::numbers::LEAST_ANGLE;
+use super::numbers::MOST_ANGLE;
 use super::numbers::OUT_OF_RANGE;
+use super::numbers::TENTH;
 use super::numbers::TOO_FAR;
 use super::places::axis_x;
 use super::places::axis_y;
@@ -25,16 +29,6 @@ use plane::circle::Way;
 use plane::circle::centre_of;
 use reader::Coordinates;
 use reader::Numbers;
-
-// The chord angle, in tenths of a degree: its range, and what it is where none is given.
-const LEAST_ANGLE: i64 = 5;
-
-const MOST_ANGLE: i64 = 1200;
-
-const DEFAULT_ANGLE: i64 = 50;
-
-// Ten-thousandths of a degree in a tenth.
-const TENTH: i64 = 1000;
 
 // Whether the point a way from the position is in range.
 fn way_fits(c: Core, way: Coordinates) -> bool

@@ -1,4 +1,4 @@
-// The numbers of document 01, as specs/Numbers.antt of the crate hpgl has them.
+// The numbers of document 01, as specs/Numbers.antt of the crate hpgl has them (mostAngle stands in Bounds.antt of plane).
 
 // Refusals: unknown in polygon mode, number or setting out of range, location out of range, polygon bytes, bad hard limits, take while a segment waits.
 pub const UNKNOWN: u8 = 1;
@@ -23,3 +23,20 @@ pub const POINT_BYTES: u16 = 9;
 pub const PEN_BYTES: u16 = 2;
 
 pub const RECTANGLE_BYTES: u16 = 49;
+
+// The last pen, and the angle of RO that is a quarter turn.
+pub const MOST_PEN: i64 = 8;
+
+pub const QUARTER_ANGLE: i64 = 90;
+
+// The chord angle, in tenths of a degree: its range, and what it is where none is given.
+pub const LEAST_ANGLE: i64 = 5;
+
+pub const MOST_ANGLE: i64 = 1200;
+
+pub const DEFAULT_ANGLE: i64 = 50;
+
+// One and a tenth, in ten-thousandths.
+pub const ONE: i64 = 10_000;
+
+pub const TENTH: i64 = 1000;

@@ -5,6 +5,7 @@ ghost use Rattle.plane.specs.Bounds.{mostNumber, mostProduct};
 ghost use Rattle.hpgl.specs.Place as P;
 ghost use Rattle.hpgl.specs.Valid.{ValidSettings, LocatablePosition, Placed};
 ghost use Rattle.reader.specs.Sizes.{SmallPair};
+use super::numbers::ONE;
 use clip::Point;
 use clip::Rect;
 use exact::nearest_div;
@@ -21,15 +22,12 @@ use plane::position::relative;
 use plane::turn::turned;
 use reader::Coordinates;
 
-// Numbers are ten-thousandths.
-const TEN_THOUSAND: i64 = 10_000;
-
 // A number that is rounded first.
 pub fn rounded(n: i64) -> i64
     requires { ⌜ Bd n mostNumber ⌝ }
     ensures { λ r. ⌜ r ≡ P.rounded n ⌝ }
 {
-    nearest_div(n, TEN_THOUSAND)
+    nearest_div(n, ONE)
 }
 
 pub fn axis_x(s: Settings) -> Axis

@@ -19,7 +19,9 @@ use super::changes::with_scale;
 use super::changes::with_settings;
 use super::changes::with_turn;
 use super::changes::with_window;
+use super::numbers::MOST_PEN;
 use super::numbers::OUT_OF_RANGE;
+use super::numbers::QUARTER_ANGLE;
 use super::places::absolute_position;
 use super::places::located;
 use super::places::page_point;
@@ -49,17 +51,13 @@ const LEAST: i64 = -32_768;
 
 const MOST: i64 = 32_767;
 
-// The turns, by their places in the table, and the angle of the second.
+// The turns, by their places in the table.
 const UPRIGHT: usize = 0;
 
 const QUARTER: usize = 1;
 
-const QUARTER_ANGLE: i64 = 90;
-
 // Pens are numbered from 0, which paints nothing.
 const NO_PEN: u8 = 0;
-
-const LAST_PEN: i64 = 8;
 
 // Carried out.
 pub fn done(c: Core, a: Action) -> Acted
@@ -533,7 +531,7 @@ pub fn sp_rule(c: Core, n: Numbers) -> Acted
     }
     let number = rounded(n.first);
     if 0 <= number {
-        if number <= LAST_PEN {
+        if number <= MOST_PEN {
             return set_pen(c, number as u8);
         }
         return refuse(c, OUT_OF_RANGE);

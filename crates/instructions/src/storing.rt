@@ -3,7 +3,8 @@ ghost use mathlib.Core.Path.{_≡_};
 ghost use Prim.Native.Nat.{_<_};
 ghost use lib.ListN.{set};
 ghost use Rattle.hpgl.specs.Machine as M;
-ghost use Rattle.hpgl.specs.Valid.{mostEdges, ValidAction};
+ghost use Rattle.hpgl.specs.Numbers.{mostEdges};
+ghost use Rattle.hpgl.specs.Valid.{ValidAction};
 use super::settings::fresh_core;
 use super::settings::hard_limits;
 use clip::Point;
@@ -12,14 +13,12 @@ use hpgl::Acted;
 use hpgl::Action;
 use hpgl::Core;
 use hpgl::Edge;
+use hpgl::MOST_EDGES;
 use hpgl::State;
 use hpgl::Store;
 use hpgl::Work;
 use plane::circle::chords;
 use reader::Reader;
-
-// The store's length.
-const MOST_EDGES: usize = 112;
 
 fn edge(p: Point, q: Point) -> Edge
     ensures { λ r. ⌜ r ≡ M.edge p q ⌝ }

@@ -10,12 +10,18 @@ use Rattle.plane.specs.Fractions.{timesF, sumF}
 use Rattle.clip.specs.declared.Point.{Point}
 use Rattle.clip.specs.declared.Rect.{Rect}
 
--- the tables, row by row: turn 0 leaves a point in its place, turn 1 is the quarter turn
+-- the tables, row by row: `upright` leaves a point in its place, `quarter` is the quarter turn
 unfoldable pub turns : List (List (List ℤ))
 turns =
     ((pos 1 ∷ pos 0 ∷ []) ∷ (pos 0 ∷ pos 1 ∷ []) ∷ []) ∷
     ((pos 0 ∷ negsuc 0 ∷ []) ∷ (pos 1 ∷ pos 0 ∷ []) ∷ []) ∷
     []
+
+abbrev pub upright : ℕ
+upright = 0
+
+abbrev pub quarter : ℕ
+quarter = 1
 
 abbrev pub turnCount : ℕ
 turnCount = 2

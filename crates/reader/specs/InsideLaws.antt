@@ -1,6 +1,7 @@
--- What the reader says of the instruction that it is inside: it is inside one only after naming it, and an instruction that ends is the one that was named last.
+-- What the reader says of the instruction that it is inside: it is inside one only after naming it, an instruction that ends is the one that was named last, and
+-- a refusal leaves it inside none.
 -- Why: each row of the reader's table keeps the code of the instruction, but for the second letter of a name; by cases over modes and classes.
-use mathlib.Core.Path.{_≡_, refl, sym, _∙_}
+use mathlib.Core.Path.{_≡_, refl, sym, _∙_, subst}
 use mathlib.Core.Bool.{Bool, true, false, cond, false≢true}
 use Prim.Native.Nat.{ℕ}
 use Rattle.reader.specs.declared.bytes.Class.{Class}
@@ -40,7 +41,7 @@ Told r s Nothing = Stays r s
 Told r s (Named op) = s .op ≡ op
 Told r s (Pair p) = Stays r s
 Told r s (Ended op n) = Ends r s op
-Told r s (Refused k) = Stays r s
+Told r s (Refused k) = (s .op ≡ r .op) × (inside (s .mode) ≡ false)
 
 never : {X : Type 0} {t : Bool} → t ≡ false → t ≡ true → X
 never h k = absurd (false≢true (sym h ∙ k))
@@ -59,7 +60,7 @@ module _ (r : Reader) where
 
   refuses : (m : Mode) (n : ℕ) → inside m ≡ false → Tells r (refuseOf r m n)
   unfolding refuseOf goOnOf Told
-  refuses m n o = record { told = record { op = refl; within = λ e. never o e } }
+  refuses m n o = record { told = (refl, o) }
 
   passes : (n : ℕ) → Tells r (refuseOf r PassOver n)
   unfolding inside
@@ -92,7 +93,7 @@ module _ (r : Reader) where
   unfolding closeEndWith completeOf endOf refuseOf goOnOf Told withNumbers
   close-ends m (Kept ns) w o =
       both (countFits (r .op) (ns .count)) (record { told = record { op = refl; within = w; out = o } })
-      (record { told = record { op = refl; within = λ e. w } })
+      (record { told = (refl, o) })
   close-ends m (Complete p) w o = record { told = record { op = refl; within = λ e. w } }
   close-ends m (Faulty n) w o = refuses m n o
 
@@ -171,3 +172,10 @@ passed-outside r = go (r .mode)
     go InNumber = refl
     go PassOver = refl
     go Label = refl
+
+-- what the reader itself refuses has its mode already: nothing more is passed over, and the text of LB stays a text
+pub refused-passed : (r : Reader) (b k : ℕ) → stepOf r b .event ≡ Refused k → passedOver (stepOf r b .reader) ≡ stepOf r b .reader
+unfolding passedOver passedMode Told
+refused-passed r b k e =
+    let outside : inside (stepOf r b .reader .mode) ≡ false = subst (λ (x : Event). Told r (stepOf r b .reader) x) e (step-tells r b) .1 in
+    rw outside refl

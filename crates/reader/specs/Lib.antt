@@ -2,8 +2,8 @@ pub mod Bytes
 pub mod Table
 pub mod Number
 pub mod Reader
-pub mod Step
 pub mod Inside
+pub mod Step
 pub mod Numeral
 pub mod Stream
 pub mod Written

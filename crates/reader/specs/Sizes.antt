@@ -11,11 +11,12 @@ use Rattle.reader.specs.declared.Event.the-variants.{Nothing, Named, Pai
 use Rattle.reader.specs.declared.Reader.{Reader}
 use Rattle.reader.specs.declared.Step.{Step}
 use Rattle.reader.specs.Number.{bottom}
+use Rattle.reader.specs.Reader.{unknown, range}
 use Rattle.reader.specs.Table.{rows, countFits}
 
 -- The reader refuses with 1, 2 or 3, and with no other number.
 abbrev pub isCause : ℕ → Bool
-isCause n = leb 1 n && leb n 3
+isCause n = leb unknown n && leb n range
 
 abbrev pub Caused : Event → Type 0
 Caused Nothing = Unit {0}

@@ -27,6 +27,7 @@ use Rattle.reader.specs.Reader.{unknown, count, range, labelEnd, noneOf,
 use Rattle.reader.specs.Bytes.{classOf}
 use Rattle.reader.specs.Number.{startOf, pointOf, digitOf, finishOf}
 use Rattle.reader.specs.Table.{findOf, countFits, takesPairs, hasRoom, isLabel}
+use Rattle.reader.specs.Inside.{inside}
 
 -- The second letter of a name: "an unknown name [is refused] with 1 on its second letter; LB is refused with 1 on its B".
 unfoldable pub foundOf : Reader → Found → Step
@@ -145,15 +146,10 @@ byMode r b Label = labelOf r b
 unfoldable pub stepOf : Reader → ℕ → Step
 stepOf r b = byMode r b (r .mode)
 
--- Where a refusal by a layer above leaves the reader: what is left of the instruction is passed over. A byte that ended it
--- has done so.
+-- "After a refusal the rest is passed over", whoever refuses: the rest of an instruction that is being read. A byte that
+-- ended it has done so, and a refusal by the reader itself has its mode already: that of LB is Label, and stays.
 unfoldable pub passedMode : Mode → Mode
-passedMode Idle = Idle
-passedMode (First l) = First l
-passedMode Parameters = PassOver
-passedMode InNumber = PassOver
-passedMode PassOver = PassOver
-passedMode Label = Label
+passedMode m = cond (inside m) PassOver m
 
 unfoldable pub passedOver : Reader → Reader
 passedOver r = record { mode = passedMode (r .mode); op = r .op; numbers = r .numbers; number = r .number }

@@ -134,7 +134,8 @@ findOf a b = findFrom a b 0 rows
 unfoldable pub isLabel : ℕ → ℕ → Bool
 isLabel a b = cond (eqb a (code "L")) (eqb b (code "B")) false
 
--- Whether an instruction may end after n numbers.
+-- Whether an instruction may end after n numbers. No name gives a code beyond the table; this and what follows
+-- say no of one.
 unfoldable pub countFits : ℕ → ℕ → Bool
 countFits op n =
     cond (ltb op rows)

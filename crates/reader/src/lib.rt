@@ -153,6 +153,7 @@ impl Numbers {
     }
 }
 
+// Inside an instruction its rest is passed over, and elsewhere the mode stays. No refused byte leaves a number open.
 fn passed_mode(mode: Mode) -> Mode
     ensures { λ r. ⌜ r ≡ passedMode mode ⌝ }
 {
@@ -194,7 +195,7 @@ impl Reader {
         }
     }
 
-    // Where a refusal by a layer above leaves the reader.
+    // Where a refusal leaves the reader, by a layer above or its own.
     pub fn passed_over(self) -> Reader
         ensures { λ q. ⌜ q ≡ passedOver self ⌝ }
     {
