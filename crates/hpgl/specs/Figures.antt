@@ -87,10 +87,12 @@ turnedRows =
     on wide "SP1;IW0,0,5,10;RO90;PA0,0;PD100,100;" (stroke 1 (pos 0) (pos 0) (minus 5) (pos 5) ∷ seen (pos 100) (pos 100) 1 true 0 ∷ []) ∷
     []
 
--- DF; SC off; IP with no number, and with two
+-- DF: scaling off, no window, absolute mode; IN likewise; SC off; IP with no number, and with two
 abbrev settings : List Row
 settings =
     on wide "IP0,0,1000,1000;SC0,1,0,1;PA1,1;DF;PR1,0;" (at (pos 1001) (pos 1000)) ∷
+    on wide "SP1;IW0,0,5,5;PR1,1;DF;PD9,9;" (stroke 1 (pos 1) (pos 1) (pos 9) (pos 9) ∷ seen (pos 9) (pos 9) 1 true 0 ∷ []) ∷
+    on wide "SP1;IW0,0,5,5;PR1,1;IN;PD9,9;" (stroke 1 (pos 1) (pos 1) (pos 9) (pos 9) ∷ seen (pos 9) (pos 9) 1 true 0 ∷ []) ∷
     on wide "IP0,0,1000,1000;SC0,1,0,1;PA1,1;SC;PA1,1;" (at (pos 1) (pos 1)) ∷
     on wide "RO90;IP;SC0,1,0,1;PA1,1;" (at (pos 10000) (pos 7000)) ∷
     on wide "IP0,0,1000,1000;IP100,200;SC0,1,0,1;PA1,1;" (at (pos 1100) (pos 1200)) ∷

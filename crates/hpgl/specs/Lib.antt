@@ -23,11 +23,11 @@ pub mod PinsSettings
 pub mod PinsPolygon
 pub mod PinsCircle
 pub mod Figures
-pub mod CodeFacts
+pub mod ValidFacts
 pub mod KeptCases
 pub mod SettingsKept
 pub mod PositionKept
 pub mod PolygonKept
-pub mod CircleKept
+pub mod VerticesKept
 pub mod ReaderKept
 pub mod ValidKept

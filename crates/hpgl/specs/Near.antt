@@ -27,26 +27,22 @@ use Rattle.hpgl.specs.Related.{Located}
 
 -- ---- the limits
 
+-- a point is within the limits exactly when it is within the hard limits and, if set, the turned window
 module _ (s : Settings) (c : ℕ) (e : Exact) where
-  to-limits : InLimits s c e → Within (limits s) c e
+  limits-within : (Within (limits s) c e → InLimits s c e) × (InLimits s c e → Within (limits s) c e)
   unfolding limits limitsOf
-  to-limits h = go (s .window .set) (h .window)
+  limits-within =
+      (λ w. let k = go (s .window .set) .0 w in record { hard = k .0; window = k .1 }, λ h. go (s .window .set) .1 (h .hard, h .window))
     where
-      go : (t : Bool) → (t ≡ true → Within (turnedBoxOf (s .window .area) (s .turn)) c e) → Within (limitsOf (s .hard) t (s .window .area) (s .turn)) c e
-      go true w = intersection-within (s .hard) (turnedBoxOf (s .window .area) (s .turn)) c e .1 (h .hard, w refl)
-      go false w = h .hard
+      InBoth : Bool → Type 0
+      InBoth t = Within (s .hard) c e × (t ≡ true → Within (turnedBoxOf (s .window .area) (s .turn)) c e)
 
-  of-limits : Within (limits s) c e → InLimits s c e
-  unfolding limits limitsOf
-  of-limits h = record { hard = go (s .window .set) h; window = went (s .window .set) h }
-    where
-      go : (t : Bool) → Within (limitsOf (s .hard) t (s .window .area) (s .turn)) c e → Within (s .hard) c e
-      go true w = intersection-within (s .hard) (turnedBoxOf (s .window .area) (s .turn)) c e .0 w .0
-      go false w = w
-
-      went : (t : Bool) → Within (limitsOf (s .hard) t (s .window .area) (s .turn)) c e → t ≡ true → Within (turnedBoxOf (s .window .area) (s .turn)) c e
-      went true w p = intersection-within (s .hard) (turnedBoxOf (s .window .area) (s .turn)) c e .0 w .1
-      went false w p = never refl p
+      go : (t : Bool) →
+          (Within (limitsOf (s .hard) t (s .window .area) (s .turn)) c e → InBoth t) × (InBoth t → Within (limitsOf (s .hard) t (s .window .area) (s .turn)) c e)
+      go true =
+          let both = intersection-within (s .hard) (turnedBoxOf (s .window .area) (s .turn)) c e in
+          (λ w. (both .0 w .0, λ p. both .0 w .1), λ w. both .1 (w .0, w .1 refl))
+      go false = (λ w. (w, λ p. never refl p), λ w. w .0)
 
 -- ---- a draw
 
@@ -63,9 +59,9 @@ module _ (d : Core) (g : Segment) (l : Located (d .carriage .pen .number) g) whe
         owed = o;
         pen = sym (l .number);
         clipped = λ i. strokeOf (sym (l .number) i) (sym h i);
-        within = λ k n u p. of-limits (d .settings) 0 _ (clip-near r (g .from) (g .to) (g .start) (g .end) s t (l .from) (l .to) h k n u p .0);
+        within = λ k n u p. limits-within (d .settings) 0 _ .0 (clip-near r (g .from) (g .to) (g .start) (g .end) s t (l .from) (l .to) h k n u p .0);
         near = λ k n u p. has-near (clip-near r (g .from) (g .to) (g .start) (g .end) s t (l .from) (l .to) h k n u p .1);
-        covers = λ k n u p w. covered k n p (clip-covers r (g .from) (g .to) (g .start) (g .end) (l .from) (l .to) k n u p (to-limits (d .settings) 1 _ w));
+        covers = λ k n u p w. covered k n p (clip-covers r (g .from) (g .to) (g .start) (g .end) (l .from) (l .to) k n u p (limits-within (d .settings) 1 _ .1 w));
       }
     where
       covered : (k n : ℕ) (p : 0 < n) →
@@ -86,7 +82,7 @@ module _ (d : Core) (g : Segment) (l : Located (d .carriage .pen .number) g) whe
           Holds (d .settings) (g ∷ gs) (cond t (strokeOf (d .carriage .pen .number) k) drawn.Hidden)
       go true o clipped.Hidden h = record {
         none = λ u k n v p w.
-            clip-hides (limits (d .settings)) (g .from) (g .to) (g .start) (g .end) (l .from) (l .to) h k n v p (to-limits (d .settings) 1 _ w);
+            clip-hides (limits (d .settings)) (g .from) (g .to) (g .start) (g .end) (l .from) (l .to) h k n v p (limits-within (d .settings) 1 _ .1 w);
       }
       go true o (clipped.Stroke s t) h = painted s t o h
       go false o k h = record { none = λ u. never o u }

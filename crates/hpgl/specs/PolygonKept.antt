@@ -18,7 +18,7 @@ use Rattle.hpgl.specs.Numbers.{outOfRange, tooFar, polygonFull, polygonB
 use Rattle.hpgl.specs.Place.{rounded, location, inRange}
 use Rattle.hpgl.specs.Rules.{inked, begun, pm0, closes, endedWith, ended, pm1In, pm1, leave, pm2In, pm2, pmRule, epRule, rectangular, rectangleTo, eaRule, erRule}
 use Rattle.hpgl.specs.Valid.{LocatablePosition, Placed, ValidPolygon, ValidCore, ValidAction, ValidActed}
-use Rattle.hpgl.specs.CodeFacts.{absolute-locatable, relative-locatable, located-placed, edge-room}
+use Rattle.hpgl.specs.ValidFacts.{absolute-locatable, relative-locatable, located-placed, edge-room}
 use Rattle.hpgl.specs.Cases.{pick}
 use Rattle.hpgl.specs.KeptCases.{when, valid-core, closed-polygon, refuses, acts, keeps}
 use Rattle.hpgl.specs.PositionKept.{edge-valid}

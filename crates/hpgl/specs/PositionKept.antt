@@ -13,7 +13,7 @@ use Rattle.hpgl.specs.Numbers.{tooFar, polygonFull, polygonBytes, modeBy
 use Rattle.hpgl.specs.Place.{location, inRange}
 use Rattle.hpgl.specs.Rules.{inked, moveTo, pointCost, longer, edgeTo, storePoint, goTo, pairRule}
 use Rattle.hpgl.specs.Valid.{LocatablePosition, Placed, ValidCore, ValidAction, ValidActed}
-use Rattle.hpgl.specs.CodeFacts.{page-small, aimed-locatable, located-placed, cost-least, edge-room}
+use Rattle.hpgl.specs.ValidFacts.{page-small, aimed-locatable, located-placed, cost-least, edge-room}
 use Rattle.hpgl.specs.Cases.{pick}
 use Rattle.hpgl.specs.KeptCases.{when, valid-core, refuses, acts}
 

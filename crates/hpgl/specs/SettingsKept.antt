@@ -28,7 +28,7 @@ use Rattle.hpgl.specs.Place.{rounded, axisX, axisY, location, inRange}
 use Rattle.hpgl.specs.Change.{withSettings, withCarriage, withCorners, withScale, withTurn, withWindow, withRelative}
 use Rattle.hpgl.specs.Rules.{unscaled, noWindow, freshSettings, noPolygon, freshCarriage, letters, nameRule, rebased, inRule, dfRule, int16, goodCorners, setCorners, ipRule, scRule, setTurn, roRule, setWindow, iwRule, setPen, spRule}
 use Rattle.hpgl.specs.Valid.{ShortPoint, ShortRect, ValidRange, ValidSettings, Placed, ValidPolygon, ValidCore, ValidActed}
-use Rattle.hpgl.specs.CodeFacts.{and-both, from-to, in-range-small, rest-placed, page-small, back-small, relative-valid}
+use Rattle.hpgl.specs.ValidFacts.{and-both, from-to, in-range-small, rest-placed, page-small, back-small, relative-valid}
 use Rattle.hpgl.specs.Cases.{never, pick}
 use Rattle.hpgl.specs.KeptCases.{when, valid-core, closed-polygon, refuses, keeps}
 

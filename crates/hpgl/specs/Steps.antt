@@ -152,10 +152,14 @@ module _ (c : Core) (es : List Edge) (g : ExactPolygon) (f : Fit (c .settings) (
   when true h k = h refl
   when false h k = k refl
 
-  -- refused: both stay
-  refused : (e : Event) (n : ℕ) → Keeps c es g e (refuse c (suc n))
+  -- refused, with the core d: the model's polygon and queue stay
+  leaves : (e : Event) (d : Core) (n : ℕ) → Fit (d .settings) (d .carriage .polygon) → Linked (d .settings) (d .carriage .position) (d .carriage .polygon) es g →
+      Keeps c es g e (refuse d (suc n))
   unfolding refuse polygonBy addedBy stored queued view onPage
-  refused e n = record { kept = record { fit = f; linked = l; queue = refl } }
+  leaves e d n h k = record { kept = record { fit = h; linked = k; queue = refl } }
+
+  refused : (e : Event) (n : ℕ) → Keeps c es g e (refuse c (suc n))
+  refused e n = leaves e c n f l
 
   -- carried out, and neither the polygon nor the queue gets anything
   calm : (e : Event) (d : Core) → polygonAfter c d e g ≡ g → added c d e (polygonAfter c d e g) ≡ [] → Fit (d .settings) (d .carriage .polygon) →
@@ -196,13 +200,23 @@ module _ (c : Core) (es : List Edge) (g : ExactPolygon) (f : Fit (c .settings) (
     };
   }
 
-  -- outside polygon mode
+  -- outside polygon mode nothing is asked of the position
+  free : (d : Core) → c .carriage .polygon .mode ≡ false → d .carriage .polygon ≡ c .carriage .polygon → Sound (d .settings) →
+      Fit (d .settings) (d .carriage .polygon) × Linked (d .settings) (d .carriage .position) (d .carriage .polygon) es g
+  free d o k w =
+      let m : d .carriage .polygon .mode ≡ false = ap (λ (x : Polygon). x .mode) k ∙ o in (
+        record { sound = w; room = λ h. never m h },
+        record { size = l .size; edges = ap (λ (x : Polygon). edgesFrom es 0 (x .edges)) k ∙ l .edges; current = λ h. never m h },
+      )
+
   settles : (e : Event) (d : Core) → polygonAfter c d e g ≡ g → added c d e (polygonAfter c d e g) ≡ [] → c .carriage .polygon .mode ≡ false →
       d .carriage .polygon ≡ c .carriage .polygon → Sound (d .settings) → Keeps c es g e (done d Keep)
-  settles e d p q o k w =
-      let m : d .carriage .polygon .mode ≡ false = ap (λ (x : Polygon). x .mode) k ∙ o in
-      calm e d p q (record { sound = w; room = λ h. never m h })
-      (record { size = l .size; edges = ap (λ (x : Polygon). edgesFrom es 0 (x .edges)) k ∙ l .edges; current = λ h. never m h })
+  settles e d p q o k w = let h = free d o k w in calm e d p q (h .0) (h .1)
+
+  -- refused: that the position stays, too, is for Pins.antt to say
+  stays : (e : Event) (d : Core) (n : ℕ) → c .carriage .polygon .mode ≡ false → d .settings ≡ c .settings → d .carriage .polygon ≡ c .carriage .polygon →
+      Keeps c es g e (refuse d (suc n))
+  stays e d n o s k = let h = free d o k (rw s (f .sound)) in leaves e d n (h .0) (h .1)
 
   keeps-df : (n : Numbers) → c .carriage .polygon .mode ≡ false → Keeps c es g (Ended DF n) (dfRule c)
   unfolding dfRule rebased polygonAfter afterEnd added instructed
@@ -210,7 +224,7 @@ module _ (c : Core) (es : List Edge) (g : ExactPolygon) (f : Fit (c .settings) (
 
   keeps-corners : (n : Numbers) (p q : Point) → c .carriage .polygon .mode ≡ false → Keeps c es g (Ended IP n) (setCorners c p q)
   unfolding setCorners rebased polygonAfter afterEnd added instructed
-  keeps-corners n p q o = both (goodCorners p q) (settles (Ended IP n) _ refl refl o refl (sound-corners (c .settings) p q (f .sound))) (refused (Ended IP n) 2)
+  keeps-corners n p q o = both (goodCorners p q) (settles (Ended IP n) _ refl refl o refl (sound-corners (c .settings) p q (f .sound))) (stays (Ended IP n) _ 2 o refl refl)
 
   keeps-ip : (n : Numbers) → c .carriage .polygon .mode ≡ false → Keeps c es g (Ended IP n) (ipRule c n)
   unfolding ipRule
@@ -220,8 +234,8 @@ module _ (c : Core) (es : List Edge) (g : ExactPolygon) (f : Fit (c .settings) (
   unfolding scRule rebased polygonAfter afterEnd added instructed
   keeps-sc n o =
       both (eqb (n .count) 0) (settles (Ended SC n) _ refl refl o refl (sound-unscaled (c .settings) (f .sound)))
-      (when (n .first ≡? n .second) (λ x. refused (Ended SC n) 2)
-      (λ x. when (n .third ≡? n .fourth) (λ y. refused (Ended SC n) 2)
+      (when (n .first ≡? n .second) (λ x. stays (Ended SC n) _ 2 o refl refl)
+      (λ x. when (n .third ≡? n .fourth) (λ y. stays (Ended SC n) _ 2 o refl refl)
       (λ y. settles (Ended SC n) _ refl refl o refl (sound-scaled (c .settings) (n .first) (n .second) (n .third) (n .fourth) x y (f .sound)))))
 
   keeps-turn : (n : Numbers) (t : ℕ) → t < turnCount → c .carriage .polygon .mode ≡ false → Keeps c es g (Ended RO n) (setTurn c t)
@@ -234,7 +248,7 @@ module _ (c : Core) (es : List Edge) (g : ExactPolygon) (f : Fit (c .settings) (
       both (eqb (n .count) 0) (keeps-turn n 0 (omega arith) o)
       (both (rounded (n .first) ≡? pos 0) (keeps-turn n 0 (omega arith) o)
       (both (rounded (n .first) ≡? pos quarterAngle) (keeps-turn n 1 (omega arith) o)
-      (refused (Ended RO n) 2)))
+      (stays (Ended RO n) _ 2 o refl refl)))
 
   keeps-window : (n : Numbers) (k : Window) → c .carriage .polygon .mode ≡ false →
       Keeps c es g (Ended IW n) (done (withSettings c (withWindow (c .settings) k)) Keep)
@@ -247,7 +261,7 @@ module _ (c : Core) (es : List Edge) (g : ExactPolygon) (f : Fit (c .settings) (
       let p : Point = location (c .settings) (absolutePosition (c .settings) (record { x = n .first; y = n .second })) in
       let q : Point = location (c .settings) (absolutePosition (c .settings) (record { x = n .third; y = n .fourth })) in
       both (eqb (n .count) 0) (keeps-window n noWindow o)
-      (both (inRange p && inRange q) (keeps-window n (record { set = true; area = orderedOf p q }) o) (refused (Ended IW n) 2))
+      (both (inRange p && inRange q) (keeps-window n (record { set = true; area = orderedOf p q }) o) (stays (Ended IW n) _ 2 o refl refl))
 
   keeps-pen : (n : Numbers) (k : ℕ) → Keeps c es g (Ended SP n) (setPen c k)
   unfolding setPen polygonAfter afterEnd added instructed

@@ -1,5 +1,5 @@
 -- What holds of every machine that the calls make, so that no number of the code leaves its width and no index its array. Definitions only:
--- Made.antt says which machines the calls make, and ValidKept.antt proves that each of them is valid. CodeFacts.antt has what follows for the code.
+-- Made.antt says which machines the calls make, and ValidKept.antt proves that each of them is valid. ValidFacts.antt has what follows for the code.
 use mathlib.Core.Path.{_≡_}
 use mathlib.Core.Bool.{Bool, true}
 use mathlib.Core.List.{List, [], _∷_}

@@ -32,13 +32,13 @@ use Rattle.hpgl.specs.Machine.{goodLimits, hardLimits, noEdge, freshStat
 use Rattle.hpgl.specs.Numbers.{mostEdges}
 use Rattle.hpgl.specs.Valid.{ValidSettings, ValidCore, ValidEvent, SmallEdge, ValidAction, ValidActed, ValidWork, Every, none, more, Knows, Valid}
 use Rattle.hpgl.specs.Made as made
-use Rattle.hpgl.specs.CodeFacts.{and-both, rest-placed, origin-small, unknown-outside, chords-most}
+use Rattle.hpgl.specs.ValidFacts.{and-both, rest-placed, origin-small, unknown-outside, chords-most}
 use Rattle.hpgl.specs.Cases.{never, pick}
 use Rattle.hpgl.specs.KeptCases.{when, valid-core, refuses, keeps}
 use Rattle.hpgl.specs.SettingsKept.{valid-name, int16-short, fresh-settings, no-polygon, valid-in, valid-df, valid-ip, valid-sc, valid-ro, valid-iw, valid-sp}
 use Rattle.hpgl.specs.PositionKept.{valid-pair}
 use Rattle.hpgl.specs.PolygonKept.{valid-pm, valid-ep, valid-ea, valid-er}
-use Rattle.hpgl.specs.CircleKept.{valid-ci}
+use Rattle.hpgl.specs.VerticesKept.{valid-ci}
 use Rattle.hpgl.specs.ReaderKept.{step-event, known-after, readable-after}
 
 -- ---- every event

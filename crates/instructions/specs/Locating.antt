@@ -6,7 +6,7 @@ use Rattle.reader.specs.Sizes.{Small, SmallPair}
 use Rattle.hpgl.specs.declared.Core.{Core}
 use Rattle.hpgl.specs.Rules.{firstTwo}
 use Rattle.hpgl.specs.Valid.{LocatablePosition, ValidCore}
-use Rattle.hpgl.specs.CodeFacts.{placed-locatable}
+use Rattle.hpgl.specs.ValidFacts.{placed-locatable}
 
 -- the current position
 pub here-locatable : {c : Core} → ValidCore c → LocatablePosition (c .settings) (c .carriage .position)

@@ -9,7 +9,7 @@ use Rattle.reader.specs.declared.Coordinates.{Coordinates}
 use Rattle.plane.specs.Bounds.{mostNumber}
 use Rattle.hpgl.specs.Place.{location, inRange, relativePosition}
 use Rattle.hpgl.specs.Rules.{circleFits}
-use Rattle.hpgl.specs.CodeFacts.{along-x, along-y}
+use Rattle.hpgl.specs.ValidFacts.{along-x, along-y}
 use Rattle.instructions.proofs.circles.circle_fits.Statement.{statement}
 use Rattle.instructions.proofs.circles.circle_fits.Tie as tie
 

@@ -7,7 +7,7 @@ use Rattle.exact.specs.Fit.{val}
 use Rattle.plane.specs.declared.position.Axis.{Axis}
 use Rattle.plane.specs.Circle.{centreOf}
 use Rattle.hpgl.specs.Rules.{circle}
-use Rattle.hpgl.specs.CodeFacts.{axis-bounds-x, axis-bounds-y, placed-locatable}
+use Rattle.hpgl.specs.ValidFacts.{axis-bounds-x, axis-bounds-y, placed-locatable}
 use Rattle.instructions.proofs.circles.circle_of.Statement.{statement}
 use Rattle.instructions.proofs.circles.circle_of.Tie as tie
 

@@ -10,7 +10,7 @@ use Rattle.plane.specs.Bounds.{mostNumber}
 use Rattle.hpgl.specs.declared.Circle.{Circle}
 use Rattle.hpgl.specs.declared.Action.the-variants.{Chords}
 use Rattle.hpgl.specs.Rules.{done, circle, circleFits, circleWith}
-use Rattle.hpgl.specs.CodeFacts.{from-to}
+use Rattle.hpgl.specs.ValidFacts.{from-to}
 use Rattle.instructions.proofs.circles.circle_with.Statement.{statement}
 use Rattle.instructions.proofs.circles.circle_with.Tie as tie
 

@@ -2,7 +2,7 @@
 use borrow.Author.Needs.{needs}
 use mathlib.Core.Path.{ap, _∙_}
 use Rattle.hpgl.specs.Place.{location, inRange}
-use Rattle.hpgl.specs.CodeFacts.{placed-offset, relative-locatable}
+use Rattle.hpgl.specs.ValidFacts.{placed-offset, relative-locatable}
 use Rattle.instructions.proofs.circles.way_fits.Statement.{statement}
 use Rattle.instructions.proofs.circles.way_fits.Tie as tie
 

@@ -3,7 +3,7 @@ use borrow.Author.Needs.{needs}
 use mathlib.Core.Path.{ap₂, _∙_}
 use Prim.Native.Nat.{_+_}
 use Rattle.hpgl.specs.Machine as M
-use Rattle.hpgl.specs.CodeFacts.{vertex-small}
+use Rattle.hpgl.specs.ValidFacts.{vertex-small}
 use Rattle.instructions.proofs.drawing.chord_shown.Statement.{statement}
 use Rattle.instructions.proofs.drawing.chord_shown.Tie as tie
 

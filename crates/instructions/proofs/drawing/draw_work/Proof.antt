@@ -4,7 +4,7 @@ use mathlib.Core.Path.{refl, sym, subst, _∙_}
 use native.Mathlib.Omega.{arith}
 use Rattle.hpgl.specs.Machine.{drawWork}
 use Rattle.hpgl.specs.Valid.{ValidWork}
-use Rattle.hpgl.specs.CodeFacts.{edge-small}
+use Rattle.hpgl.specs.ValidFacts.{edge-small}
 use Rattle.instructions.proofs.Works.{draw-chord, draw-edge}
 use Rattle.instructions.proofs.drawing.draw_work.Statement.{statement}
 use Rattle.instructions.proofs.drawing.draw_work.Tie as tie

@@ -4,7 +4,7 @@ use mathlib.Core.Path.{ap, _∙_}
 use Rattle.clip.specs.declared.Rect.{Rect}
 use Rattle.clip.specs.Clip as S
 use Rattle.hpgl.specs.Machine as M
-use Rattle.hpgl.specs.CodeFacts.{limits-small}
+use Rattle.hpgl.specs.ValidFacts.{limits-small}
 use Rattle.instructions.proofs.drawing.shown.Statement.{statement}
 use Rattle.instructions.proofs.drawing.shown.Tie as tie
 

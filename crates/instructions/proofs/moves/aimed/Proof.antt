@@ -2,7 +2,7 @@
 use mathlib.Core.Path.{refl}
 use borrow.Author.Needs.{needs}
 use Rattle.hpgl.specs.Rules.{aimed}
-use Rattle.hpgl.specs.CodeFacts.{placed-offset}
+use Rattle.hpgl.specs.ValidFacts.{placed-offset}
 use Rattle.instructions.proofs.moves.aimed.Statement.{statement}
 use Rattle.instructions.proofs.moves.aimed.Tie as tie
 

@@ -4,7 +4,7 @@ use mathlib.Core.Path.{_≡_, refl}
 use borrow.Author.Needs.{needs}
 use Rattle.hpgl.specs.Place.{location, inRange}
 use Rattle.hpgl.specs.Rules.{goTo}
-use Rattle.hpgl.specs.CodeFacts.{located-placed}
+use Rattle.hpgl.specs.ValidFacts.{located-placed}
 use Rattle.instructions.proofs.moves.go_to.Statement.{statement}
 use Rattle.instructions.proofs.moves.go_to.Tie as tie
 

@@ -2,7 +2,7 @@
 use mathlib.Core.Path.{refl}
 use borrow.Author.Needs.{needs}
 use Rattle.hpgl.specs.Rules.{pairRule}
-use Rattle.hpgl.specs.CodeFacts.{aimed-locatable}
+use Rattle.hpgl.specs.ValidFacts.{aimed-locatable}
 use Rattle.instructions.proofs.moves.pair_rule.Statement.{statement}
 use Rattle.instructions.proofs.moves.pair_rule.Tie as tie
 

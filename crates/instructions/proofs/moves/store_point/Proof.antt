@@ -6,7 +6,7 @@ use borrow.Author.Needs.{needs}
 use borrow.Author.Tests.{le-leb, lt-leb}
 use Rattle.hpgl.specs.Numbers.{pointBytes, penBytes}
 use Rattle.hpgl.specs.Rules.{storePoint}
-use Rattle.hpgl.specs.CodeFacts.{cost-most}
+use Rattle.hpgl.specs.ValidFacts.{cost-most}
 use Rattle.instructions.proofs.moves.store_point.Statement.{statement}
 use Rattle.instructions.proofs.moves.store_point.Tie as tie
 

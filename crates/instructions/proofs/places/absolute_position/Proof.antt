@@ -6,7 +6,7 @@ use Rattle.exact.specs.Fit.{val, sized}
 use Rattle.plane.specs.Bounds.{AxisBounds}
 use Rattle.plane.specs.Position.{absoluteOf}
 use Rattle.hpgl.specs.Place.{absolutePosition}
-use Rattle.hpgl.specs.CodeFacts.{axis-bounds-x, axis-bounds-y}
+use Rattle.hpgl.specs.ValidFacts.{axis-bounds-x, axis-bounds-y}
 use Rattle.instructions.proofs.places.absolute_position.Statement.{statement}
 use Rattle.instructions.proofs.places.absolute_position.Tie as tie
 

@@ -4,7 +4,7 @@ use Rattle.clip.specs.Reach.{SmallPoint}
 use Rattle.clip.specs.declared.Point.{Point}
 use Rattle.plane.specs.Turn.{turnedOf}
 use Rattle.hpgl.specs.Place.{pagePoint}
-use Rattle.hpgl.specs.CodeFacts.{placed-locatable}
+use Rattle.hpgl.specs.ValidFacts.{placed-locatable}
 use Rattle.instructions.proofs.places.page_point.Statement.{statement}
 use Rattle.instructions.proofs.places.page_point.Tie as tie
 

@@ -2,7 +2,7 @@
 use mathlib.Core.Path.{refl}
 use borrow.Author.Needs.{needs}
 use Rattle.hpgl.specs.Rules.{eaRule}
-use Rattle.hpgl.specs.CodeFacts.{absolute-locatable}
+use Rattle.hpgl.specs.ValidFacts.{absolute-locatable}
 use Rattle.instructions.specs.Locating.{first-two-small}
 use Rattle.instructions.proofs.polygons.ea_rule.Statement.{statement}
 use Rattle.instructions.proofs.polygons.ea_rule.Tie as tie

@@ -2,7 +2,7 @@
 use mathlib.Core.Path.{refl}
 use borrow.Author.Needs.{needs}
 use Rattle.hpgl.specs.Rules.{erRule}
-use Rattle.hpgl.specs.CodeFacts.{placed-offset, relative-locatable}
+use Rattle.hpgl.specs.ValidFacts.{placed-offset, relative-locatable}
 use Rattle.instructions.specs.Locating.{first-two-small}
 use Rattle.instructions.proofs.polygons.er_rule.Statement.{statement}
 use Rattle.instructions.proofs.polygons.er_rule.Tie as tie

@@ -3,7 +3,7 @@ use borrow.Author.Needs.{needs}
 use mathlib.Core.Path.{refl}
 use mathlib.Core.Bool.{false}
 use Rattle.hpgl.specs.Rules.{dfRule}
-use Rattle.hpgl.specs.CodeFacts.{relative-valid}
+use Rattle.hpgl.specs.ValidFacts.{relative-valid}
 use Rattle.instructions.proofs.settings.df_rule.Statement.{statement}
 use Rattle.instructions.proofs.settings.df_rule.Tie as tie
 

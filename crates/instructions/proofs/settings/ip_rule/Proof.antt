@@ -4,7 +4,7 @@ use mathlib.Core.Path.{refl, sym, subst}
 use borrow.Author.Tests.{eq-eqb, ne-eqb}
 use Rattle.reader.specs.Sizes.{SmallPair}
 use Rattle.hpgl.specs.Rules.{freshSettings, ipRule}
-use Rattle.hpgl.specs.CodeFacts.{rounded-short}
+use Rattle.hpgl.specs.ValidFacts.{rounded-short}
 use Rattle.instructions.proofs.settings.ip_rule.Statement.{statement}
 use Rattle.instructions.proofs.settings.ip_rule.Tie as tie
 

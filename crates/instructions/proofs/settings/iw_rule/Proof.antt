@@ -4,7 +4,7 @@ use mathlib.Core.Path.{refl, sym, subst}
 use borrow.Author.Tests.{eq-eqb, ne-eqb}
 use Rattle.reader.specs.Sizes.{SmallPair}
 use Rattle.hpgl.specs.Rules.{iwRule}
-use Rattle.hpgl.specs.CodeFacts.{absolute-locatable}
+use Rattle.hpgl.specs.ValidFacts.{absolute-locatable}
 use Rattle.instructions.proofs.settings.iw_rule.Statement.{statement}
 use Rattle.instructions.proofs.settings.iw_rule.Tie as tie
 

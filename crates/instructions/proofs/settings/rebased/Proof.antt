@@ -3,7 +3,7 @@ use borrow.Author.Needs.{needs}
 use mathlib.Core.Path.{refl, sym, subst}
 use Rattle.clip.specs.Reach.{SmallPoint}
 use Rattle.hpgl.specs.Rules.{rebased}
-use Rattle.hpgl.specs.CodeFacts.{page-small}
+use Rattle.hpgl.specs.ValidFacts.{page-small}
 use Rattle.instructions.proofs.settings.rebased.Statement.{statement}
 use Rattle.instructions.proofs.settings.rebased.Tie as tie
 

@@ -9,7 +9,7 @@ use Rattle.exact.specs.Fit.{Num, m64, val, num, ret, within, bd-range, to-nat, 
 use Rattle.plane.specs.Bounds.{mostPoint}
 use Rattle.hpgl.specs.Place.{rounded}
 use Rattle.hpgl.specs.Rules.{spRule}
-use Rattle.hpgl.specs.CodeFacts.{rounded-short}
+use Rattle.hpgl.specs.ValidFacts.{rounded-short}
 use Rattle.instructions.proofs.settings.sp_rule.Statement.{statement}
 use Rattle.instructions.proofs.settings.sp_rule.Tie as tie
 

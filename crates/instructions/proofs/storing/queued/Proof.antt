@@ -5,7 +5,7 @@ use Prim.Native.Nat.{_≤_}
 use native.Mathlib.Omega.{arith}
 use Rattle.hpgl.specs.Machine as M
 use Rattle.hpgl.specs.Valid.{mostChords, ValidAction, ValidCircle}
-use Rattle.hpgl.specs.CodeFacts.{chords-most}
+use Rattle.hpgl.specs.ValidFacts.{chords-most}
 use Rattle.instructions.proofs.storing.queued.Statement.{statement}
 use Rattle.instructions.proofs.storing.queued.Tie as tie
 

@@ -1,6 +1,6 @@
 -- The proof of `look`: a position that is kept may be located.
 use Rattle.hpgl.specs.Machine as M
-use Rattle.hpgl.specs.CodeFacts.{placed-locatable}
+use Rattle.hpgl.specs.ValidFacts.{placed-locatable}
 use Rattle.hpgl.specs.ValidKept.{made-valid}
 use Rattle.machine.proofs.Machine.look.Statement.{statement}
 use Rattle.machine.proofs.Machine.look.Tie as tie

@@ -12,7 +12,7 @@ use Rattle.hpgl.specs.declared.Core.{Core}
 use Rattle.hpgl.specs.Numbers.{outOfRange, tooFar, leastAngle}
 use Rattle.hpgl.specs.Rules.{inked, circleFits, circleWith, chordAngle, ciRule}
 use Rattle.hpgl.specs.Valid.{ValidCore, ValidAction, ValidActed}
-use Rattle.hpgl.specs.CodeFacts.{from-to, circle-valid}
+use Rattle.hpgl.specs.ValidFacts.{from-to, circle-valid}
 use Rattle.hpgl.specs.Cases.{pick}
 use Rattle.hpgl.specs.KeptCases.{when, refuses, acts}
 
