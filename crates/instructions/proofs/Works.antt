@@ -1,13 +1,14 @@
--- The work by its count: what is left of it, and what is drawn of it. Why: a count is 0, 1 or more.
+-- The work by its count: what is left of it, what is drawn of it, and the place of its edge. Why: a count is 0, 1 or more.
 use mathlib.Core.Path.{_≡_, refl, ap}
 use Prim.Native.Nat.{ℕ, zero, suc, _+_, _-_, _<_, _≤_}
 use native.Mathlib.Omega.{arith}
 use borrow.Author.Tests.{eq-eqb, ne-eqb}
-use lib.ListN.{getD}
+use Rattle.hpgl.specs.declared.Core.{Core}
+use Rattle.hpgl.specs.declared.Edge.{Edge}
 use Rattle.hpgl.specs.declared.Circle.{Circle}
 use Rattle.hpgl.specs.declared.Work.the-variants.{Nothing, Chords, Edges}
-use Rattle.hpgl.specs.declared.State.{State}
-use Rattle.hpgl.specs.Machine.{noEdge, chordShown, edgeShown, workAfter, drawWork}
+use Rattle.hpgl.specs.Machine.{chordShown, edgeShown, workAfter}
+use Rattle.instructions.specs.First.{edgePlace, firstDrawn}
 
 pub last-chord : (o : Circle) (i n : ℕ) → n ≤ 1 → workAfter (Chords o i n) ≡ Nothing
 unfolding workAfter
@@ -29,12 +30,22 @@ unfolding workAfter
 more-edges i zero h = absurd (omega arith)
 more-edges i (suc n) h = rw (ne-eqb n 0 (λ e. omega arith)) (ap (Edges (i + 1)) (omega arith))
 
-pub draw-chord : (m : State) (o : Circle) (i n : ℕ) → (n ≡ 0 → ⊥) → drawWork m (Chords o i n) ≡ chordShown (m .core) o i
-unfolding drawWork
-draw-chord m o i zero h = absurd (h refl)
-draw-chord m o i (suc n) h = refl
+pub draw-chord : (c : Core) (e : Edge) (o : Circle) (i n : ℕ) → (n ≡ 0 → ⊥) → firstDrawn c e (Chords o i n) ≡ chordShown c o i
+unfolding firstDrawn
+draw-chord c e o i zero h = absurd (h refl)
+draw-chord c e o i (suc n) h = refl
 
-pub draw-edge : (m : State) (i n : ℕ) → (n ≡ 0 → ⊥) → drawWork m (Edges i n) ≡ edgeShown (m .core) (getD (m .store .edges) i noEdge)
-unfolding drawWork
-draw-edge m i zero h = absurd (h refl)
-draw-edge m i (suc n) h = refl
+pub draw-edge : (c : Core) (e : Edge) (i n : ℕ) → (n ≡ 0 → ⊥) → firstDrawn c e (Edges i n) ≡ edgeShown c e
+unfolding firstDrawn
+draw-edge c e i zero h = absurd (h refl)
+draw-edge c e i (suc n) h = refl
+
+pub place-none : (i n : ℕ) → n ≡ 0 → edgePlace (Edges i n) ≡ 0
+unfolding edgePlace
+place-none i zero h = refl
+place-none i (suc n) h = absurd (omega arith)
+
+pub place-edge : (i n : ℕ) → (n ≡ 0 → ⊥) → edgePlace (Edges i n) ≡ i
+unfolding edgePlace
+place-edge i zero h = absurd (h refl)
+place-edge i (suc n) h = refl

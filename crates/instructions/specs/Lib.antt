@@ -1,3 +1,4 @@
 pub mod Judging
 pub mod Locating
 pub mod Alone
+pub mod First

@@ -3,7 +3,8 @@ ghost use mathlib.Core.Path.{_≡_};
 ghost use Prim.Native.Nat.{_<_};
 ghost use Rattle.clip.specs.Reach.{SmallPoint};
 ghost use Rattle.hpgl.specs.Machine as M;
-ghost use Rattle.hpgl.specs.Valid.{mostChords, ValidSettings, SmallEdge, ValidCircle, ValidWork, Every};
+ghost use Rattle.hpgl.specs.Valid.{mostChords, ValidSettings, SmallEdge, ValidCircle, ValidWork};
+ghost use Rattle.instructions.specs.First as S;
 use super::places::limits_of;
 use clip::Clipped;
 use clip::Point;
@@ -13,7 +14,6 @@ use hpgl::Core;
 use hpgl::Drawn;
 use hpgl::Edge;
 use hpgl::Settings;
-use hpgl::State;
 use hpgl::Stroke;
 use hpgl::Work;
 use plane::circle::vertex_angle;
@@ -107,29 +107,42 @@ pub fn work_after(w: Work) -> Work
     }
 }
 
-// What is drawn of the first segment.
-pub fn draw_work(m: State, w: Work) -> Drawn
-    requires { ⌜ ValidSettings (m .core .settings) × Every SmallEdge (m .store .edges) × ValidWork w ⌝ }
-    ensures { λ r. ⌜ r ≡ M.drawWork m w ⌝ }
+// The place in the store of the edge that waits first; 0 where none waits.
+pub fn edge_place(w: Work) -> usize
+    ensures { λ r. ⌜ r ≡ S.edgePlace w ⌝ }
 {
-    let core = m.core;
-    let store = m.store;
+    match w {
+        Work::Nothing => 0,
+        Work::Line(_, _) => 0,
+        Work::Chords(_, _, _) => 0,
+        Work::Edges(i, n) => {
+            if n == 0 {
+                return 0;
+            }
+            i as usize
+        }
+    }
+}
+
+// What is drawn of the first segment; e is the edge at its place, so that the store, which is large, is not handed on.
+pub fn draw_work(c: Core, e: Edge, w: Work) -> Drawn
+    requires { ⌜ ValidSettings (c .settings) × SmallEdge e × ValidWork w ⌝ }
+    ensures { λ r. ⌜ r ≡ S.firstDrawn c e w ⌝ }
+{
     match w {
         Work::Nothing => Drawn::Idle,
-        Work::Line(a, b) => shown(core, a, b),
+        Work::Line(a, b) => shown(c, a, b),
         Work::Chords(o, i, n) => {
             if n == 0 {
                 return Drawn::Idle;
             }
-            chord_shown(core, o, i)
+            chord_shown(c, o, i)
         }
-        Work::Edges(i, n) => {
+        Work::Edges(_, n) => {
             if n == 0 {
                 return Drawn::Idle;
             }
-            let k = i as usize;
-            let e = store.edges[k];
-            edge_shown(core, e)
+            edge_shown(c, e)
         }
     }
 }

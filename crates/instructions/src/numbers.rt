@@ -1,6 +1,6 @@
 // The numbers of document 01, as specs/Numbers.antt of the crate hpgl has them (mostAngle stands in Bounds.antt of plane).
 
-// Refusals: unknown in polygon mode, number or setting out of range, location out of range, polygon bytes, bad hard limits, take while a segment waits.
+// Refusals: unknown in polygon mode, number or setting out of range, location out of range, polygon bytes, bad hard limits, take while a segment waits, list full.
 pub const UNKNOWN: u8 = 1;
 
 pub const OUT_OF_RANGE: u8 = 3;
@@ -12,6 +12,8 @@ pub const POLYGON_FULL: u8 = 7;
 pub const BAD_LIMITS: u8 = 10;
 
 pub const BUSY: u8 = 20;
+
+pub const LIST_FULL: u8 = 21;
 
 // The bytes of a polygon, at most; those of PM0 and PM1, of a point, of a changed pen, of a rectangle.
 pub const POLYGON_BYTES: u16 = 1024;

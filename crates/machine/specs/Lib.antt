@@ -1,3 +1,4 @@
 pub mod Calls
 pub mod Run
 pub mod RunLaws
+pub mod Gather

@@ -1,19 +1,25 @@
 // The machine of document 01. The crate hpgl says what each call does; here it is done.
 ghost use mathlib.Core.Path.{_≡_};
-ghost use lib.ListN.{drop};
+ghost use Prim.Native.Nat.{_/_};
+ghost use lib.ListN.{length, drop};
 ghost use Rattle.hpgl.specs.Machine as M;
+ghost use Rattle.hpgl.specs.Feed.{feedFrom, laidNumbers};
 ghost use Rattle.hpgl.specs.Made.{Made};
 ghost use Rattle.machine.specs.Calls.{startedOf, takenOf, workedOf};
 ghost use Rattle.machine.specs.Run.{runOf};
+ghost use Rattle.machine.specs.Gather.{gatheredOf};
 
+mod gathering;
 mod running;
 
 use clip::Rect;
+use gathering::gather;
 pub use hpgl::Drawn;
 pub use hpgl::Look;
 use hpgl::State;
 pub use hpgl::Stroke;
 use instructions::drawing::draw_work;
+use instructions::drawing::edge_place;
 use instructions::drawing::work_after;
 use instructions::events::act_on;
 use instructions::numbers::BAD_LIMITS;
@@ -50,6 +56,14 @@ pub struct Worked {
 pub struct Ran {
     pub machine: Machine,
     pub at: usize,
+    pub number: u8,
+}
+
+// How far a feed went: the place of the next byte, how many strokes are stored, and 01's number.
+pub struct Gathered {
+    pub machine: Machine,
+    pub at: usize,
+    pub stored: usize,
     pub number: u8,
 }
 
@@ -113,7 +127,8 @@ impl Machine {
         let core = m.core;
         let store = m.store;
         let work = m.work;
-        let drawn = draw_work(m, work);
+        let edge = store.edges[edge_place(work)];
+        let drawn = draw_work(core, edge, work);
         let rest = work_after(work);
         Worked {
             machine: Machine {
@@ -156,5 +171,15 @@ impl Machine {
     {
         let m = self.state;
         run(m, bytes, from)
+    }
+
+    // Feed into a lent list of plain numbers, five for each stroke: pen, x0, y0, x1, y1.
+    pub fn gather(self, bytes: &[u8], from: usize, numbers: &mut [i64]) -> Gathered
+        requires { ⌜ Made (self .state) ⌝ }
+        ensures { λ r. ⌜ r ≡ gatheredOf (feedFrom (self .state) (drop from (now (bytes .entry))) from (length (now (numbers .entry)) / 5)) ⌝ }
+        ensures { λ r. ⌜ now (numbers .exit) ≡ laidNumbers (feedFrom (self .state) (drop from (now (bytes .entry))) from (length (now (numbers .entry)) / 5) .strokes) (now (numbers .entry)) ⌝ }
+    {
+        let m = self.state;
+        gather(m, bytes, from, numbers)
     }
 }

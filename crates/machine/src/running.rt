@@ -20,7 +20,7 @@ use reader::Event;
 use reader::Reader;
 
 // Whether a byte means nothing yet.
-fn quiet(e: Event) -> bool
+pub fn quiet(e: Event) -> bool
     ensures { λ r. ⌜ r ≡ S.quietOf e ⌝ }
 {
     match e {
@@ -33,7 +33,7 @@ fn quiet(e: Event) -> bool
 }
 
 // Whether an action changes the store, which is large: it is not copied for the others.
-fn stores(a: Action) -> bool
+pub fn stores(a: Action) -> bool
     ensures { λ r. ⌜ r ≡ S.storesOf a ⌝ }
 {
     match a {

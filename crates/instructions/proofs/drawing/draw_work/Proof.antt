@@ -1,10 +1,9 @@
--- The proof of `draw_work`: Works.antt, arm by arm. The place of an edge is within the store, since the waiting segments end there.
+-- The proof of `draw_work`: Works.antt, arm by arm.
 use borrow.Author.Needs.{needs}
 use mathlib.Core.Path.{refl, sym, subst, _∙_}
 use native.Mathlib.Omega.{arith}
-use Rattle.hpgl.specs.Machine.{drawWork}
 use Rattle.hpgl.specs.Valid.{ValidWork}
-use Rattle.hpgl.specs.ValidFacts.{edge-small}
+use Rattle.instructions.specs.First.{firstDrawn}
 use Rattle.instructions.proofs.Works.{draw-chord, draw-edge}
 use Rattle.instructions.proofs.drawing.draw_work.Statement.{statement}
 use Rattle.instructions.proofs.drawing.draw_work.Tie as tie
@@ -25,7 +24,7 @@ enum-known-w-2 : tie.Need-enum-known-w-2
 enum-known-w-2 c = search needs
 
 returns : tie.Need-returns
-unfolding drawWork
+unfolding firstDrawn
 returns c = rw (c .before .before .w2 .given .1, c .if1 .taken) refl
 
 chord-shown-requires : tie.Need-chord-shown-requires
@@ -38,37 +37,25 @@ enum-known-w-3 : tie.Need-enum-known-w-3
 enum-known-w-3 c = search needs
 
 returns-2 : tie.Need-returns-2
-unfolding drawWork
+unfolding firstDrawn
 returns-2 c = rw (c .before .before .w3 .given .1, c .if2 .taken) refl
 
-cast-k : tie.Need-cast-k
-cast-k c = search needs
-
-mul-e : tie.Need-mul-e
-mul-e c = search needs
-
-element-copy-out-e : tie.Need-element-copy-out-e
-element-copy-out-e c =
-    let s : tie.Start = search in
-    let h = subst ValidWork (c .before .before .w3 .given .1) (s .pre .2) in
-    omega (arith, h, c .if2 .left)
-
 edge-shown-requires : tie.Need-edge-shown-requires
-edge-shown-requires c κs = let s : tie.Start = search in (s .pre .0, edge-small (s .pre .1) _)
+edge-shown-requires c κs = let s : tie.Start = search in (s .pre .0, s .pre .1)
 
 returns-3 : tie.Need-returns-3
-unfolding drawWork
+unfolding firstDrawn
 returns-3 c = rw (c .enum-told .given .1) refl
 
 returns-4 : tie.Need-returns-4
-unfolding drawWork
+unfolding firstDrawn
 returns-4 c = rw (c .before .before .w .given .1) (c .shown .ensures)
 
 returns-5 : tie.Need-returns-5
-returns-5 c = let e : tie.Else1 = search in rw (e .before .before .w2 .given .1) (c .chord-shown .ensures ∙ sym (draw-chord _ _ _ _ (e .if1 .left)))
+returns-5 c = let e : tie.Else1 = search in rw (e .before .before .w2 .given .1) (c .chord-shown .ensures ∙ sym (draw-chord _ _ _ _ _ (e .if1 .left)))
 
 returns-6 : tie.Need-returns-6
-returns-6 c = let e : tie.Else2 = search in rw (e .before .before .w3 .given .1) (c .edge-shown .ensures ∙ sym (draw-edge _ _ _ (e .if2 .left)))
+returns-6 c = let e : tie.Else2 = search in rw (e .before .before .w3 .given .1) (c .edge-shown .ensures ∙ sym (draw-edge _ _ _ _ (e .if2 .left)))
 
 pub draw-work-spec : {M : Type 1} → statement M
 draw-work-spec =
@@ -82,9 +69,6 @@ draw-work-spec =
     chord-shown-requires
     enum-known-w-3
     returns-2
-    cast-k
-    mul-e
-    element-copy-out-e
     edge-shown-requires
     returns-3
     returns-4

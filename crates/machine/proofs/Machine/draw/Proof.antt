@@ -1,15 +1,39 @@
--- The proof of `draw`.
+-- The proof of `draw`: the edge that is read is the one that waits first.
+use borrow.Author.Needs.{needs}
+use mathlib.Core.Path.{ap, _∙_}
+use Prim.Native.Nat.{ℕ}
+use native.Mathlib.Omega.{arith}
+use lib.ListN.{getD}
 use Rattle.hpgl.specs.Machine as M
-use Rattle.machine.specs.Calls.{workedOf}
+use Rattle.hpgl.specs.ValidFacts.{edge-small}
 use Rattle.hpgl.specs.ValidKept.{made-valid}
+use Rattle.instructions.specs.First.{firstDrawn, place-within, first-drawn}
+use Rattle.machine.specs.Calls.{workedOf}
 use Rattle.machine.proofs.Machine.draw.Statement.{statement}
 use Rattle.machine.proofs.Machine.draw.Tie as tie
+
+edge-place-requires : tie.Need-edge-place-requires
+edge-place-requires c κs = search needs
+
+mul-edge : tie.Need-mul-edge
+mul-edge c =
+    let s : tie.Start = search in
+    let p : tie.After-edge-place = search in
+    let h = place-within (s .args .self .state .work) (made-valid (s .pre) .work) in
+    record { fits = omega (arith, h, p .edge-place .ensures) }
+
+element-copy-out-edge : tie.Need-element-copy-out-edge
+element-copy-out-edge c =
+    let s : tie.Start = search in
+    let p : tie.After-edge-place = search in
+    let h = place-within (s .args .self .state .work) (made-valid (s .pre) .work) in
+    omega (arith, h, p .edge-place .ensures)
 
 draw-work-requires : tie.Need-draw-work-requires
 draw-work-requires c κs =
     let s : tie.Start = search in
     let v = made-valid (s .pre) in
-    (v .core .settings, v .edges, v .work)
+    (v .core .settings, edge-small (v .edges) _, v .work)
 
 work-after-requires : tie.Need-work-after-requires
 work-after-requires c κs = let s : tie.Start = search in made-valid (s .pre) .work
@@ -20,15 +44,20 @@ returns c =
     let s : tie.Start = search in
     let m = s .args .self .state in
     let d : tie.After-draw-work = search in
+    let p : tie.After-edge-place = search in
+    let e = d .draw-work .ensures ∙ ap (λ (k : ℕ). firstDrawn (m .core) (getD (m .store .edges) k M.noEdge) (m .work)) (p .edge-place .ensures) ∙ first-drawn m (m .work) in
     λ i. record {
       machine = record { state = record { reader = m .reader; core = m .core; store = m .store; work = c .work-after .ensures i } };
-      drawn = d .draw-work .ensures i;
+      drawn = e i;
     }
 
 pub draw-spec : {M : Type 1} → statement M
 draw-spec =
     tie.close
     (tie.spec
+    edge-place-requires
+    mul-edge
+    element-copy-out-edge
     draw-work-requires
     work-after-requires
     returns)

@@ -1,0 +1,22 @@
+-- The proof of `gather`.
+use borrow.Author.Needs.{needs}
+use Rattle.hpgl.specs.ValidKept.{made-valid}
+use Rattle.machine.proofs.Machine.gather.Statement.{statement}
+use Rattle.machine.proofs.Machine.gather.Tie as tie
+
+gather-requires : tie.Need-gather-requires
+gather-requires c κs = let s : tie.Start = search in made-valid (s .pre)
+
+same-length : tie.Need-same-length
+same-length c = search needs
+
+returns : tie.Need-returns
+returns c = let g : tie.After-gather = search in g .gather .ensures
+
+pub gather-spec : {M : Type 1} → statement M
+gather-spec =
+    tie.close
+    (tie.spec
+    gather-requires
+    same-length
+    returns)

@@ -1,0 +1,34 @@
+-- What gather answers, whole: feed, with the strokes in a list of plain numbers.
+use Prim.Native.Nat.{ℕ, suc, _+_}
+use mathlib.Core.List.{List}
+use lib.IntN.{ℤ, pos}
+use lib.ListN.{length, set}
+use Rattle.hpgl.specs.declared.State.{State}
+use Rattle.hpgl.specs.declared.Stroke.{Stroke}
+use Rattle.hpgl.specs.declared.Drawn.{Drawn}
+use Rattle.hpgl.specs.declared.Drawn.the-variants as drawn
+use Rattle.hpgl.specs.Feed.{Feed}
+use Rattle.machine.specs.declared.Gathered.{Gathered}
+
+abbrev pub gatheredAs : State → ℕ → ℕ → ℕ → Gathered
+gatheredAs m at k n = record { machine = record { state = m }; at = at; stored = k; number = n }
+
+abbrev pub gatheredOf : Feed → Gathered
+gatheredOf f = gatheredAs (f .state) (f .taken) (length (f .strokes)) (f .number)
+
+-- ---- what a turn of the loop stores
+
+-- the strokes after a draw, of k before it
+unfoldable pub countAfter : Drawn → ℕ → ℕ
+countAfter (drawn.Stroke s) k = k + 1
+countAfter drawn.Hidden k = k
+countAfter drawn.Idle k = k
+
+-- a stroke's numbers from the place i on
+unfoldable pub withStroke : Stroke → ℕ → List ℤ → List ℤ
+withStroke s i numbers = set (set (set (set (set numbers i (pos (s .pen))) (i + 1) (s .x0)) (i + 2) (s .y0)) (i + 3) (s .x1)) (i + 4) (s .y1)
+
+unfoldable pub putOf : Drawn → ℕ → List ℤ → List ℤ
+putOf (drawn.Stroke s) i numbers = withStroke s i numbers
+putOf drawn.Hidden i numbers = numbers
+putOf drawn.Idle i numbers = numbers

@@ -1,0 +1,134 @@
+// Feed into a list of plain numbers: the machine is taken apart once, the reader goes by itself, and core, store and work are touched by events alone.
+ghost use mathlib.Core.Path.{_≡_};
+ghost use Prim.Native.Nat.{_/_, _*_, _+_, _≤_};
+ghost use lib.ListN.{length, drop};
+ghost use Rattle.hpgl.specs.Feed.{feedFrom, laidNumbers};
+ghost use Rattle.hpgl.specs.Valid.{Valid};
+ghost use Rattle.machine.specs.Run.{whole};
+ghost use Rattle.machine.specs.Gather as S;
+use super::Gathered;
+use super::Machine;
+use super::running::quiet;
+use super::running::stores;
+use hpgl::Core;
+use hpgl::Drawn;
+use hpgl::State;
+use hpgl::Store;
+use hpgl::Stroke;
+use hpgl::Work;
+use instructions::drawing::draw_work;
+use instructions::drawing::edge_place;
+use instructions::drawing::work_after;
+use instructions::events::act_on;
+use instructions::numbers::LIST_FULL;
+use instructions::storing::edge_count;
+use instructions::storing::queued;
+use instructions::storing::reader_after;
+use instructions::storing::stored;
+use instructions::storing::waiting;
+use reader::Reader;
+
+// The numbers of a stroke: pen and ends.
+const NUMBERS: usize = 5;
+
+// The parts put together again.
+fn gathered(
+    reader: Reader,
+    core: Core,
+    store: Store,
+    work: Work,
+    at: usize,
+    count: usize,
+    number: u8,
+) -> Gathered
+    ensures { λ r. ⌜ r ≡ S.gatheredAs (whole reader core store work) at count number ⌝ }
+{
+    Gathered {
+        machine: Machine {
+            state: State {
+                reader: reader,
+                core: core,
+                store: store,
+                work: work,
+            },
+        },
+        at: at,
+        stored: count,
+        number: number,
+    }
+}
+
+// Stores what was drawn after `count` strokes, and answers how many there are then.
+fn put(numbers: &mut [i64], count: usize, d: Drawn) -> usize
+    requires { ⌜ count * 5 + 5 ≤ length (now numbers) ⌝ }
+    ensures { λ r. ⌜ r ≡ S.countAfter d count ⌝ }
+    ensures { λ r. ⌜ now (numbers .exit) ≡ S.putOf d (count * 5) (now (numbers .entry)) ⌝ }
+{
+    match d {
+        Drawn::Idle => count,
+        Drawn::Hidden => count,
+        Drawn::Stroke(s) => {
+            let k = count * NUMBERS;
+            let pen = s.pen as i64;
+            let x0 = s.x0;
+            let y0 = s.y0;
+            let x1 = s.x1;
+            let y1 = s.y1;
+            numbers[k] = pen;
+            numbers[k + 1] = x0;
+            numbers[k + 2] = y0;
+            numbers[k + 3] = x1;
+            numbers[k + 4] = y1;
+            count + 1
+        }
+    }
+}
+
+// Draws while a segment waits, else takes the next byte, up to one that is refused, the last, or a segment with no room for a stroke.
+pub fn gather(m: State, bytes: &[u8], from: usize, numbers: &mut [i64]) -> Gathered
+    requires { ⌜ Valid m ⌝ }
+    ensures { λ r. ⌜ r ≡ S.gatheredOf (feedFrom m (drop from (now (bytes .entry))) from (length (now (numbers .entry)) / 5)) ⌝ }
+    ensures { λ r. ⌜ now (numbers .exit) ≡ laidNumbers (feedFrom m (drop from (now (bytes .entry))) from (length (now (numbers .entry)) / 5) .strokes) (now (numbers .entry)) ⌝ }
+{
+    let mut reader = m.reader;
+    let mut core = m.core;
+    let mut store = m.store;
+    let mut work = m.work;
+    let mut at = from;
+    let mut count = 0;
+    let room = numbers.len() / NUMBERS;
+    loop {
+        if 0 < waiting(work) {
+            if count == room {
+                return gathered(reader, core, store, work, at, count, LIST_FULL);
+            }
+            let e = store.edges[edge_place(work)];
+            count = put(numbers, count, draw_work(core, e, work));
+            work = work_after(work);
+            continue;
+        }
+        if at >= bytes.len() {
+            return gathered(reader, core, store, work, at, count, 0);
+        }
+        let q = reader.step(bytes[at]);
+        at += 1;
+        reader = q.reader;
+        let event = q.event;
+        if quiet(event) {
+            // an outline of no edges may have been there
+            work = Work::Nothing;
+            continue;
+        }
+        let t = act_on(core, event);
+        let action = t.action;
+        if stores(action) {
+            store = stored(store, edge_count(core), action);
+        }
+        core = t.core;
+        work = queued(edge_count(core), action);
+        reader = reader_after(reader, t.number);
+        if t.number > 0 {
+            return gathered(reader, core, store, work, at, count, t.number);
+        }
+    }
+}
