@@ -1,11 +1,14 @@
 -- How far the loop of `gather` is, and its turns: a segment drawn and stored, or a byte taken.
 -- Why: each turn is a step of feed (FeedLaws.antt), and a stroke's five numbers come right after those of the strokes before it.
 use mathlib.Core.Path.{_≡_, refl, sym, ap, _∙_}
+use mathlib.Core.Bool.{Bool, true, false, cond}
 use mathlib.Core.List.{List, [], _∷_, _++_, append-nil, append-assoc}
 use Prim.Native.Nat.{ℕ, zero, suc, _+_, _*_, _-_, _/_, _≤_, _<_}
 use native.Mathlib.Nat.{suc-add, mul-div-le}
 use native.Mathlib.Omega.{arith}
 use native.Mathlib.Numerals.{add-one}
+use borrow.Author.Tests.{ltb-true, ltb-false}
+use lib.Dec.{ltb}
 use lib.IntN.{ℤ, pos}
 use lib.ListN.{length, getD, set, drop, drop-of-length-le, length-set, length-append}
 use lib.Seq.{drop-cons}
@@ -23,8 +26,9 @@ use Rattle.hpgl.specs.Feed.{Feed, stop, store, drew, feedFrom, numbersOf, laidN
 use Rattle.hpgl.specs.FeedLaws.{draw-less, at-end, at-byte, at-refused, at-full, at-draw}
 use Rattle.hpgl.specs.Numbers.{mostEdges}
 use Rattle.hpgl.specs.Valid.{mostChords, ValidWork, Valid}
+use Rattle.hpgl.specs.Cases.{never}
 use Rattle.hpgl.specs.ValidKept.{valid-draw}
-use Rattle.machine.specs.Gather.{gatheredAs, gatheredOf, countAfter, withStroke, putOf}
+use Rattle.machine.specs.Gather.{gatheredAs, gatheredOf, Gathers, remainsOf, countAfter, withStroke, putOf}
 use Rattle.machine.proofs.Runs.{Turn, turn-number, turn-taken, turn-valid}
 
 -- no more wait than a circle has chords
@@ -39,6 +43,23 @@ waits-most (Edges i n) h = omega arith
 pub waits-less : (m : State) (w : Work) → 0 < waiting (m .work) → w ≡ workAfter (m .work) → waiting w < waiting (m .work)
 unfolding drawState
 waits-less m w h e = rw e (let z = draw-less m (waiting (m .work) - 1) (omega arith) in omega (arith, z))
+
+-- where no segment waits, what remains is a byte
+pub byte-remains : (w : Work) (at end : ℕ) → remainsOf w at end ≡ true → waiting w ≡ 0 → at < end
+unfolding remainsOf
+byte-remains w at end = go (ltb at end) refl
+  where
+    go : (b : Bool) → ltb at end ≡ b → cond b true (ltb 0 (waiting w)) ≡ true → waiting w ≡ 0 → at < end
+    go true e h k = ltb-true at end e
+    go false e h k = absurd (omega (arith, ltb-true 0 (waiting w) h))
+
+pub none-remains : (w : Work) (at end : ℕ) → remainsOf w at end ≡ false → (waiting w ≡ 0) × (end ≤ at)
+unfolding remainsOf
+none-remains w at end = go (ltb at end) refl
+  where
+    go : (b : Bool) → ltb at end ≡ b → cond b true (ltb 0 (waiting w)) ≡ false → (waiting w ≡ 0) × (end ≤ at)
+    go true e h = never h refl
+    go false e h = (omega (arith, ltb-false 0 (waiting w) h), ltb-false at end e)
 
 -- ---- a stroke is stored after others
 
@@ -95,13 +116,19 @@ far-start m s entry at v = record {
 }
 
 module _ {whole : Feed} {s : List ℕ} {entry now : List ℤ} {m : State} {at count : ℕ} (far : Far whole s entry now m at count) where
-  -- the numbers that a further stroke needs
+  far-long : length now / 5 ≡ length entry / 5
+  far-long = ap (λ (n : ℕ). n / 5) (far .long)
+
+  -- there is room for a further stroke, and for its numbers
+  pub far-free : (count ≡ length now / 5 → ⊥) → count < length entry / 5
+  far-free f = let z : count ≡ length entry / 5 → ⊥ = λ e. f (e ∙ sym far-long) in omega (arith, z, far .room)
+
   pub far-fits : count < length entry / 5 → count * 5 + 5 ≤ length now
   far-fits h = omega (arith, mul-div-le (length entry) 5, far .long)
 
   -- feed stops here
   far-stop : (i : State) (t n : ℕ) → feedFrom m (drop at s) at (length entry / 5 - count) ≡ stop i t n →
-      (gatheredAs i t count n ≡ gatheredOf whole) × (now ≡ laidNumbers (whole .strokes) entry)
+      Gathers whole entry now (gatheredAs i t count n)
   far-stop i t n e =
       let w = far .goes-on ∙ ap (before (far .strokes)) e in
       let z = append-nil (far .strokes) in (
@@ -109,12 +136,12 @@ module _ {whole : Feed} {s : List ℕ} {entry now : List ℤ} {m : State} {at co
         far .laid ∙ sym (ap (λ (f : Feed). laidNumbers (f .strokes) entry) w ∙ ap (λ (ss : List Stroke). laidNumbers ss entry) z),
       )
 
-  pub far-full : 0 < waiting (m .work) → count ≡ length entry / 5 → (gatheredAs m at count listFull ≡ gatheredOf whole) × (now ≡ laidNumbers (whole .strokes) entry)
+  pub far-full : 0 < waiting (m .work) → count ≡ length now / 5 → Gathers whole entry now (gatheredAs m at count listFull)
   far-full h e =
-      let z : length entry / 5 - count ≡ 0 = omega arith in
+      let z : length entry / 5 - count ≡ 0 = omega (arith, e ∙ far-long) in
       far-stop m at listFull (ap (λ (r : ℕ). feedFrom m (drop at s) at r) z ∙ at-full m (drop at s) at h)
 
-  pub far-end : waiting (m .work) ≡ 0 → length s ≤ at → (gatheredAs m at count 0 ≡ gatheredOf whole) × (now ≡ laidNumbers (whole .strokes) entry)
+  pub far-end : waiting (m .work) ≡ 0 → length s ≤ at → Gathers whole entry now (gatheredAs m at count 0)
   far-end h k = far-stop m at 0 (rw (drop-of-length-le s k) (at-end m at (length entry / 5 - count) h))
 
   -- a segment is drawn, and stored where it is not hidden
@@ -199,7 +226,7 @@ module _ {whole : Feed} {s : List ℕ} {entry now : List ℤ} {m : State} {at co
           ∙ ap (λ (i : State). feedFrom i (drop (at + 1) s) (at + 1) (length entry / 5 - count)) state-is);
     }
 
-    pub far-refused : (t .number ≡ 0 → ⊥) → (gatheredAs next (at + 1) count (t .number) ≡ gatheredOf whole) × (now ≡ laidNumbers (whole .strokes) entry)
+    pub far-refused : (t .number ≡ 0 → ⊥) → Gathers whole entry now (gatheredAs next (at + 1) count (t .number))
     far-refused f =
         far-stop next (at + 1) (t .number)
         (ap (λ (bs : List ℕ). feedFrom m bs at (length entry / 5 - count)) bytes-left

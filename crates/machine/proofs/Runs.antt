@@ -10,10 +10,11 @@ use borrow.Author.Tests.{eq-eqb, ne-eqb, eqb-true, eqb-false, ltb-true, ltb-fals
 use lib.Dec.{eqb, ltb}
 use lib.ListN.{length, getD, drop, drop-of-length-le}
 use lib.Seq.{drop-cons}
+use Rattle.reader.specs.declared.Reader.{Reader}
 use Rattle.reader.specs.declared.Event.{Event}
 use Rattle.reader.specs.declared.Event.the-variants as event
 use Rattle.reader.specs.declared.Step.{Step}
-use Rattle.reader.specs.Step.{stepOf}
+use Rattle.reader.specs.Step.{stepOf, passedOver}
 use Rattle.hpgl.specs.declared.Edge.{Edge}
 use Rattle.hpgl.specs.declared.Action.{Action}
 use Rattle.hpgl.specs.declared.Action.the-variants.{Keep, Line, Chords, Join, Outline, Rectangle}
@@ -45,6 +46,15 @@ store-kept es k (Chords o) h = refl
 store-kept es k (Join e) h = let z : _≡_ {A = ℕ} 0 1 = cc in absurd (omega arith)
 store-kept es k Outline h = refl
 store-kept es k (Rectangle p q shown) h = let z : _≡_ {A = ℕ} 0 1 = cc in absurd (omega arith)
+
+-- the reader goes on, or passes over the rest
+pub reader-on : (r : Reader) {n : ℕ} → n ≡ 0 → r ≡ readerAfter r n
+unfolding readerAfter
+reader-on r e = rw (eq-eqb _ 0 e) refl
+
+pub reader-off : (r : Reader) {n : ℕ} → (n ≡ 0 → ⊥) → passedOver r ≡ readerAfter r n
+unfolding readerAfter
+reader-off r f = rw (ne-eqb _ 0 f) refl
 
 quiet-is : (e : Event) → quietOf e ≡ true → e ≡ event.Nothing
 unfolding quietOf

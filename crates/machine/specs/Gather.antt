@@ -1,13 +1,18 @@
 -- What gather answers, whole: feed, with the strokes in a list of plain numbers.
+use mathlib.Core.Path.{_≡_}
 use Prim.Native.Nat.{ℕ, suc, _+_}
+use mathlib.Core.Bool.{Bool, true, cond}
 use mathlib.Core.List.{List}
+use lib.Dec.{ltb}
 use lib.IntN.{ℤ, pos}
 use lib.ListN.{length, set}
+use Rattle.hpgl.specs.declared.Work.{Work}
 use Rattle.hpgl.specs.declared.State.{State}
 use Rattle.hpgl.specs.declared.Stroke.{Stroke}
 use Rattle.hpgl.specs.declared.Drawn.{Drawn}
 use Rattle.hpgl.specs.declared.Drawn.the-variants as drawn
-use Rattle.hpgl.specs.Feed.{Feed}
+use Rattle.hpgl.specs.Machine.{waiting}
+use Rattle.hpgl.specs.Feed.{Feed, laidNumbers}
 use Rattle.machine.specs.declared.Gathered.{Gathered}
 
 abbrev pub gatheredAs : State → ℕ → ℕ → ℕ → Gathered
@@ -16,7 +21,15 @@ gatheredAs m at k n = record { machine = record { state = m }; at = at; stored =
 abbrev pub gatheredOf : Feed → Gathered
 gatheredOf f = gatheredAs (f .state) (f .taken) (length (f .strokes)) (f .number)
 
--- ---- what a turn of the loop stores
+-- what gather leaves of a feed: its answer, and the list
+abbrev pub Gathers : Feed → List ℤ → List ℤ → Gathered → Type 0
+Gathers f entry exit r = (r ≡ gatheredOf f) × (exit ≡ laidNumbers (f .strokes) entry)
+
+-- ---- what the loop asks, and what a turn of it stores
+
+-- a byte is left, of as many as `end`, or a segment waits
+unfoldable pub remainsOf : Work → ℕ → ℕ → Bool
+remainsOf w at end = cond (ltb at end) true (ltb 0 (waiting w))
 
 -- the strokes after a draw, of k before it
 unfoldable pub countAfter : Drawn → ℕ → ℕ

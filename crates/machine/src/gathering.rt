@@ -1,8 +1,9 @@
 // Feed into a list of plain numbers: the machine is taken apart once, the reader goes by itself, and core, store and work are touched by events alone.
+// (A byte that means nothing yet leaves no work: an outline of no edges may have been there.)
 ghost use mathlib.Core.Path.{_≡_};
 ghost use Prim.Native.Nat.{_/_, _*_, _+_, _≤_};
 ghost use lib.ListN.{length, drop};
-ghost use Rattle.hpgl.specs.Feed.{feedFrom, laidNumbers};
+ghost use Rattle.hpgl.specs.Feed.{feedFrom};
 ghost use Rattle.hpgl.specs.Valid.{Valid};
 ghost use Rattle.machine.specs.Run.{whole};
 ghost use Rattle.machine.specs.Gather as S;
@@ -23,7 +24,6 @@ use instructions::events::act_on;
 use instructions::numbers::LIST_FULL;
 use instructions::storing::edge_count;
 use instructions::storing::queued;
-use instructions::storing::reader_after;
 use instructions::storing::stored;
 use instructions::storing::waiting;
 use reader::Reader;
@@ -84,11 +84,20 @@ fn put(numbers: &mut [i64], count: usize, d: Drawn) -> usize
     }
 }
 
+// Whether there is anything left to do: a byte, of as many as `end`, or a segment.
+fn remains(w: Work, at: usize, end: usize) -> bool
+    ensures { λ r. ⌜ r ≡ S.remainsOf w at end ⌝ }
+{
+    if at < end {
+        return true;
+    }
+    0 < waiting(w)
+}
+
 // Draws while a segment waits, else takes the next byte, up to one that is refused, the last, or a segment with no room for a stroke.
 pub fn gather(m: State, bytes: &[u8], from: usize, numbers: &mut [i64]) -> Gathered
     requires { ⌜ Valid m ⌝ }
-    ensures { λ r. ⌜ r ≡ S.gatheredOf (feedFrom m (drop from (now (bytes .entry))) from (length (now (numbers .entry)) / 5)) ⌝ }
-    ensures { λ r. ⌜ now (numbers .exit) ≡ laidNumbers (feedFrom m (drop from (now (bytes .entry))) from (length (now (numbers .entry)) / 5) .strokes) (now (numbers .entry)) ⌝ }
+    ensures { λ r. ⌜ S.Gathers (feedFrom m (drop from (now (bytes .entry))) from (length (now (numbers .entry)) / 5)) (now (numbers .entry)) (now (numbers .exit)) r ⌝ }
 {
     let mut reader = m.reader;
     let mut core = m.core;
@@ -96,26 +105,24 @@ pub fn gather(m: State, bytes: &[u8], from: usize, numbers: &mut [i64]) -> Gathe
     let mut work = m.work;
     let mut at = from;
     let mut count = 0;
-    let room = numbers.len() / NUMBERS;
-    loop {
+    while remains(work, at, bytes.len()) {
         if 0 < waiting(work) {
-            if count == room {
+            if count == numbers.len() / NUMBERS {
                 return gathered(reader, core, store, work, at, count, LIST_FULL);
             }
-            let e = store.edges[edge_place(work)];
-            count = put(numbers, count, draw_work(core, e, work));
+            count = put(
+                numbers,
+                count,
+                draw_work(core, store.edges[edge_place(work)], work),
+            );
             work = work_after(work);
             continue;
-        }
-        if at >= bytes.len() {
-            return gathered(reader, core, store, work, at, count, 0);
         }
         let q = reader.step(bytes[at]);
         at += 1;
         reader = q.reader;
         let event = q.event;
         if quiet(event) {
-            // an outline of no edges may have been there
             work = Work::Nothing;
             continue;
         }
@@ -126,9 +133,9 @@ pub fn gather(m: State, bytes: &[u8], from: usize, numbers: &mut [i64]) -> Gathe
         }
         core = t.core;
         work = queued(edge_count(core), action);
-        reader = reader_after(reader, t.number);
         if t.number > 0 {
-            return gathered(reader, core, store, work, at, count, t.number);
+            return gathered(reader.passed_over(), core, store, work, at, count, t.number);
         }
     }
+    gathered(reader, core, store, work, at, count, 0)
 }

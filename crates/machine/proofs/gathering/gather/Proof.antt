@@ -6,13 +6,14 @@ use mathlib.Core.Logic.{⊎-elim}
 use Prim.Native.Nat.{ℕ, _+_, _*_, _-_, _/_, _<_}
 use native.Mathlib.Omega.{arith}
 use lib.ListN.{length, getD, drop}
+use Rattle.reader.specs.declared.Reader.{Reader}
 use Rattle.reader.specs.declared.Step.{Step}
 use Rattle.hpgl.specs.declared.Action.the-variants.{Keep}
 use Rattle.hpgl.specs.declared.Store.{Store}
 use Rattle.hpgl.specs.declared.Work.the-variants.{Nothing}
 use Rattle.hpgl.specs.declared.State.{State}
 use Rattle.hpgl.specs.Rules.{done, actOn}
-use Rattle.hpgl.specs.Machine.{noEdge, waiting, stored, queued, drawAnswer}
+use Rattle.hpgl.specs.Machine.{noEdge, waiting, stored, queued, readerAfter, drawAnswer}
 use Rattle.hpgl.specs.Feed.{feedFrom, laidNumbers}
 use Rattle.hpgl.specs.Valid.{ValidActed}
 use Rattle.hpgl.specs.ValidFacts.{edge-small}
@@ -22,17 +23,17 @@ use Rattle.instructions.specs.Alone.{action-alone}
 use Rattle.instructions.specs.First.{firstDrawn, place-within, first-drawn}
 use Rattle.machine.specs.Run.{whole}
 use Rattle.machine.specs.Gather.{gatheredAs, gatheredOf}
-use Rattle.machine.proofs.Runs.{Turn, store-kept, quiet-turn}
-use Rattle.machine.proofs.Gathers.{Far, waits-most, waits-less, far-start, far-fits, far-full, far-end, far-draw, far-turn, far-refused}
+use Rattle.machine.proofs.Runs.{Turn, store-kept, reader-on, reader-off, quiet-turn}
+use Rattle.machine.proofs.Gathers.{Far, waits-most, waits-less, byte-remains, none-remains, far-start, far-free, far-fits, far-full, far-end, far-draw, far-turn, far-refused}
 use Rattle.machine.proofs.gathering.gather.Statement.{statement}
 use Rattle.machine.proofs.gathering.gather.Tie as tie
 
 abbrev Inv-loop : tie.InvT-loop
-Inv-loop bytes from numbers₀ reader₀ core₀ store₀ work₀ at₀ count₀ room numbers reader core store work at count =
+Inv-loop bytes from numbers₀ reader₀ core₀ store₀ work₀ at₀ count₀ numbers reader core store work at count =
     Far (feedFrom (whole reader₀ core₀ store₀ work₀) (drop from bytes) from (length numbers₀ / 5)) bytes numbers₀ numbers (whole reader core store work) at count
 
 abbrev μ-loop : tie.MeasureT-loop
-μ-loop bytes from numbers₀ reader₀ core₀ store₀ work₀ at₀ count₀ room numbers reader core store work at count = (length bytes - at) * 721 + waiting work
+μ-loop bytes from numbers₀ reader₀ core₀ store₀ work₀ at₀ count₀ numbers reader core store work at count = (length bytes - at) * 721 + waiting work
 
 -- ---- the places of a turn
 
@@ -40,7 +41,10 @@ abbrev Loop : Type 0
 Loop = tie.At-loop Inv-loop μ-loop
 
 abbrev Waits : Type 0
-Waits = tie.Then1 Inv-loop μ-loop
+Waits = tie.Then2 Inv-loop μ-loop
+
+abbrev Idle : Type 0
+Idle = tie.Else2 Inv-loop μ-loop
 
 abbrev Stepped : Type 0
 Stepped = tie.After-step Inv-loop μ-loop
@@ -49,7 +53,7 @@ abbrev Done : Type 0
 Done = tie.After-act-on Inv-loop μ-loop
 
 abbrev Turned : Type 0
-Turned = tie.After-reader-after Inv-loop μ-loop
+Turned = tie.After-queued Inv-loop μ-loop
 
 abbrev entry : Loop → tie.Start Inv-loop μ-loop
 entry l = search
@@ -59,6 +63,12 @@ waits w = search
 
 abbrev drawn : tie.After-draw-work Inv-loop μ-loop → Loop
 drawn d = search
+
+abbrev idles : Idle → Loop
+idles e = search
+
+abbrev before : Stepped → Idle
+before q = search
 
 abbrev loop : Stepped → Loop
 loop q = search
@@ -76,11 +86,11 @@ here l = whole (l .loop .reader) (l .loop .core) (l .loop .store) (l .loop .work
 abbrev byte : Loop → ℕ
 byte l = getD (entry l .args .bytes .now) (l .loop .at) 0
 
-abbrev next : Turned → State
-next r =
+-- the next one, with this reader
+abbrev next : Turned → Reader → State
+next r x =
     let j : tie.Joined5 Inv-loop μ-loop = search in
-    let w : tie.After-queued Inv-loop μ-loop = search in
-    whole (r .reader-after .result) (acted r .act-on .result .core) (j .if5 .store) (w .queued .result)
+    whole x (acted r .act-on .result .core) (j .if5 .store) (r .queued .result)
 
 act-valid : (a : Done) → ValidActed (loop (stepped a) .loop .core) (a .act-on .result)
 act-valid a =
@@ -101,27 +111,32 @@ edges j =
     (λ w. ap (λ (x : Store). x .edges) (w .1) ∙ sym (store-kept (l .store .edges) (l .core .carriage .polygon .edges) t (sym (j .before .stores .ensures) ∙ w .0 .left)))
     (j .if5 .came)
 
-turn : (r : Turned) → let q = stepped (acted r) in Turn (here (loop q)) (byte (loop q)) (q .step .result) (acted r .act-on .result) (next r)
-turn r =
+turn : (r : Turned) {x : Reader} → let q = stepped (acted r) in
+    x ≡ readerAfter (q .step .result .reader) (acted r .act-on .result .number) → Turn (here (loop q)) (byte (loop q)) (q .step .result) (acted r .act-on .result) (next r x)
+turn r e =
     let a = acted r in
     let k : tie.After-edge-count2 Inv-loop μ-loop = search in
-    let w : tie.After-queued Inv-loop μ-loop = search in
     let j : tie.Joined5 Inv-loop μ-loop = search in
     record {
       step = stepped a .step .ensures;
       act = a .act-on .ensures;
-      reader = r .reader-after .ensures;
+      reader = e;
       core = refl;
       edges = edges j;
-      work = w .queued .ensures ∙ ap (λ (x : ℕ). queued x (a .act-on .result .action)) (k .edge-count2 .ensures);
+      work = r .queued .ensures ∙ ap (λ (x : ℕ). queued x (a .act-on .result .action)) (k .edge-count2 .ensures);
     }
 
--- no segment waits where a byte is taken, and one is left
-idle : (e : tie.Else1 Inv-loop μ-loop) → waiting (e .before .before .loop .work) ≡ 0
-idle e = omega (arith, e .before .waiting .ensures, e .if1 .left)
+-- where a byte is taken no segment waits, and there is one
+idle : (e : Idle) → waiting (idles e .loop .work) ≡ 0
+idle e = omega (arith, e .before .waiting .ensures, e .if2 .left)
+
+more : (e : Idle) → idles e .loop .at < length (entry (idles e) .args .bytes .now)
+more e =
+    let t : tie.Then1 Inv-loop μ-loop = search in
+    byte-remains (idles e .loop .work) _ _ (sym (t .before .remains .ensures) ∙ t .if1 .taken) (idle e)
 
 waits-some : (w : Waits) → 0 < waiting (waits w .loop .work)
-waits-some w = omega (arith, w .before .waiting .ensures, w .if1 .taken)
+waits-some w = omega (arith, w .before .waiting .ensures, w .if2 .taken)
 
 -- the edge that is read is the one that waits first
 drew : (d : tie.After-draw-work Inv-loop μ-loop) → d .draw-work .result ≡ drawAnswer (here (drawn d))
@@ -133,8 +148,23 @@ drew d =
     ∙ ap (λ (k : ℕ). firstDrawn (l .loop .core) (getD (l .loop .store .edges) k noEdge) (l .loop .work)) (p .edge-place .ensures)
     ∙ first-drawn (here l) (l .loop .work)
 
+-- a byte that is not refused
+turned : (c : tie.Else6 Inv-loop μ-loop) → let r : Turned = c .before .before in
+    let q = stepped (acted r) in
+    let l = loop q in
+    let s = entry l .args in
+    Far (feedFrom (s .m) (drop (s .from) (s .bytes .now)) (s .from) (length (s .numbers .now) / 5)) (s .bytes .now) (s .numbers .now) (l .loop .numbers) (next r (q .step .result .reader)) (l .loop .at + 1) (l .loop .count)
+turned c =
+    let r : Turned = c .before .before in
+    let q = stepped (acted r) in
+    let z : acted r .act-on .result .number ≡ 0 = omega (arith, c .if6 .left) in
+    far-turn (loop q .loop .inv) (turn r (reader-on (q .step .result .reader) z)) (idle (before q)) (more (before q)) z
+
 loop-holds : tie.Need-loop-holds Inv-loop μ-loop
 loop-holds c = let s : tie.Start Inv-loop μ-loop = search in far-start (s .args .m) (s .args .bytes .now) (s .args .numbers .now) (s .args .from) (s .pre)
+
+remains-requires : tie.Need-remains-requires Inv-loop μ-loop
+remains-requires c κs = search needs
 
 waiting-requires : tie.Need-waiting-requires Inv-loop μ-loop
 waiting-requires c κs = search needs
@@ -149,21 +179,21 @@ returns : tie.Need-returns Inv-loop μ-loop
 returns c =
     let l : Loop = search in
     let w : Waits = search in
-    let t : tie.Then2 Inv-loop μ-loop = search in
-    let f = far-full (l .loop .inv) (waits-some w) (t .if2 .taken) in
+    let t : tie.Then3 Inv-loop μ-loop = search in
+    let f = far-full (l .loop .inv) (waits-some w) (t .if3 .taken) in
     (c .gathered .ensures ∙ f .0, f .1)
 
 edge-place-requires : tie.Need-edge-place-requires Inv-loop μ-loop
 edge-place-requires c κs = search needs
 
-mul-e : tie.Need-mul-e Inv-loop μ-loop
-mul-e c =
+mul-draw-work : tie.Need-mul-draw-work Inv-loop μ-loop
+mul-draw-work c =
     let l : Loop = search in
     let h = place-within (l .loop .work) (l .loop .inv .valid .work) in
     record { fits = omega (arith, h, c .edge-place .ensures) }
 
-element-copy-out-e : tie.Need-element-copy-out-e Inv-loop μ-loop
-element-copy-out-e c =
+element-copy-out-draw-work : tie.Need-element-copy-out-draw-work Inv-loop μ-loop
+element-copy-out-draw-work c =
     let l : Loop = search in
     let h = place-within (l .loop .work) (l .loop .inv .valid .work) in
     omega (arith, h, c .edge-place .ensures)
@@ -177,8 +207,8 @@ draw-work-requires c κs =
 put-requires : tie.Need-put-requires Inv-loop μ-loop
 put-requires c κs =
     let l : Loop = search in
-    let e : tie.Else2 Inv-loop μ-loop = search in
-    far-fits (l .loop .inv) (omega (arith, e .if2 .left, l .loop .inv .room))
+    let e : tie.Else3 Inv-loop μ-loop = search in
+    far-fits (l .loop .inv) (far-free (l .loop .inv) (e .if3 .left))
 
 work-after-requires : tie.Need-work-after-requires Inv-loop μ-loop
 work-after-requires c κs = let l : Loop = search in l .loop .inv .valid .work
@@ -193,56 +223,36 @@ loop-again : tie.Need-loop-again Inv-loop μ-loop
 loop-again c =
     let l : Loop = search in
     let w : Waits = search in
-    let e : tie.Else2 Inv-loop μ-loop = search in
+    let e : tie.Else3 Inv-loop μ-loop = search in
     let d : tie.After-draw-work Inv-loop μ-loop = search in
     let u : tie.After-put Inv-loop μ-loop = search in
-    far-draw (l .loop .inv) (waits-some w) (omega (arith, e .if2 .left, l .loop .inv .room)) (drew d) (u .put .ensures .1) (u .put .ensures .0) (c .work-after .ensures)
-
-gathered-requires-2 : tie.Need-gathered-requires-2 Inv-loop μ-loop
-gathered-requires-2 c κs = search needs
-
-same-length-2 : tie.Need-same-length-2 Inv-loop μ-loop
-same-length-2 c = let l : Loop = search in l .loop .inv .long
-
-returns-2 : tie.Need-returns-2 Inv-loop μ-loop
-returns-2 c =
-    let l : Loop = search in
-    let e : tie.Else1 Inv-loop μ-loop = search in
-    let t : tie.Then3 Inv-loop μ-loop = search in
-    let f = far-end (l .loop .inv) (idle e) (t .if3 .taken) in
-    (c .gathered2 .ensures ∙ f .0, f .1)
+    far-draw (l .loop .inv) (waits-some w) (far-free (l .loop .inv) (e .if3 .left)) (drew d) (u .put .ensures .1) (u .put .ensures .0) (c .work-after .ensures)
 
 shared-slice-read-step : tie.Need-shared-slice-read-step Inv-loop μ-loop
-shared-slice-read-step c = omega (arith, c .before .if3 .left)
+shared-slice-read-step c = more (c .before)
 
 step-requires : tie.Need-step-requires Inv-loop μ-loop
 step-requires c κs = search needs
 
 add-at : tie.Need-add-at Inv-loop μ-loop
 add-at c =
-    let l = loop c in
-    let g = entry l .good .1 .0 in
-    record { fits = omega (arith, g, c .before .before .if3 .left) }
+    let g = entry (loop c) .good .1 .0 in
+    record { fits = omega (arith, g, more (before c)) }
 
 quiet-requires : tie.Need-quiet-requires Inv-loop μ-loop
 quiet-requires c κs = search needs
 
 loop-less-2 : tie.Need-loop-less-2 Inv-loop μ-loop
 unfolding waiting
-loop-less-2 c =
-    let q : Stepped = search in
-    let l = loop q in
-    let e : tie.Else3 Inv-loop μ-loop = search in
-    omega (arith, e .if3 .left)
+loop-less-2 c = let q : Stepped = search in omega (arith, more (before q))
 
 loop-again-2 : tie.Need-loop-again-2 Inv-loop μ-loop
 unfolding done
 loop-again-2 c =
     let q : Stepped = search in
     let l = loop q in
-    let e : tie.Else3 Inv-loop μ-loop = search in
     let u = quiet-turn (here l) (byte l) (q .step .result) (q .step .ensures) (sym (c .before .quiet .ensures) ∙ c .if4 .taken) in
-    far-turn (l .loop .inv) u (idle (e .before)) (omega (arith, e .if3 .left)) refl
+    far-turn (l .loop .inv) u (idle (before q)) (more (before q)) refl
 
 act-on-requires : tie.Need-act-on-requires Inv-loop μ-loop
 act-on-requires c κs =
@@ -269,45 +279,46 @@ queued-requires c κs =
     let a : Done = search in
     action-alone (loop (stepped a) .loop .core .carriage .polygon .edges) (a .act-on .result .action) (act-valid a .action)
 
-reader-after-requires : tie.Need-reader-after-requires Inv-loop μ-loop
-reader-after-requires c κs = search needs
+passed-over-requires : tie.Need-passed-over-requires Inv-loop μ-loop
+passed-over-requires c κs = search needs
+
+gathered-requires-2 : tie.Need-gathered-requires-2 Inv-loop μ-loop
+gathered-requires-2 c κs = search needs
+
+same-length-2 : tie.Need-same-length-2 Inv-loop μ-loop
+same-length-2 c = let r : Turned = search in loop (stepped (acted r)) .loop .inv .long
+
+returns-2 : tie.Need-returns-2 Inv-loop μ-loop
+returns-2 c =
+    let r : Turned = search in
+    let q = stepped (acted r) in
+    let t : tie.Then6 Inv-loop μ-loop = search in
+    let p : tie.After-passed-over Inv-loop μ-loop = search in
+    let z : acted r .act-on .result .number ≡ 0 → ⊥ = λ e. omega (arith, e, t .if6 .taken) in
+    let f = far-refused (loop q .loop .inv) (turn r (p .passed-over .ensures ∙ reader-off (q .step .result .reader) z)) (idle (before q)) (more (before q)) z in
+    (c .gathered2 .ensures ∙ f .0, f .1)
+
+loop-less-3 : tie.Need-loop-less-3 Inv-loop μ-loop
+loop-less-3 c =
+    let r : Turned = search in
+    omega (arith, more (before (stepped (acted r))), waits-most (r .queued .result) (turned c .valid .work))
+
+loop-again-3 : tie.Need-loop-again-3 Inv-loop μ-loop
+loop-again-3 c = turned c
 
 gathered-requires-3 : tie.Need-gathered-requires-3 Inv-loop μ-loop
 gathered-requires-3 c κs = search needs
 
 same-length-3 : tie.Need-same-length-3 Inv-loop μ-loop
-same-length-3 c = let r : Turned = search in loop (stepped (acted r)) .loop .inv .long
+same-length-3 c = let l : Loop = search in l .loop .inv .long
 
 returns-3 : tie.Need-returns-3 Inv-loop μ-loop
 returns-3 c =
-    let r : Turned = search in
-    let q = stepped (acted r) in
-    let l = loop q in
-    let e : tie.Else3 Inv-loop μ-loop = q .before .before in
-    let t : tie.Then6 Inv-loop μ-loop = search in
-    let f = far-refused (l .loop .inv) (turn r) (idle (e .before)) (omega (arith, e .if3 .left)) (λ z. omega (arith, z, t .if6 .taken)) in
+    let l : Loop = search in
+    let e : tie.Else1 Inv-loop μ-loop = search in
+    let n = none-remains (l .loop .work) _ _ (sym (e .before .remains .ensures) ∙ e .if1 .left) in
+    let f = far-end (l .loop .inv) (n .0) (n .1) in
     (c .gathered3 .ensures ∙ f .0, f .1)
-
-turned : (c : tie.Else6 Inv-loop μ-loop) → let r : Turned = c .before .before in
-    let l = loop (stepped (acted r)) in
-    let s = entry l .args in
-    Far (feedFrom (s .m) (drop (s .from) (s .bytes .now)) (s .from) (length (s .numbers .now) / 5)) (s .bytes .now) (s .numbers .now) (l .loop .numbers) (next r) (l .loop .at + 1) (l .loop .count)
-turned c =
-    let r : Turned = c .before .before in
-    let q = stepped (acted r) in
-    let l = loop q in
-    let e : tie.Else3 Inv-loop μ-loop = q .before .before in
-    far-turn (l .loop .inv) (turn r) (idle (e .before)) (omega (arith, e .if3 .left)) (omega (arith, c .if6 .left))
-
-loop-less-3 : tie.Need-loop-less-3 Inv-loop μ-loop
-loop-less-3 c =
-    let r : Turned = search in
-    let q = stepped (acted r) in
-    let e : tie.Else3 Inv-loop μ-loop = q .before .before in
-    omega (arith, e .if3 .left, waits-most (next r .work) (turned c .valid .work))
-
-loop-again-3 : tie.Need-loop-again-3 Inv-loop μ-loop
-loop-again-3 c = turned c
 
 pub gather-spec : {M : Type 1} → statement M
 gather-spec =
@@ -316,21 +327,19 @@ gather-spec =
     Inv-loop
     μ-loop
     loop-holds
+    remains-requires
     waiting-requires
     gathered-requires
     same-length
     returns
     edge-place-requires
-    mul-e
-    element-copy-out-e
+    mul-draw-work
+    element-copy-out-draw-work
     draw-work-requires
     put-requires
     work-after-requires
     loop-less
     loop-again
-    gathered-requires-2
-    same-length-2
-    returns-2
     shared-slice-read-step
     step-requires
     add-at
@@ -343,9 +352,12 @@ gather-spec =
     stored-requires
     edge-count-requires-2
     queued-requires
-    reader-after-requires
+    passed-over-requires
+    gathered-requires-2
+    same-length-2
+    returns-2
+    loop-less-3
+    loop-again-3
     gathered-requires-3
     same-length-3
-    returns-3
-    loop-less-3
-    loop-again-3)
+    returns-3)
