@@ -110,11 +110,8 @@ pub fn gather(m: State, bytes: &[u8], from: usize, numbers: &mut [i64]) -> Gathe
             if count == numbers.len() / NUMBERS {
                 return gathered(reader, core, store, work, at, count, LIST_FULL);
             }
-            count = put(
-                numbers,
-                count,
-                draw_work(core, store.edges[edge_place(work)], work),
-            );
+            let e = store.edges[edge_place(work)];
+            count = put(numbers, count, draw_work(core, e, work));
             work = work_after(work);
             continue;
         }

@@ -186,14 +186,14 @@ returns c =
 edge-place-requires : tie.Need-edge-place-requires Inv-loop μ-loop
 edge-place-requires c κs = search needs
 
-mul-draw-work : tie.Need-mul-draw-work Inv-loop μ-loop
-mul-draw-work c =
+mul-e : tie.Need-mul-e Inv-loop μ-loop
+mul-e c =
     let l : Loop = search in
     let h = place-within (l .loop .work) (l .loop .inv .valid .work) in
     record { fits = omega (arith, h, c .edge-place .ensures) }
 
-element-copy-out-draw-work : tie.Need-element-copy-out-draw-work Inv-loop μ-loop
-element-copy-out-draw-work c =
+element-copy-out-e : tie.Need-element-copy-out-e Inv-loop μ-loop
+element-copy-out-e c =
     let l : Loop = search in
     let h = place-within (l .loop .work) (l .loop .inv .valid .work) in
     omega (arith, h, c .edge-place .ensures)
@@ -333,8 +333,8 @@ gather-spec =
     same-length
     returns
     edge-place-requires
-    mul-draw-work
-    element-copy-out-draw-work
+    mul-e
+    element-copy-out-e
     draw-work-requires
     put-requires
     work-after-requires
