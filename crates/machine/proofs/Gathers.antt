@@ -29,7 +29,7 @@ use Rattle.hpgl.specs.Valid.{mostChords, ValidWork, Valid}
 use Rattle.hpgl.specs.Cases.{never}
 use Rattle.hpgl.specs.ValidKept.{valid-draw}
 use Rattle.machine.specs.Gather.{gatheredAs, gatheredOf, Gathers, remainsOf, countAfter, withStroke, putOf}
-use Rattle.machine.proofs.Runs.{Turn, turn-number, turn-taken, turn-valid}
+use Rattle.machine.proofs.Turns.{Turn, turn-number, turn-taken, turn-valid}
 
 -- no more wait than a circle has chords
 pub waits-most : (w : Work) → ValidWork w → waiting w ≤ mostChords

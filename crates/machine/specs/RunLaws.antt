@@ -1,17 +1,22 @@
--- What a run of bytes leaves: a machine that the calls make, a place within the input, and why it ended there.
+-- What a run of bytes leaves: a machine that the calls make, a place within the input, and why it ended there; and that it is a feed with no room.
 -- Why: each by the bytes that are taken, one after the other.
-use mathlib.Core.Path.{_≡_, refl}
+use mathlib.Core.Path.{_≡_, refl, sym, ap, _∙_}
 use mathlib.Core.Bool.{Bool, true, false, cond}
 use mathlib.Core.List.{List, [], _∷_}
-use Prim.Native.Nat.{ℕ, suc, _+_, _≤_, _<_}
+use Prim.Native.Nat.{ℕ, zero, suc, _+_, _≤_, _<_}
 use native.Mathlib.Omega.{arith}
-use borrow.Author.Tests.{eq-eqb, eqb-false}
+use borrow.Author.Tests.{eq-eqb, ne-eqb, eqb-true, eqb-false}
 use lib.Dec.{eqb}
 use lib.ListN.{length, getD, drop}
 use lib.Seq.{getD-drop}
 use Rattle.hpgl.specs.declared.State.{State}
 use Rattle.hpgl.specs.Machine.{waiting, takeState, takeNumber}
 use Rattle.hpgl.specs.Made.{Made, take}
+use Rattle.hpgl.specs.Numbers.{listFull}
+use Rattle.hpgl.specs.Feed.{Feed, feedFrom}
+use Rattle.hpgl.specs.FeedLaws.{at-end, at-byte, at-refused, at-full}
+use Rattle.hpgl.specs.Pins.{TakeNumber, none, one, two, three, six, seven, twenty, take-number}
+use Rattle.machine.specs.declared.Ran.{Ran}
 use Rattle.machine.specs.Run.{ranOf, runOf}
 
 made-from : (m : State) (bs : List ℕ) (at : ℕ) → Made m → ((i : ℕ) → getD bs i 0 < 256) → Made (runOf m bs at .machine .state)
@@ -68,3 +73,46 @@ run-rest m (b ∷ bs) at = go (eqb (waiting (m .work)) 0) (eqb (takeNumber m b) 
     go true true e f g h k l = g (omega (arith, h)) k l
     go true false e f g h k l = eqb-false (takeNumber m b) 0 f k
     go false t e f g h k l = eqb-false (waiting (m .work)) 0 e l
+
+-- ---- a run is a feed with no room for a stroke
+
+-- 21 is feed's alone
+not-full : (n : ℕ) → TakeNumber n → n ≡ listFull → ⊥
+not-full n none e = omega (arith, e)
+not-full n one e = omega (arith, e)
+not-full n two e = omega (arith, e)
+not-full n three e = omega (arith, e)
+not-full n six e = omega (arith, e)
+not-full n seven e = omega (arith, e)
+not-full n twenty e = omega (arith, e)
+
+-- "list full" is no refusal of a run: a segment waits
+abbrev pub ranBy : Feed → Ran
+ranBy f = ranOf (f .state) (f .taken) (cond (eqb (f .number) listFull) 0 (f .number))
+
+waits-run : (m : State) (bs : List ℕ) (at : ℕ) → 0 < waiting (m .work) → runOf m bs at ≡ ranOf m at 0
+unfolding runOf
+waits-run m [] at h = refl
+waits-run m (b ∷ bs) at h = rw (ne-eqb (waiting (m .work)) 0 (λ e. omega (arith, e, h))) refl
+
+pub run-feeds : (m : State) (bs : List ℕ) (at : ℕ) → runOf m bs at ≡ ranBy (feedFrom m bs at 0)
+unfolding runOf
+run-feeds m [] at = by (waiting (m .work)) refl
+  where
+    by : (k : ℕ) → waiting (m .work) ≡ k → ranOf m at 0 ≡ ranBy (feedFrom m [] at 0)
+    by zero e = rw (at-end m at 0 e) refl
+    by (suc k) e = rw (at-full m [] at (omega (arith, e))) refl
+run-feeds m (b ∷ bs) at = by (waiting (m .work)) refl (run-feeds (takeState m b) bs (at + 1))
+  where
+    taken : (t : Bool) → eqb (takeNumber m b) 0 ≡ t → waiting (m .work) ≡ 0 → runOf (takeState m b) bs (at + 1) ≡ ranBy (feedFrom (takeState m b) bs (at + 1) 0) →
+        cond t (runOf (takeState m b) bs (at + 1)) (ranOf (takeState m b) (at + 1) (takeNumber m b)) ≡ ranBy (feedFrom m (b ∷ bs) at 0)
+    taken true e z h = h ∙ ap ranBy (sym (at-byte m at 0 z b bs (eqb-true (takeNumber m b) 0 e)))
+    taken false e z h =
+        let f = ne-eqb (takeNumber m b) listFull (not-full (takeNumber m b) (take-number m b)) in
+        rw (at-refused m at 0 z b bs (eqb-false (takeNumber m b) 0 e)) (rw f refl)
+
+    by : (k : ℕ) → waiting (m .work) ≡ k → runOf (takeState m b) bs (at + 1) ≡ ranBy (feedFrom (takeState m b) bs (at + 1) 0) → runOf m (b ∷ bs) at ≡ ranBy (feedFrom m (b ∷ bs) at 0)
+    by zero e h = rw (eq-eqb (waiting (m .work)) 0 e) (taken (eqb (takeNumber m b) 0) refl e h)
+    by (suc k) e h =
+        let w : 0 < waiting (m .work) = omega (arith, e) in
+        waits-run m (b ∷ bs) at w ∙ rw (at-full m (b ∷ bs) at w) refl

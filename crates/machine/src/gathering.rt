@@ -5,12 +5,10 @@ ghost use Prim.Native.Nat.{_/_, _*_, _+_, _≤_};
 ghost use lib.ListN.{length, drop};
 ghost use Rattle.hpgl.specs.Feed.{feedFrom};
 ghost use Rattle.hpgl.specs.Valid.{Valid};
-ghost use Rattle.machine.specs.Run.{whole};
 ghost use Rattle.machine.specs.Gather as S;
 use super::Gathered;
 use super::Machine;
-use super::running::quiet;
-use super::running::stores;
+use hpgl::Action;
 use hpgl::Core;
 use hpgl::Drawn;
 use hpgl::State;
@@ -26,10 +24,38 @@ use instructions::storing::edge_count;
 use instructions::storing::queued;
 use instructions::storing::stored;
 use instructions::storing::waiting;
+use reader::Event;
 use reader::Reader;
 
 // The numbers of a stroke: pen and ends.
 const NUMBERS: usize = 5;
+
+// Whether a byte means nothing yet.
+fn quiet(e: Event) -> bool
+    ensures { λ r. ⌜ r ≡ S.quietOf e ⌝ }
+{
+    match e {
+        Event::Nothing => true,
+        Event::Named(_) => false,
+        Event::Pair(_) => false,
+        Event::Ended(_, _) => false,
+        Event::Refused(_) => false,
+    }
+}
+
+// Whether an action changes the store, which is large: it is not copied for the others.
+fn stores(a: Action) -> bool
+    ensures { λ r. ⌜ r ≡ S.storesOf a ⌝ }
+{
+    match a {
+        Action::Keep => false,
+        Action::Line(_, _) => false,
+        Action::Chords(_) => false,
+        Action::Join(_) => true,
+        Action::Outline => false,
+        Action::Rectangle(_, _, _) => true,
+    }
+}
 
 // The parts put together again.
 fn gathered(
@@ -41,7 +67,7 @@ fn gathered(
     count: usize,
     number: u8,
 ) -> Gathered
-    ensures { λ r. ⌜ r ≡ S.gatheredAs (whole reader core store work) at count number ⌝ }
+    ensures { λ r. ⌜ r ≡ S.gatheredAs (S.whole reader core store work) at count number ⌝ }
 {
     Gathered {
         machine: Machine {

@@ -10,7 +10,6 @@ ghost use Rattle.machine.specs.Run.{runOf};
 ghost use Rattle.machine.specs.Gather.{gatheredOf};
 
 mod gathering;
-mod running;
 
 use clip::Rect;
 use gathering::gather;
@@ -24,12 +23,12 @@ use instructions::drawing::work_after;
 use instructions::events::act_on;
 use instructions::numbers::BAD_LIMITS;
 use instructions::numbers::BUSY;
+use instructions::numbers::LIST_FULL;
 use instructions::places::located;
 use instructions::settings::good_limits;
 use instructions::storing::applied;
 use instructions::storing::fresh_state;
 use instructions::storing::waiting;
-use running::run;
 
 // A machine comes only from the calls below.
 pub struct Machine {
@@ -170,7 +169,22 @@ impl Machine {
         ensures { λ r. ⌜ r ≡ runOf (self .state) (drop from (now (bytes .entry))) from ⌝ }
     {
         let m = self.state;
-        run(m, bytes, from)
+        // with no room for a stroke, feed stops where a segment waits
+        let mut none = [0; 1];
+        let g = gather(m, bytes, from, &mut none);
+        let machine = g.machine;
+        if g.number == LIST_FULL {
+            return Ran {
+                machine: machine,
+                at: g.at,
+                number: 0,
+            };
+        }
+        Ran {
+            machine: machine,
+            at: g.at,
+            number: g.number,
+        }
     }
 
     // Feed into a lent list of plain numbers, five for each stroke: pen, x0, y0, x1, y1.

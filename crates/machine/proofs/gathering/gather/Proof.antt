@@ -21,9 +21,8 @@ use Rattle.hpgl.specs.ReaderKept.{step-event}
 use Rattle.hpgl.specs.ValidKept.{valid-event}
 use Rattle.instructions.specs.Alone.{action-alone}
 use Rattle.instructions.specs.First.{firstDrawn, place-within, first-drawn}
-use Rattle.machine.specs.Run.{whole}
-use Rattle.machine.specs.Gather.{gatheredAs, gatheredOf}
-use Rattle.machine.proofs.Runs.{Turn, store-kept, reader-on, reader-off, quiet-turn}
+use Rattle.machine.specs.Gather.{whole}
+use Rattle.machine.proofs.Turns.{Turn, store-kept, reader-on, reader-off, quiet-turn}
 use Rattle.machine.proofs.Gathers.{Far, waits-most, waits-less, byte-remains, none-remains, far-start, far-free, far-fits, far-full, far-end, far-draw, far-turn, far-refused}
 use Rattle.machine.proofs.gathering.gather.Statement.{statement}
 use Rattle.machine.proofs.gathering.gather.Tie as tie

@@ -1,9 +1,9 @@
--- The proof of `stores`: by its arms.
+-- The proof of `quiet`: by its arms.
 use borrow.Author.Needs.{needs}
 use mathlib.Core.Path.{refl}
-use Rattle.machine.specs.Run.{storesOf}
-use Rattle.machine.proofs.running.stores.Statement.{statement}
-use Rattle.machine.proofs.running.stores.Tie as tie
+use Rattle.machine.specs.Gather.{quietOf}
+use Rattle.machine.proofs.gathering.quiet.Statement.{statement}
+use Rattle.machine.proofs.gathering.quiet.Tie as tie
 
 enum-told : tie.Need-enum-told
 enum-told c = search needs
@@ -20,35 +20,28 @@ enum-told-4 c = search needs
 enum-told-5 : tie.Need-enum-told-5
 enum-told-5 c = search needs
 
-enum-told-6 : tie.Need-enum-told-6
-enum-told-6 c = search needs
-
 returns : tie.Need-returns
-unfolding storesOf
+unfolding quietOf
 returns c = rw (c .enum-told .given .1) refl
 
 returns-2 : tie.Need-returns-2
-unfolding storesOf
+unfolding quietOf
 returns-2 c = rw (c .enum-told2 .given .1) refl
 
 returns-3 : tie.Need-returns-3
-unfolding storesOf
+unfolding quietOf
 returns-3 c = rw (c .enum-told3 .given .1) refl
 
 returns-4 : tie.Need-returns-4
-unfolding storesOf
+unfolding quietOf
 returns-4 c = rw (c .enum-told4 .given .1) refl
 
 returns-5 : tie.Need-returns-5
-unfolding storesOf
+unfolding quietOf
 returns-5 c = rw (c .enum-told5 .given .1) refl
 
-returns-6 : tie.Need-returns-6
-unfolding storesOf
-returns-6 c = rw (c .enum-told6 .given .1) refl
-
-pub stores-spec : {M : Type 1} → statement M
-stores-spec =
+pub quiet-spec : {M : Type 1} → statement M
+quiet-spec =
     tie.close
     (tie.spec
     enum-told
@@ -56,10 +49,8 @@ stores-spec =
     enum-told-3
     enum-told-4
     enum-told-5
-    enum-told-6
     returns
     returns-2
     returns-3
     returns-4
-    returns-5
-    returns-6)
+    returns-5)

@@ -1,15 +1,11 @@
--- A turn of the loop of `run` is a byte taken, whole: the loop keeps the parts of the machine apart.
+-- A turn of the loop of `gather` that takes a byte: the loop keeps the parts of the machine apart.
 -- Why: what the turn's calls gave are the parts of `applied`, and a byte that means nothing yet changes the reader alone and leaves no work.
 use mathlib.Core.Path.{_≡_, refl, sym, ap, ap₂, _∙_, subst}
-use mathlib.Core.Bool.{Bool, true, false, cond}
-use mathlib.Core.List.{List, [], _∷_}
-use Prim.Native.Nat.{ℕ, _+_, _≤_, _<_}
+use mathlib.Core.Bool.{true, false}
+use mathlib.Core.List.{List}
+use Prim.Native.Nat.{ℕ}
 use native.Mathlib.Omega.{arith}
-use native.Mathlib.Numerals.{add-one}
-use borrow.Author.Tests.{eq-eqb, ne-eqb, eqb-true, eqb-false, ltb-true, ltb-false}
-use lib.Dec.{eqb, ltb}
-use lib.ListN.{length, getD, drop, drop-of-length-le}
-use lib.Seq.{drop-cons}
+use borrow.Author.Tests.{eq-eqb, ne-eqb}
 use Rattle.reader.specs.declared.Reader.{Reader}
 use Rattle.reader.specs.declared.Event.{Event}
 use Rattle.reader.specs.declared.Event.the-variants as event
@@ -25,7 +21,7 @@ use Rattle.hpgl.specs.declared.State.{State}
 use Rattle.hpgl.specs.Rules.{done, actOn}
 use Rattle.hpgl.specs.Machine.{waiting, stored, queued, readerAfter, applied, acted, takeState, takeNumber}
 use Rattle.hpgl.specs.Valid.{Valid}
-use Rattle.machine.specs.Run.{ranOf, runOf, whole, quietOf, storesOf, stopsOf}
+use Rattle.machine.specs.Gather.{whole, quietOf, storesOf}
 use Rattle.hpgl.specs.ValidKept.{valid-take}
 
 -- what the calls of one turn gave: the step of the reader, what the core did, and the parts of the next machine
@@ -94,48 +90,3 @@ module _ (m next : State) (b : ℕ) (q : Step) (t : Acted) (turn : Turn m b q t 
 
   pub turn-valid : Valid m → Valid next
   turn-valid v = subst Valid turn-taken (valid-take b v)
-
--- no byte is taken while a segment waits
-pub run-waits : (m : State) (bs : List ℕ) (at : ℕ) → (waiting (m .work) ≡ 0 → ⊥) → runOf m bs at ≡ ranOf m at 0
-unfolding runOf
-run-waits m [] at h = refl
-run-waits m (b ∷ bs) at h = rw (ne-eqb (waiting (m .work)) 0 h) refl
-
-pub run-end : (m : State) (s : List ℕ) (at : ℕ) → length s ≤ at → runOf m (drop at s) at ≡ ranOf m at 0
-unfolding runOf
-run-end m s at h = rw (drop-of-length-le s h) refl
-
-pub idle-of : (w : Work) (n : ℕ) → stopsOf w n ≡ false → (n ≡ 0) × (waiting w ≡ 0)
-unfolding stopsOf
-idle-of w n = go (eqb n 0) refl
-  where
-    go : (e : Bool) → eqb n 0 ≡ e → cond e (ltb 0 (waiting w)) true ≡ false → (n ≡ 0) × (waiting w ≡ 0)
-    go true e h = (eqb-true n 0 e, omega (arith, ltb-false 0 (waiting w) h))
-    go false e h = let z : _≡_ {A = ℕ} 0 1 = cc in absurd (omega arith)
-
--- a turn, by whether the run stops after it
-module _ (m next : State) (s : List ℕ) (at : ℕ) (h : at < length s) (q : Step) (t : Acted) (turn : Turn m (getD s at 0) q t next) (idle : waiting (m .work) ≡ 0) where
-  on : t .number ≡ 0 → runOf m (drop at s) at ≡ runOf next (drop (at + 1) s) (at + 1)
-  unfolding runOf
-  on e =
-      let b = getD s at 0 in
-      simp (drop-cons s at 0 h, eq-eqb (waiting (m .work)) 0 idle, eq-eqb (takeNumber m b) 0 (turn-number m next b q t turn idle ∙ e), turn-taken m next b q t turn idle, add-one)
-
-  off : (t .number ≡ 0 → ⊥) → runOf m (drop at s) at ≡ ranOf next (at + 1) (t .number)
-  unfolding runOf
-  off e =
-      let b = getD s at 0 in
-      simp (drop-cons s at 0 h, eq-eqb (waiting (m .work)) 0 idle, turn-taken m next b q t turn idle, turn-number m next b q t turn idle, ne-eqb (t .number) 0 e)
-
-  pub run-on : stopsOf (next .work) (t .number) ≡ false → runOf m (drop at s) at ≡ runOf next (drop (at + 1) s) (at + 1)
-  run-on k = on (idle-of (next .work) (t .number) k .0)
-
-  pub run-stops : stopsOf (next .work) (t .number) ≡ true → runOf m (drop at s) at ≡ ranOf next (at + 1) (t .number)
-  unfolding stopsOf
-  run-stops = go (eqb (t .number) 0) refl
-    where
-      go : (e : Bool) → eqb (t .number) 0 ≡ e → cond e (ltb 0 (waiting (next .work))) true ≡ true → runOf m (drop at s) at ≡ ranOf next (at + 1) (t .number)
-      go true e k =
-          let z = eqb-true (t .number) 0 e in
-          rw z (on z ∙ run-waits next (drop (at + 1) s) (at + 1) (λ w. omega (arith, ltb-true 0 (waiting (next .work)) k)))
-      go false e k = off (eqb-false (t .number) 0 e)
