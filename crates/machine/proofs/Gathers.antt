@@ -3,14 +3,14 @@
 use mathlib.Core.Path.{_≡_, refl, sym, ap, _∙_}
 use mathlib.Core.Bool.{Bool, true, false, cond}
 use mathlib.Core.List.{List, [], _∷_, _++_, append-nil, append-assoc}
-use Prim.Native.Nat.{ℕ, zero, suc, _+_, _*_, _-_, _/_, _≤_, _<_}
+use Prim.Native.Nat.{ℕ, suc, _+_, _*_, _-_, _/_, _≤_, _<_}
 use native.Mathlib.Nat.{suc-add, mul-div-le}
 use native.Mathlib.Omega.{arith}
 use native.Mathlib.Numerals.{add-one}
 use borrow.Author.Tests.{ltb-true, ltb-false}
 use lib.Dec.{ltb}
 use lib.IntN.{ℤ, pos}
-use lib.ListN.{length, getD, set, drop, drop-of-length-le, length-set, length-append}
+use lib.ListN.{length, getD, drop, drop-of-length-le, length-set, length-append}
 use lib.Seq.{drop-cons}
 use Rattle.reader.specs.declared.Step.{Step}
 use Rattle.hpgl.specs.declared.Acted.{Acted}
@@ -24,7 +24,6 @@ use Rattle.hpgl.specs.Numbers.{listFull}
 use Rattle.hpgl.specs.Machine.{waiting, takeState, takeNumber, workAfter, drawState, drawAnswer}
 use Rattle.hpgl.specs.Feed.{Feed, stop, store, drew, feedFrom, numbersOf, laidNumbers}
 use Rattle.hpgl.specs.FeedLaws.{draw-less, at-end, at-byte, at-refused, at-full, at-draw}
-use Rattle.hpgl.specs.Numbers.{mostEdges}
 use Rattle.hpgl.specs.Valid.{mostChords, ValidWork, Valid}
 use Rattle.hpgl.specs.Cases.{never}
 use Rattle.hpgl.specs.ValidKept.{valid-draw}

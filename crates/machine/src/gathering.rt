@@ -13,7 +13,6 @@ use hpgl::Core;
 use hpgl::Drawn;
 use hpgl::State;
 use hpgl::Store;
-use hpgl::Stroke;
 use hpgl::Work;
 use instructions::drawing::draw_work;
 use instructions::drawing::edge_place;

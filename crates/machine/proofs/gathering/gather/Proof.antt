@@ -1,5 +1,5 @@
 -- The proof of `gather`. The invariant is `Far` (Gathers.antt): the strokes so far stand in the list, and what is left of feed follows them.
--- The measure: what waits, and for each byte left one more than can wait after it.
+-- The measure: what waits, and for each byte left one more than can wait after it, which is at most the 720 chords of a circle.
 use borrow.Author.Needs.{needs}
 use mathlib.Core.Path.{_≡_, refl, sym, ap, subst, _∙_}
 use mathlib.Core.Logic.{⊎-elim}
@@ -8,13 +8,11 @@ use native.Mathlib.Omega.{arith}
 use lib.ListN.{length, getD, drop}
 use Rattle.reader.specs.declared.Reader.{Reader}
 use Rattle.reader.specs.declared.Step.{Step}
-use Rattle.hpgl.specs.declared.Action.the-variants.{Keep}
 use Rattle.hpgl.specs.declared.Store.{Store}
-use Rattle.hpgl.specs.declared.Work.the-variants.{Nothing}
 use Rattle.hpgl.specs.declared.State.{State}
 use Rattle.hpgl.specs.Rules.{done, actOn}
 use Rattle.hpgl.specs.Machine.{noEdge, waiting, stored, queued, readerAfter, drawAnswer}
-use Rattle.hpgl.specs.Feed.{feedFrom, laidNumbers}
+use Rattle.hpgl.specs.Feed.{feedFrom}
 use Rattle.hpgl.specs.Valid.{ValidActed}
 use Rattle.hpgl.specs.ValidFacts.{edge-small}
 use Rattle.hpgl.specs.ReaderKept.{step-event}
