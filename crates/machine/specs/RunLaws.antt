@@ -15,7 +15,7 @@ use Rattle.hpgl.specs.Made.{Made, take}
 use Rattle.hpgl.specs.Numbers.{listFull}
 use Rattle.hpgl.specs.Feed.{Feed, feedFrom}
 use Rattle.hpgl.specs.FeedLaws.{at-end, at-byte, at-refused, at-full}
-use Rattle.hpgl.specs.Pins.{TakeNumber, none, one, two, three, six, seven, twenty, take-number}
+use Rattle.hpgl.specs.FeedSplit.{take-not-full}
 use Rattle.machine.specs.declared.Ran.{Ran}
 use Rattle.machine.specs.Run.{ranOf, runOf}
 
@@ -76,16 +76,6 @@ run-rest m (b ∷ bs) at = go (eqb (waiting (m .work)) 0) (eqb (takeNumber m b) 
 
 -- ---- a run is a feed with no room for a stroke
 
--- 21 is feed's alone
-not-full : (n : ℕ) → TakeNumber n → n ≡ listFull → ⊥
-not-full n none e = omega (arith, e)
-not-full n one e = omega (arith, e)
-not-full n two e = omega (arith, e)
-not-full n three e = omega (arith, e)
-not-full n six e = omega (arith, e)
-not-full n seven e = omega (arith, e)
-not-full n twenty e = omega (arith, e)
-
 -- "list full" is no refusal of a run: a segment waits
 abbrev pub ranBy : Feed → Ran
 ranBy f = ranOf (f .state) (f .taken) (cond (eqb (f .number) listFull) 0 (f .number))
@@ -108,7 +98,7 @@ run-feeds m (b ∷ bs) at = by (waiting (m .work)) refl (run-feeds (takeState m 
         cond t (runOf (takeState m b) bs (at + 1)) (ranOf (takeState m b) (at + 1) (takeNumber m b)) ≡ ranBy (feedFrom m (b ∷ bs) at 0)
     taken true e z h = h ∙ ap ranBy (sym (at-byte m at 0 z b bs (eqb-true (takeNumber m b) 0 e)))
     taken false e z h =
-        let f = ne-eqb (takeNumber m b) listFull (not-full (takeNumber m b) (take-number m b)) in
+        let f = ne-eqb (takeNumber m b) listFull (take-not-full m b) in
         rw (at-refused m at 0 z b bs (eqb-false (takeNumber m b) 0 e)) (rw f refl)
 
     by : (k : ℕ) → waiting (m .work) ≡ k → runOf (takeState m b) bs (at + 1) ≡ ranBy (feedFrom (takeState m b) bs (at + 1) 0) → runOf m (b ∷ bs) at ≡ ranBy (feedFrom m (b ∷ bs) at 0)
