@@ -94,6 +94,7 @@ module _ (rest : List ℤ) where
       let r = pen-back ss q i (omega (arith, h)) in
       record { pen = r .pen; is = further-pen s ss rest i ∙ r .is; small = r .small }
 
+-- five numbers for each stroke
 numbers-long : (ss : List Stroke) → length (numbersOf ss) ≡ length ss * 5
 unfolding numbersOf
 numbers-long [] = refl

@@ -29,6 +29,7 @@ use Rattle.feed.proofs.next_batch.Tie as tie
 
 -- ---- a batch of `most` records
 
+-- a batch that is full while the list is not has a stroke
 positive : (k most room stored : ℕ) → k ≡ most → (most < 64 → most ≡ room - stored) → stored + k < room → 0 < k
 positive (suc k) most room stored e cap h = omega arith
 positive zero most room stored e cap h = absurd (omega (arith, e, h, cap (omega (arith, e))))
@@ -108,10 +109,11 @@ module _ (f : Fed) (bytes : List ℕ) (room most : ℕ) where
 part-long : (most : ℕ) (zeros : List ℤ) → most ≤ 64 → length zeros ≡ 320 → length (take (most * 5) zeros) ≡ most * 5
 part-long most zeros h e = length-take-le (most * 5) zeros (omega (arith, h, e))
 
+-- its records
 fifth : (most k : ℕ) → k ≡ most * 5 → k / 5 ≡ most
 fifth most k e = omega (arith, e)
 
--- the places of the code
+-- what is known once the numbers are gathered
 module _ (g : tie.After-gather) where
   abbrev s : tie.Start
   s = g .before .before .before .before .before .before .before
@@ -132,6 +134,7 @@ module _ (g : tie.After-gather) where
   abbrev zeros : List ℤ
   zeros = g .before .before .zeros .result
 
+  -- feed, with the batch's records
   abbrev did : Feed
   did = part f bytes (s .args .room) most
 
@@ -147,6 +150,7 @@ module _ (g : tie.After-gather) where
   few : length (did .strokes) ≤ most
   few = feed-stored (f .machine .state) (drop (f .taken) bytes) (f .taken) most
 
+  -- the numbers: the strokes', in the part that was lent, and the others
   abbrev laid : List ℤ
   laid = laidNumbers (did .strokes) (take (most * 5) zeros)
 
@@ -169,6 +173,7 @@ module _ (g : tie.After-gather) where
       (pens-back (did .strokes) (take (most * 5) zeros) (drop (most * 5) zeros)
       (feed-pens (f .machine .state) (drop (f .taken) bytes) (f .taken) most (made-valid (s .pre .0))) i (omega (arith, h, counted)))
 
+  -- the records are the strokes
   listed : (list : List Stroke) → take (g .gather .result .stored) list ≡ strokesOf numbers (g .gather .result .stored) → take (length (did .strokes)) list ≡ did .strokes
   listed list e =
       ap (λ (k : ℕ). take k list) (sym counted) ∙ e ∙ ap (λ (l : List ℤ). strokesOf l (g .gather .result .stored)) numbers-are
@@ -180,6 +185,7 @@ module _ (g : tie.After-gather) where
   small-bytes : (i : ℕ) → getD bytes i 0 < 256
   small-bytes i = omega (arith, g .before .before .before .before .before .before .shared-slice-known .given i)
 
+  -- the batch that is answered
   answer : (more : Bool) (list : List Stroke) → more ≡ goes (g .gather .result) → take (g .gather .result .stored) list ≡ strokesOf numbers (g .gather .result .stored) →
       Batched bytes (s .args .room) f (batchOf f bytes (s .args .room) most (g .gather .result) more list)
   answer more list e h =
