@@ -5,7 +5,7 @@ use mathlib.Core.List.{List, []}
 use Prim.Native.Nat.{ℕ, _+_, _-_, _≤_, _<_}
 use lib.ListN.{length, take, drop}
 use Rattle.hpgl.specs.Feed.{Feed, feedFrom}
-use Rattle.hpgl.specs.FeedSplit.{storeAll}
+use Rattle.hpgl.specs.PartsOfFeed.{storeAll}
 use Rattle.hpgl.specs.Made.{Made}
 use Rattle.machine.specs.declared.Machine.{Machine}
 use Rattle.feed.specs.declared.Fed.{Fed}

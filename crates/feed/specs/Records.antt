@@ -11,7 +11,7 @@ use Rattle.hpgl.specs.declared.Stroke.{Stroke}
 use Rattle.hpgl.specs.Feed.{numbersOf, laidNumbers}
 use Rattle.hpgl.specs.Numbers.{mostPen}
 use Rattle.hpgl.specs.Valid.{Every, more}
-use Rattle.hpgl.specs.FeedPens.{Penned}
+use Rattle.hpgl.specs.StrokePens.{Penned}
 
 -- what stands where there is no stroke
 abbrev pub noStroke : Stroke

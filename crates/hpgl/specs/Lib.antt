@@ -12,7 +12,7 @@ pub mod Made
 pub mod FeedLaws
 pub mod Cases
 pub mod Pins
-pub mod FeedSplit
+pub mod PartsOfFeed
 pub mod Related
 pub mod PolygonLinked
 pub mod Near
@@ -33,4 +33,4 @@ pub mod PolygonKept
 pub mod VerticesKept
 pub mod ReaderKept
 pub mod ValidKept
-pub mod FeedPens
+pub mod StrokePens

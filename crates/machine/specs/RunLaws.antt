@@ -15,7 +15,7 @@ use Rattle.hpgl.specs.Made.{Made, take}
 use Rattle.hpgl.specs.Numbers.{listFull}
 use Rattle.hpgl.specs.Feed.{Feed, feedFrom}
 use Rattle.hpgl.specs.FeedLaws.{at-end, at-byte, at-refused, at-full}
-use Rattle.hpgl.specs.FeedSplit.{take-not-full}
+use Rattle.hpgl.specs.PartsOfFeed.{take-not-full}
 use Rattle.machine.specs.declared.Ran.{Ran}
 use Rattle.machine.specs.Run.{ranOf, runOf}
 

@@ -14,8 +14,8 @@ use Rattle.hpgl.specs.declared.Stroke.{Stroke}
 use Rattle.hpgl.specs.Numbers.{listFull}
 use Rattle.hpgl.specs.Feed.{Feed, feedFrom, laidNumbers}
 use Rattle.hpgl.specs.FeedLaws.{feed-place, feed-stored, feed-made}
-use Rattle.hpgl.specs.FeedSplit.{storeAll, Roomier, feed-room}
-use Rattle.hpgl.specs.FeedPens.{feed-pens}
+use Rattle.hpgl.specs.PartsOfFeed.{storeAll, Roomier, feed-room}
+use Rattle.hpgl.specs.StrokePens.{feed-pens}
 use Rattle.hpgl.specs.Made.{Made}
 use Rattle.hpgl.specs.ValidKept.{made-valid}
 use Rattle.machine.specs.declared.Gathered.{Gathered}

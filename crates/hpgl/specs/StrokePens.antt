@@ -22,7 +22,7 @@ use Rattle.hpgl.specs.Place.{limits}
 use Rattle.hpgl.specs.Machine.{waiting, takeState, takeNumber, strokeOf, shown, chordShown, edgeShown, noEdge, drawWork, drawState, drawAnswer}
 use Rattle.hpgl.specs.Feed.{drew, feedFrom}
 use Rattle.hpgl.specs.FeedLaws.{at-end, at-byte, at-refused, at-full, at-draw}
-use Rattle.hpgl.specs.FeedSplit.{by-waiting}
+use Rattle.hpgl.specs.PartsOfFeed.{by-waiting}
 use Rattle.hpgl.specs.Cases.{pick}
 use Rattle.hpgl.specs.Numbers.{mostPen}
 use Rattle.hpgl.specs.Valid.{Valid, Every, none, more}
