@@ -1,93 +1,18 @@
-//! Runs `vectors.txt` through the machine, with the exact checker beside it.
+//! Runs the lines of `crates/vectors/stdin` through the machine, with the exact checker beside it: the outcomes that the
+//! document states, and the whole outcomes of `crates/vectors/stdout`.
+
+#[allow(dead_code)]
+#[path = "../examples/outcomes.rs"]
+mod outcomes;
 
 use baseline::exact::Exact;
-use baseline::{Drawn, Fed, Look, Machine, Stroke};
+use baseline::{Drawn, Look, Machine, Stroke};
+use outcomes::{Calls, Event, Fed, Line, LIMITS, MARK};
 use std::io::Write;
 use std::process::{Command, Stdio};
 
-const VECTORS: &str = include_str!("vectors.txt");
-const LIMITS: [i64; 4] = [-10_000, -7_000, 10_000, 7_000];
-
-#[derive(Clone, Copy, PartialEq, Debug)]
-enum Step {
-    Byte(u8),
-    Hold,
-    Draw,
-}
-
-#[derive(Clone, PartialEq, Debug)]
-enum Event {
-    Refused(u8, usize),
-    Drawn(Drawn),
-}
-
-/// Reads the notation of the field "bytes".
-fn steps(text: &str) -> Vec<Step> {
-    let mut out = Vec::new();
-    let mut rest = text;
-    while let Some(c) = rest.chars().next() {
-        rest = &rest[c.len_utf8()..];
-        match c {
-            '\\' => {
-                let code = rest.as_bytes()[0];
-                let (byte, length) = match code {
-                    b'n' => (10, 1),
-                    b's' => (32, 1),
-                    b'x' => (u8::from_str_radix(&rest[1..3], 16).unwrap(), 3),
-                    _ => panic!("escape in {text}"),
-                };
-                out.push(Step::Byte(byte));
-                rest = &rest[length..];
-            }
-            '{' => {
-                let end = rest.find('}').unwrap();
-                let words: Vec<&str> = rest[..end].splitn(3, ' ').collect();
-                rest = &rest[end + 1..];
-                match words[..] {
-                    ["hold"] => out.push(Step::Hold),
-                    ["draw"] => out.push(Step::Draw),
-                    ["fill", k] => {
-                        let pairs: Vec<String> =
-                            (1..=k.parse().unwrap()).map(|i: u32| format!("{i},0")).collect();
-                        out.extend(pairs.join(",").bytes().map(Step::Byte));
-                    }
-                    ["rep", k, part] => {
-                        let part = part.repeat(k.parse().unwrap());
-                        out.extend(part.bytes().map(Step::Byte));
-                    }
-                    _ => panic!("directive in {text}"),
-                }
-            }
-            c => out.push(Step::Byte(u8::try_from(c).unwrap())),
-        }
-    }
-    out
-}
-
-fn bytes(text: &str) -> Vec<u8> {
-    steps(text)
-        .into_iter()
-        .map(|step| match step {
-            Step::Byte(byte) => byte,
-            _ => panic!("directive in {text}"),
-        })
-        .collect()
-}
-
-/// Reads `p:x0,y0-x1,y1`.
-fn stroke(text: &str) -> Stroke {
-    let (pen, ends) = text.split_once(':').unwrap();
-    let [x0, middle, y1] = ends.split(',').collect::<Vec<_>>()[..] else { panic!("{text}") };
-    let dash = 1 + middle[1..].find('-').unwrap();
-    let n = |t: &str| t.parse::<i64>().unwrap();
-    Stroke {
-        pen: pen.parse().unwrap(),
-        x0: n(x0),
-        y0: n(&middle[..dash]),
-        x1: n(&middle[dash + 1..]),
-        y1: n(y1),
-    }
-}
+const VECTORS: &str = include_str!("../../../crates/vectors/stdin");
+const OUTCOMES: &str = include_str!("../../../crates/vectors/stdout");
 
 /// The machine and the exact model side by side.
 struct Pair {
@@ -98,12 +23,14 @@ struct Pair {
 impl Pair {
     fn fresh(limits: [i64; 4]) -> Pair {
         let [l, b, r, t] = limits;
-        let (machine, number) = Machine::fresh(l, b, r, t);
+        let (machine, number) = outcomes::fresh(limits);
         let (exact, due) = Exact::fresh(l, b, r, t);
         assert_eq!(number, due);
         Pair { machine, exact }
     }
+}
 
+impl Calls for Pair {
     fn take(&mut self, byte: u8) -> u8 {
         let answer = self.machine.take(byte);
         assert_eq!(answer, self.exact.take(byte), "number of byte {byte}");
@@ -122,41 +49,29 @@ impl Pair {
     }
 }
 
-fn run(limits: [i64; 4], program: &[Step]) -> (Vec<Event>, usize, Look, bool) {
-    let mut pair = Pair::fresh(limits);
-    let mut events = Vec::new();
-    let (mut count, mut hold) = (0, false);
-    for step in program {
-        match step {
-            Step::Hold => hold = true,
-            Step::Draw => match pair.draw() {
-                Drawn::Idle => {}
-                drawn => events.push(Event::Drawn(drawn)),
-            },
-            Step::Byte(byte) => {
-                count += 1;
-                match pair.take(*byte) {
-                    0 => {}
-                    number => events.push(Event::Refused(number, count)),
-                }
-                if !hold {
-                    loop {
-                        match pair.draw() {
-                            Drawn::Idle => break,
-                            drawn => events.push(Event::Drawn(drawn)),
-                        }
-                    }
-                }
-            }
-        }
+/// The words of a field; `-` is none.
+fn words(field: &str) -> impl Iterator<Item = &str> {
+    field.split_whitespace().filter(|&word| word != "-")
+}
+
+/// Reads `p:x0,y0-x1,y1`.
+fn stroke(text: &str) -> Stroke {
+    let (pen, ends) = text.split_once(':').unwrap();
+    let [x0, middle, y1] = ends.split(',').collect::<Vec<_>>()[..] else { panic!("{text}") };
+    let dash = 1 + middle[1..].find('-').unwrap();
+    let n = |t: &str| t.parse::<i64>().unwrap();
+    Stroke {
+        pen: pen.parse().unwrap(),
+        x0: n(x0),
+        y0: n(&middle[..dash]),
+        x1: n(&middle[dash + 1..]),
+        y1: n(y1),
     }
-    let waits = pair.machine.clone().draw() != Drawn::Idle;
-    (events, count, pair.machine.look(), waits)
 }
 
 fn check_events(id: &str, expected: &str, count: usize, events: &[Event]) {
     let mut rest = events.iter();
-    for word in expected.split_whitespace().filter(|&word| word != "-") {
+    for word in words(expected) {
         if let Some(n) = word.strip_prefix('#') {
             for _ in 0..n.parse::<usize>().unwrap() {
                 assert!(matches!(rest.next(), Some(Event::Drawn(_))), "{id}: {word} of {events:?}");
@@ -184,7 +99,7 @@ fn check_events(id: &str, expected: &str, count: usize, events: &[Event]) {
 }
 
 fn check_look(id: &str, expected: &str, look: &Look, waits: bool) {
-    for word in expected.split_whitespace().filter(|&word| word != "-") {
+    for word in words(expected) {
         let value = |prefix: &str| word.strip_prefix(prefix).map(|v| v.parse::<i64>().unwrap());
         let good = if let Some(x) = value("x=") {
             look.x == x
@@ -207,34 +122,52 @@ fn check_look(id: &str, expected: &str, look: &Look, waits: bool) {
     }
 }
 
-fn check_feed(id: &str, limits: [i64; 4], fields: &[&str]) {
-    let [room, program, answer, expected] = *fields else { panic!("{id}") };
-    let [l, b, r, t] = limits;
-    let mut machine = Machine::fresh(l, b, r, t).0;
-    let mark = Stroke { pen: 77, x0: 1, y0: 2, x1: 3, y1: 4 };
-    let mut list = vec![mark; room.parse().unwrap()];
-    let fed = machine.feed(&bytes(program), &mut list);
-    let [taken, stored, number] =
-        answer.split(' ').map(|v| v.parse().unwrap()).collect::<Vec<usize>>()[..]
-    else {
-        panic!("{id}")
-    };
-    assert_eq!(fed, Fed { taken, stored, number: number as u8 }, "{id}");
-    let strokes: Vec<Stroke> =
-        expected.split_whitespace().filter(|&w| w != "-").map(stroke).collect();
-    assert_eq!(list[..stored], strokes, "{id}");
-    assert!(list[stored..].iter().all(|&s| s == mark), "{id}");
+fn check_take(id: &str, limits: [i64; 4], fields: &[&str]) {
+    let [program, events, look] = *fields else { panic!("{id}: fields") };
+    let mut pair = Pair::fresh(limits);
+    let (seen, count) = outcomes::run(&mut pair, &outcomes::steps(program));
+    check_events(id, events, count, &seen);
+    let waits = pair.machine.clone().draw() != Drawn::Idle;
+    check_look(id, look, &pair.machine.look(), waits);
 }
 
-fn check_program(id: &str, fields: &[&str]) {
-    let [program, expected] = *fields else { panic!("{id}") };
-    let lines: String = expected
-        .split('/')
-        .map(str::trim)
-        .filter(|&l| l != "-")
-        .map(|l| format!("{l}\n"))
-        .collect();
-    assert_eq!(strokes(&bytes(program), &[]), lines, "{id}");
+fn check_feed(id: &str, limits: [i64; 4], fields: &[&str]) {
+    let Fed { before, answer, list } = outcomes::feed(&mut outcomes::fresh(limits).0, fields);
+    assert_eq!(before, [], "{id}");
+    let due: Vec<usize> = words(fields[3]).map(|v| v.parse().unwrap()).collect();
+    assert_eq!(answer, due[..], "{id}");
+    let strokes: Vec<Stroke> = words(fields[4]).map(stroke).collect();
+    assert_eq!(list[..answer[1]], strokes, "{id}");
+    assert!(list[answer[1]..].iter().all(|&s| s == MARK), "{id}");
+}
+
+/// What the program *strokes* prints, as events.
+fn check_strokes(id: &str, fields: &[&str]) {
+    let input = outcomes::bytes(fields[0]);
+    let event = |line: &str| {
+        let values: Vec<&str> = line.split(' ').collect();
+        match values[..] {
+            ["E", number, byte] => Event::Refused(number.parse().unwrap(), byte.parse().unwrap()),
+            [pen, x0, y0, x1, y1] => {
+                Event::Drawn(Drawn::Stroke(stroke(&format!("{pen}:{x0},{y0}-{x1},{y1}"))))
+            }
+            _ => panic!("{id}: {line}"),
+        }
+    };
+    let events: Vec<Event> = strokes(&input, &[]).lines().map(event).collect();
+    check_events(id, fields[1], input.len(), &events);
+    assert_eq!(outcomes::strokes(&mut outcomes::fresh(LIMITS).0, &input), events, "{id}");
+}
+
+/// The lengths of the moves, in millimetres, against the bits of the stored outcome.
+fn check_drive(id: &str, fields: &[&str]) {
+    let line = OUTCOMES.lines().find(|l| l.starts_with(&format!("{id} |"))).unwrap();
+    let length = |word: &str| match word.parse::<f32>() {
+        Ok(length) => format!("{:08x}", length.to_bits()),
+        Err(_) => word.to_string(),
+    };
+    let due: Vec<String> = words(fields[2]).map(length).collect();
+    assert_eq!(line.split_once('|').unwrap().1.trim(), due.join(" "), "{id}");
 }
 
 /// What the program *strokes* prints.
@@ -255,52 +188,41 @@ fn strokes(input: &[u8], arguments: &[&str]) -> String {
 }
 
 #[test]
-fn vectors() {
+fn stated_outcomes() {
     let mut limits = LIMITS;
     let mut failures = Vec::new();
     let mut count = 0;
-    for line in VECTORS.lines().filter(|l| !l.trim().is_empty() && !l.starts_with('#')) {
-        if let Some(values) = line.strip_prefix("limits") {
-            let values: Vec<i64> = values.split_whitespace().map(|v| v.parse().unwrap()).collect();
-            limits = values.try_into().unwrap_or(LIMITS);
-            continue;
-        }
-        let fields: Vec<&str> = line.split(" |").map(str::trim).collect();
-        let (kind, id) = fields[0].split_once(' ').unwrap();
+    for line in outcomes::lines(VECTORS) {
+        let (kind, id, fields) = match line {
+            Line::Limits(values) => {
+                limits = values;
+                continue;
+            }
+            Line::Calls(kind, id, fields) => (kind, id, fields),
+        };
         count += 1;
         let check = || match kind {
-            "take" => {
-                let [program, events, look] = fields[1..] else { panic!("{id}: fields") };
-                let (seen, bytes, end, waits) = run(limits, &steps(program));
-                check_events(id, events, bytes, &seen);
-                check_look(id, look, &end, waits);
-            }
-            "feed" => check_feed(id, limits, &fields[1..]),
-            "strokes" => check_program(id, &fields[1..]),
-            _ => panic!("{line}"),
+            "take" => check_take(id, limits, &fields),
+            "feed" => check_feed(id, limits, &fields),
+            "strokes" => check_strokes(id, &fields),
+            "drive" => check_drive(id, &fields),
+            _ => panic!("{kind} {id}"),
         };
         if std::panic::catch_unwind(check).is_err() {
             failures.push(id.to_string());
         }
     }
-    assert!(count > 250, "only {count} vectors");
+    assert!(count > 300, "only {count} vectors");
     assert!(failures.is_empty(), "of {count} vectors failed: {failures:?}");
     println!("{count} vectors");
 }
 
-/// The table as raw calls: the machine's answers must not depend on the exact model.
 #[test]
-fn feed_waits_at_entry() {
-    let mut machine = Machine::fresh(-10, -10, 10, 10).0;
-    for byte in *b"SP1;PD5,5;" {
-        assert_eq!(machine.take(byte), 0);
+fn stored_outcomes() {
+    for (stored, due) in OUTCOMES.lines().zip(outcomes::outcomes(VECTORS).lines()) {
+        assert_eq!(stored, due);
     }
-    assert_eq!(machine.feed(b"", &mut []), Fed { taken: 0, stored: 0, number: 21 });
-    assert_eq!(machine.feed(b"@", &mut []), Fed { taken: 0, stored: 0, number: 21 });
-    let mut list = [Stroke::default(); 1];
-    assert_eq!(machine.feed(b"", &mut list), Fed { taken: 0, stored: 1, number: 0 });
-    assert_eq!(list[0], Stroke { pen: 1, x0: 0, y0: 0, x1: 5, y1: 5 });
-    assert_eq!(machine.feed(b"@", &mut []), Fed { taken: 1, stored: 0, number: 1 });
+    assert_eq!(OUTCOMES, outcomes::outcomes(VECTORS));
 }
 
 /// Bytes are counted over the whole input, over block and list borders.

@@ -1,0 +1,50 @@
+-- `sinecheck::main` is safe and ends. Assumes nothing.
+use Prim.Native.Nat.{_≤_, _-_}
+use borrow.Author.Needs.{needs}
+use Rattle.sinecheck.proofs.main.Statement.{statement}
+use Rattle.sinecheck.proofs.main.Tie as tie
+
+abbrev Inv-loop : tie.InvT-loop
+Inv-loop buffer₀ used₀ tenths₀ buffer used tenths = tenths ≤ 3600
+
+abbrev μ-loop : tie.MeasureT-loop
+μ-loop buffer₀ used₀ tenths₀ buffer used tenths = 3600 - tenths
+
+large-buffer-requires : tie.Need-large-buffer-requires Inv-loop μ-loop
+large-buffer-requires c κs = search needs
+
+loop-holds : tie.Need-loop-holds Inv-loop μ-loop
+loop-holds c = search needs
+
+put-line-requires : tie.Need-put-line-requires Inv-loop μ-loop
+put-line-requires c κs = search needs
+
+add-tenths : tie.Need-add-tenths Inv-loop μ-loop
+add-tenths c = search needs
+
+loop-less : tie.Need-loop-less Inv-loop μ-loop
+loop-less c = search needs
+
+loop-again : tie.Need-loop-again Inv-loop μ-loop
+loop-again c = search needs
+
+flush-requires : tie.Need-flush-requires Inv-loop μ-loop
+flush-requires c κs = search needs
+
+returns : tie.Need-returns Inv-loop μ-loop
+returns c = search needs
+
+pub main-spec : {M : Type 1} → statement M
+main-spec =
+    tie.close
+    (tie.spec
+    Inv-loop
+    μ-loop
+    large-buffer-requires
+    loop-holds
+    put-line-requires
+    add-tenths
+    loop-less
+    loop-again
+    flush-requires
+    returns)

@@ -1,0 +1,69 @@
+-- `vectors::calls::draw_some` is safe and ends, and keeps a machine that the calls make. Assumes nothing.
+use Prim.Native.Nat.{_≤_, _-_}
+use mathlib.Core.Path.{_≡_}
+use native.Mathlib.Omega.{arith}
+use borrow.Author.Needs.{needs}
+use Rattle.hpgl.specs.declared.State.{State}
+use Rattle.hpgl.specs.Made.{Made, draw}
+use Rattle.machine.specs.declared.Worked.{Worked}
+use Rattle.machine.specs.Calls.{workedOf}
+use Rattle.vectors.proofs.calls.draw_some.Statement.{statement}
+use Rattle.vectors.proofs.calls.draw_some.Tie as tie
+
+abbrev Inv-loop : tie.InvT-loop
+Inv-loop c most out₀ m₀ used₀ counter₀ out m used counter = (counter ≤ most) × Made (m .state)
+
+abbrev μ-loop : tie.MeasureT-loop
+μ-loop c most out₀ m₀ used₀ counter₀ out m used counter = most - counter
+
+worked-made : (m : State) (w : Worked) → Made m → w ≡ workedOf m → Made (w .machine .state)
+unfolding workedOf
+worked-made m w made e = rw e (draw made)
+
+drawn-made : (c : tie.After-draw Inv-loop μ-loop) → Made (c .draw .result .machine .state)
+drawn-made c =
+    let turn = c .before .before .loop in
+    worked-made (turn .m .state) (c .draw .result) (turn .inv .1) (c .draw .ensures)
+
+loop-holds : tie.Need-loop-holds Inv-loop μ-loop
+loop-holds c = search needs
+
+draw-requires : tie.Need-draw-requires Inv-loop μ-loop
+draw-requires c κs = search needs
+
+put-drawn-requires : tie.Need-put-drawn-requires Inv-loop μ-loop
+put-drawn-requires c κs = search needs
+
+is-idle-requires : tie.Need-is-idle-requires Inv-loop μ-loop
+is-idle-requires c κs = search needs
+
+add-counter : tie.Need-add-counter Inv-loop μ-loop
+add-counter c = search needs
+
+loop-less : tie.Need-loop-less Inv-loop μ-loop
+loop-less c = search needs
+
+loop-again : tie.Need-loop-again Inv-loop μ-loop
+loop-again c = (omega arith, drawn-made (c .before .before .before .before .before))
+
+returns : tie.Need-returns Inv-loop μ-loop
+returns c = search needs
+
+returns-2 : tie.Need-returns-2 Inv-loop μ-loop
+returns-2 c = drawn-made (c .before .before .before .before .before)
+
+pub draw-some-spec : {M : Type 1} → statement M
+draw-some-spec =
+    tie.close
+    (tie.spec
+    Inv-loop
+    μ-loop
+    loop-holds
+    draw-requires
+    put-drawn-requires
+    is-idle-requires
+    add-counter
+    loop-less
+    loop-again
+    returns
+    returns-2)

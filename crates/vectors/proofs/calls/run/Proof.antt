@@ -1,0 +1,55 @@
+-- `vectors::calls::run` is safe and ends. Assumes nothing.
+use Prim.Native.Nat.{_-_}
+use borrow.Author.Needs.{needs}
+use Rattle.hpgl.specs.Made.{Made}
+use Rattle.vectors.proofs.calls.run.Statement.{statement}
+use Rattle.vectors.proofs.calls.run.Tie as tie
+
+abbrev Inv-loop : tie.InvT-loop
+Inv-loop codes count out₀ course₀ i₀ out course i = Made (course .machine .state)
+
+abbrev μ-loop : tie.MeasureT-loop
+μ-loop codes count out₀ course₀ i₀ out course i = count - i
+
+loop-holds : tie.Need-loop-holds Inv-loop μ-loop
+loop-holds c = search needs
+
+returns : tie.Need-returns Inv-loop μ-loop
+returns c = search needs
+
+mul-go : tie.Need-mul-go Inv-loop μ-loop
+mul-go c = search needs
+
+element-copy-out-go : tie.Need-element-copy-out-go Inv-loop μ-loop
+element-copy-out-go c = search needs
+
+go-requires : tie.Need-go-requires Inv-loop μ-loop
+go-requires c κs = search needs
+
+add-i : tie.Need-add-i Inv-loop μ-loop
+add-i c = search needs
+
+loop-less : tie.Need-loop-less Inv-loop μ-loop
+loop-less c = search needs
+
+loop-again : tie.Need-loop-again Inv-loop μ-loop
+loop-again c = search needs
+
+returns-2 : tie.Need-returns-2 Inv-loop μ-loop
+returns-2 c = search needs
+
+pub run-spec : {M : Type 1} → statement M
+run-spec =
+    tie.close
+    (tie.spec
+    Inv-loop
+    μ-loop
+    loop-holds
+    returns
+    mul-go
+    element-copy-out-go
+    go-requires
+    add-i
+    loop-less
+    loop-again
+    returns-2)

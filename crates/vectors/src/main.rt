@@ -1,0 +1,223 @@
+// Runs byte sequences over the machine. Each line of standard input names the calls to make, and its outcome is printed in one line.
+// The head of the stored `stdin` says how a line is written, docs/VECTORS.md where the outcomes in the stored `stdout` come from.
+ghost use Rattle.hpgl.specs.Made.{Made};
+
+mod calls;
+mod drives;
+mod feeds;
+mod fields;
+mod outcome;
+mod sequence;
+
+use calls::Course;
+use calls::look_at;
+use calls::run;
+use drive::drive;
+use drives::put_moves;
+use feeds::BYTES;
+use feeds::bytes_of;
+use feeds::feed_all;
+use feeds::feed_once;
+use fields::field;
+use fields::name_of;
+use fields::natural_at;
+use fields::whole_at;
+use libc::STDIN_FILENO;
+use machine::Machine;
+use machine::Stroke;
+use outcome::put_number;
+use sequence::ROOM;
+use sequence::write_out;
+use text::put_byte;
+use text::put_bytes;
+
+// The hard limits of the lines to come.
+struct Limits {
+    left: i64,
+    bottom: i64,
+    right: i64,
+    top: i64,
+}
+
+const USUAL: Limits = Limits {
+    left: -10000,
+    bottom: -7000,
+    right: 10000,
+    top: 7000,
+};
+
+fn kind_of(line: &[u8]) -> u8 {
+    if 0 < line.len() {
+        return line[0];
+    }
+    0
+}
+
+// The limits that a line sets: its four numbers, or the usual ones where it has none.
+fn limits_of(line: &[u8]) -> Limits {
+    if line.len() <= 7 {
+        return USUAL;
+    }
+    let left = whole_at(line, 6);
+    let bottom = whole_at(line, left.next);
+    let right = whole_at(line, bottom.next);
+    let top = whole_at(line, right.next);
+    Limits {
+        left: left.value,
+        bottom: bottom.value,
+        right: right.value,
+        top: top.value,
+    }
+}
+
+// Limits, and the number that fresh answers for them.
+fn put_limits(limits: Limits, out: &mut [u8; 65536], used: usize) -> usize {
+    let started = Machine::fresh(limits.left, limits.bottom, limits.right, limits.top);
+    let end = put_number(out, used, b"limits ", limits.left);
+    let end = put_number(out, end, b" ", limits.bottom);
+    let end = put_number(out, end, b" ", limits.right);
+    let end = put_number(out, end, b" ", limits.top);
+    put_number(out, end, b" | ", started.number as i64)
+}
+
+fn fresh_machine(limits: Limits) -> Machine
+    ensures { λ r. ⌜ Made (r .state) ⌝ }
+{
+    let started = Machine::fresh(limits.left, limits.bottom, limits.right, limits.top);
+    started.machine
+}
+
+fn put_name(line: &[u8], out: &mut [u8; 65536], used: usize) -> usize {
+    let name = name_of(line);
+    let from = name.from;
+    let to = name.to;
+    let end = put_bytes(out, used, &line[from..to]);
+    put_bytes(out, end, b" |")
+}
+
+// The number of a field.
+fn number_of(line: &[u8], n: usize) -> u64 {
+    let span = field(line, n);
+    let number = natural_at(line, span.from);
+    number.value
+}
+
+// The sequence of a field, written out.
+fn codes_of(line: &[u8], n: usize, codes: &mut [u16; ROOM]) -> usize {
+    let span = field(line, n);
+    let from = span.from;
+    let to = span.to;
+    write_out(&line[from..to], codes)
+}
+
+fn run_take(line: &[u8], limits: Limits, out: &mut [u8; 65536], used: usize) -> usize {
+    let mut codes = [0u16; ROOM];
+    let count = codes_of(line, 1, &mut codes);
+    let start = Course {
+        machine: fresh_machine(limits),
+        hold: false,
+        taken: 0,
+        used: used,
+    };
+    let course = run(start, &codes, count, out);
+    let end = put_bytes(out, course.used, b" |");
+    let last = course.machine;
+    look_at(last, out, end)
+}
+
+fn run_feed(line: &[u8], limits: Limits, out: &mut [u8; 65536], used: usize) -> usize {
+    let mut codes = [0u16; ROOM];
+    let before = codes_of(line, 1, &mut codes);
+    let start = Course {
+        machine: fresh_machine(limits),
+        hold: true,
+        taken: 0,
+        used: used,
+    };
+    let course = run(start, &codes, before, out);
+    let count = codes_of(line, 3, &mut codes);
+    let mut bytes = [0u8; BYTES];
+    let n = bytes_of(&codes, count, &mut bytes);
+    let m = course.machine;
+    feed_once(m, &bytes[0..n], number_of(line, 2), out, course.used)
+}
+
+fn run_strokes(line: &[u8], limits: Limits, out: &mut [u8; 65536], used: usize) -> usize {
+    let mut codes = [0u16; ROOM];
+    let count = codes_of(line, 1, &mut codes);
+    let mut bytes = [0u8; BYTES];
+    let n = bytes_of(&codes, count, &mut bytes);
+    feed_all(fresh_machine(limits), &bytes[0..n], out, used)
+}
+
+fn run_drive(line: &[u8], out: &mut [u8; 65536], used: usize) -> usize {
+    let pitch = number_of(line, 1) % 256;
+    let pen = number_of(line, 2) % 256;
+    let span = field(line, 2);
+    let skipped = whole_at(line, span.from);
+    let x0 = whole_at(line, skipped.next);
+    let y0 = whole_at(line, x0.next);
+    let x1 = whole_at(line, y0.next);
+    let y1 = whole_at(line, x1.next);
+    let stroke = Stroke {
+        pen: pen as u8,
+        x0: x0.value,
+        y0: y0.value,
+        x1: x1.value,
+        y1: y1.value,
+    };
+    put_moves(out, used, drive(stroke, pitch as u8))
+}
+
+// A line of calls. Comments and empty lines are none.
+fn run_line(line: &[u8], limits: Limits, out: &mut [u8; 65536], used: usize) -> usize {
+    let kind = kind_of(line);
+    let named = put_name(line, out, used);
+    if kind == b't' {
+        return run_take(line, limits, out, named);
+    }
+    if kind == b'f' {
+        return run_feed(line, limits, out, named);
+    }
+    if kind == b's' {
+        return run_strokes(line, limits, out, named);
+    }
+    if kind == b'd' {
+        return run_drive(line, out, named);
+    }
+    put_bytes(out, named, b" unknown")
+}
+
+fn is_comment(line: &[u8]) -> bool {
+    let kind = kind_of(line);
+    kind == 0 || kind == b'#'
+}
+
+fn run_lines(text: &[u8]) {
+    let mut out = io::large_buffer();
+    let mut used = 0;
+    let mut limits = USUAL;
+    let mut at = 0;
+    while at < text.len() {
+        let end = bytes::scan::find(text, at, text.len(), b'\n');
+        let line = &text[at..end];
+        at = end + 1;
+        if is_comment(line) {
+            continue;
+        }
+        if kind_of(line) == b'l' {
+            limits = limits_of(line);
+            used = put_limits(limits, &mut out, used);
+        } else {
+            used = run_line(line, limits, &mut out, used);
+        }
+        used = put_byte(&mut out, used, b'\n');
+    }
+    text::flush(&out, used);
+}
+
+fn main() {
+    let mut input = io::large_buffer();
+    let n = io::read_full(STDIN_FILENO, &mut input);
+    run_lines(&input[..n]);
+}

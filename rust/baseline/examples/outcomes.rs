@@ -1,0 +1,289 @@
+//! The whole outcome of every line of `crates/vectors/stdin`, in the form of `crates/vectors/stdout`:
+//!
+//!     cargo run --offline --example outcomes < ../../crates/vectors/stdin > ../../crates/vectors/stdout
+
+use baseline::{drive, number, Drawn, Look, Machine, Move, Moves, Place, Stroke};
+use std::fmt::Write;
+use std::io::Read;
+
+/// Hard limits where a line `limits` has none.
+pub const LIMITS: [i64; 4] = [-10_000, -7_000, 10_000, 7_000];
+
+/// What a record of the lent list holds before feed.
+pub const MARK: Stroke = Stroke { pen: 7, x0: 7, y0: 7, x1: 7, y1: 7 };
+
+/// A step of the field "bytes".
+#[derive(Clone, Copy, PartialEq, Debug)]
+pub enum Step {
+    /// The byte is taken, and all that waits is drawn.
+    Byte(u8),
+    /// From here on no draws follow a byte.
+    Hold,
+    /// One draw.
+    Draw,
+}
+
+/// Something that happened.
+#[derive(Clone, PartialEq, Debug)]
+pub enum Event {
+    /// The number, and the byte, counted from 1.
+    Refused(u8, usize),
+    /// A stroke, or "hidden".
+    Drawn(Drawn),
+}
+
+/// A line: hard limits, or a kind of calls with a name and fields.
+pub enum Line<'a> {
+    /// `limits`
+    Limits([i64; 4]),
+    /// `take`, `feed`, `strokes`, `drive`
+    Calls(&'a str, &'a str, Vec<&'a str>),
+}
+
+/// The lines of a file, without comments and empty ones.
+pub fn lines(text: &str) -> Vec<Line<'_>> {
+    let some = |l: &&str| !l.is_empty() && !l.starts_with('#');
+    text.lines().filter(some).map(line).collect()
+}
+
+fn line(text: &str) -> Line<'_> {
+    if let Some(values) = text.strip_prefix("limits") {
+        let values: Vec<i64> = values.split_whitespace().map(|v| v.parse().unwrap()).collect();
+        return Line::Limits(values.try_into().unwrap_or(LIMITS));
+    }
+    let fields: Vec<&str> = text.split('|').map(str::trim).collect();
+    let (kind, id) = fields[0].split_once(' ').unwrap();
+    Line::Calls(kind, id, fields[1..].to_vec())
+}
+
+/// Reads the notation of the field "bytes".
+pub fn steps(text: &str) -> Vec<Step> {
+    let mut out = Vec::new();
+    let mut rest = text;
+    while let Some(c) = rest.chars().next() {
+        rest = &rest[c.len_utf8()..];
+        match c {
+            '\\' => {
+                let (byte, length) = match rest.as_bytes()[0] {
+                    b'n' => (10, 1),
+                    b's' => (32, 1),
+                    b'x' => (u8::from_str_radix(&rest[1..3], 16).unwrap(), 3),
+                    _ => panic!("escape in {text}"),
+                };
+                out.push(Step::Byte(byte));
+                rest = &rest[length..];
+            }
+            '{' => {
+                let end = rest.find('}').unwrap();
+                out.extend(braces(&rest[..end]));
+                rest = &rest[end + 1..];
+            }
+            c => out.push(Step::Byte(u8::try_from(c).unwrap())),
+        }
+    }
+    out
+}
+
+fn braces(text: &str) -> Vec<Step> {
+    let words: Vec<&str> = text.splitn(3, ' ').collect();
+    let bytes = |text: String| text.bytes().map(Step::Byte).collect();
+    match words[..] {
+        ["hold"] => vec![Step::Hold],
+        ["draw"] => vec![Step::Draw],
+        ["fill", k] => {
+            let points = (1..=k.parse().unwrap()).map(|i: u32| format!("{i},0"));
+            bytes(points.collect::<Vec<_>>().join(","))
+        }
+        ["rep", k, part] => bytes(part.repeat(k.parse().unwrap())),
+        _ => panic!("{{{text}}}"),
+    }
+}
+
+/// The bytes of a field without marks.
+pub fn bytes(text: &str) -> Vec<u8> {
+    let byte = |step| match step {
+        Step::Byte(byte) => byte,
+        _ => panic!("a mark in {text}"),
+    };
+    steps(text).into_iter().map(byte).collect()
+}
+
+/// What take, draw and look need of a machine, so that a second one may stand beside it.
+pub trait Calls {
+    /// One byte.
+    fn take(&mut self, byte: u8) -> u8;
+    /// One draw.
+    fn draw(&mut self) -> Drawn;
+}
+
+impl Calls for Machine {
+    fn take(&mut self, byte: u8) -> u8 {
+        Machine::take(self, byte)
+    }
+
+    fn draw(&mut self) -> Drawn {
+        Machine::draw(self)
+    }
+}
+
+/// The events of a line `take`, and how many bytes it has.
+pub fn run(machine: &mut impl Calls, program: &[Step]) -> (Vec<Event>, usize) {
+    let mut events = Vec::new();
+    let (mut count, mut hold) = (0, false);
+    for step in program {
+        let draws = match step {
+            Step::Hold => {
+                hold = true;
+                0
+            }
+            Step::Draw => 1,
+            Step::Byte(byte) => {
+                count += 1;
+                match machine.take(*byte) {
+                    0 => {}
+                    number => events.push(Event::Refused(number, count)),
+                }
+                if hold {
+                    0
+                } else {
+                    usize::MAX
+                }
+            }
+        };
+        for _ in 0..draws {
+            match machine.draw() {
+                Drawn::Idle => break,
+                drawn => events.push(Event::Drawn(drawn)),
+            }
+        }
+    }
+    (events, count)
+}
+
+fn events_text(events: &[Event]) -> String {
+    let mut text = String::new();
+    for event in events {
+        match event {
+            Event::Refused(number, byte) => write!(text, " E{number}@{byte}").unwrap(),
+            Event::Drawn(Drawn::Stroke(s)) => text += &stroke_text(s),
+            Event::Drawn(Drawn::Hidden) => text += " hid",
+            Event::Drawn(Drawn::Idle) => unreachable!(),
+        }
+    }
+    text
+}
+
+fn stroke_text(s: &Stroke) -> String {
+    format!(" {}:{},{}-{},{}", s.pen, s.x0, s.y0, s.x1, s.y1)
+}
+
+fn look_text(machine: &Machine) -> String {
+    let Look { x, y, pen, down, bytes } = machine.look();
+    let pen_is = if down { "dn" } else { "up" };
+    let work = if machine.clone().draw() == Drawn::Idle { "idle" } else { "waits" };
+    format!(" x={x} y={y} pen={pen} by={bytes} {pen_is} {work}")
+}
+
+/// What feed does to a machine.
+pub struct Fed {
+    /// The events of the bytes before it.
+    pub before: Vec<Event>,
+    /// Its answer: bytes taken, strokes stored, number.
+    pub answer: [usize; 3],
+    /// The whole list after it.
+    pub list: Vec<Stroke>,
+}
+
+/// A line `feed`.
+pub fn feed(machine: &mut Machine, fields: &[&str]) -> Fed {
+    let mut program = steps(fields[0]);
+    program.insert(0, Step::Hold);
+    let before = run(machine, &program).0;
+    let mut list = vec![MARK; fields[1].parse().unwrap()];
+    let fed = machine.feed(&bytes(fields[2]), &mut list);
+    Fed { before, answer: [fed.taken, fed.stored, usize::from(fed.number)], list }
+}
+
+/// What the program strokes prints: feed after feed, with a list of two records.
+pub fn strokes(machine: &mut Machine, input: &[u8]) -> Vec<Event> {
+    let mut events = Vec::new();
+    let mut at = 0;
+    loop {
+        let mut list = [MARK; 2];
+        let fed = machine.feed(&input[at..], &mut list);
+        at += fed.taken;
+        events.extend(list[..fed.stored].iter().map(|&s| Event::Drawn(Drawn::Stroke(s))));
+        match fed.number {
+            0 => return events,
+            number::FULL => {}
+            refused => events.push(Event::Refused(refused, at)),
+        }
+    }
+}
+
+/// Moves with each length by its bits.
+fn moves_text(fields: &[&str]) -> String {
+    let numbers: Vec<i64> = fields[1].split(' ').map(|v| v.parse().unwrap()).collect();
+    let [pen, x0, y0, x1, y1] = numbers[..] else { panic!("{fields:?}") };
+    let stroke = Stroke { pen: u8::try_from(pen).unwrap(), x0, y0, x1, y1 };
+    match drive(stroke, fields[0].parse().unwrap()) {
+        Ok(Moves::Two(first, second)) => move_text(first) + &move_text(second),
+        Ok(Moves::One(dot)) => move_text(dot),
+        Err(number) => format!(" E{number}"),
+    }
+}
+
+fn move_text(step: Move) -> String {
+    let (name, Place { x, y }) = match step {
+        Move::Travel(place) => ("travel", place),
+        Move::Paint(place) => ("paint", place),
+        Move::Dot(place) => ("dot", place),
+    };
+    format!(" {name} {:08x} {:08x}", x.to_bits(), y.to_bits())
+}
+
+/// A machine with these hard limits, and the number that fresh answers.
+pub fn fresh([l, b, r, t]: [i64; 4]) -> (Machine, u8) {
+    Machine::fresh(l, b, r, t)
+}
+
+/// The outcomes of all lines of a file.
+pub fn outcomes(text: &str) -> String {
+    let mut limits = LIMITS;
+    let mut out = String::new();
+    for line in lines(text) {
+        let (kind, id, fields) = match line {
+            Line::Limits(values) => {
+                limits = values;
+                let [l, b, r, t] = values;
+                writeln!(out, "limits {l} {b} {r} {t} | {}", fresh(values).1).unwrap();
+                continue;
+            }
+            Line::Calls(kind, id, fields) => (kind, id, fields),
+        };
+        let mut machine = fresh(limits).0;
+        let outcome = match kind {
+            "take" => {
+                let events = events_text(&run(&mut machine, &steps(fields[0])).0);
+                events + " |" + &look_text(&machine)
+            }
+            "feed" => {
+                let Fed { before, answer, list } = feed(&mut machine, &fields);
+                let [taken, stored, number] = answer;
+                let records: String = list.iter().map(stroke_text).collect();
+                format!("{} {taken} {stored} {number} |{records}", events_text(&before))
+            }
+            "strokes" => events_text(&strokes(&mut machine, &bytes(fields[0]))),
+            "drive" => moves_text(&fields),
+            _ => panic!("{kind} {id}"),
+        };
+        writeln!(out, "{id} |{outcome}").unwrap();
+    }
+    out
+}
+
+fn main() {
+    let mut text = String::new();
+    std::io::stdin().read_to_string(&mut text).unwrap();
+    print!("{}", outcomes(&text));
+}
