@@ -1,0 +1,193 @@
+// Stored drawings: the lines of each are compared with those stored beside it, byte by byte.
+//
+// The file list has a line of six words for each: the drawing, the file of its lines, and the hard limits left, bottom, right, top.
+ghost use mathlib.Core.Path.{_≡_};
+ghost use Prim.Native.Nat.{_+_, _≤_};
+ghost use lib.ListN.{length, drop};
+ghost use Rattle.drawings.specs.Part.{indexOf, Within};
+ghost use Rattle.hpgl.specs.Made.{Made};
+use libc::STDERR_FILENO;
+use libc::STDOUT_FILENO;
+use lines::word::Limits;
+use lines::word::Whole;
+use lines::word::limits_of;
+use lines::word::whole_of;
+use machine::Machine;
+use plotting::files::End;
+use plotting::files::Sink;
+use plotting::files::run;
+
+// Where a word of a line starts and ends.
+struct Part {
+    from: usize,
+    to: usize,
+}
+
+// The place of the next such byte, or the end.
+fn find(text: &[u8], from: usize, byte: u8) -> usize
+    requires { ⌜ from ≤ length (now text) ⌝ }
+    ensures { λ r. ⌜ r ≡ from + indexOf byte (drop from (now (text .entry))) ⌝ }
+    ensures { λ r. ⌜ r ≤ length (now (text .entry)) ⌝ }
+{
+    let mut at = from;
+    while at < text.len() {
+        if text[at] == byte {
+            return at;
+        }
+        at += 1;
+    }
+    at
+}
+
+fn word_at(line: &[u8], from: usize) -> Part
+    requires { ⌜ from ≤ length (now line) ⌝ }
+    ensures { λ r. ⌜ Within r (now (line .entry)) ⌝ }
+{
+    let to = find(line, from, b' ');
+    Part { from: from, to: to }
+}
+
+// The word after another, which is empty at the end of the line.
+fn word_after(line: &[u8], w: Part) -> Part
+    requires { ⌜ Within w (now line) ⌝ }
+    ensures { λ r. ⌜ Within r (now (line .entry)) ⌝ }
+{
+    let to = w.to;
+    if to < line.len() {
+        return word_at(line, to + 1);
+    }
+    word_at(line, to)
+}
+
+fn limit(line: &[u8], w: Part) -> Whole
+    requires { ⌜ Within w (now line) ⌝ }
+{
+    let from = w.from;
+    let to = w.to;
+    whole_of(&line[from..to])
+}
+
+fn open(line: &[u8], w: Part) -> i32
+    requires { ⌜ Within w (now line) ⌝ }
+{
+    let from = w.from;
+    let to = w.to;
+    let file = os::open_read(&line[from..to]);
+    if file < 0 {
+        os::fail(&line[from..to]);
+    }
+    file
+}
+
+// Whether a file has nothing more.
+fn at_end(file: i32) -> bool {
+    let mut byte = [0u8; 1];
+    libc::read(file, &mut byte) == 0
+}
+
+fn same_lines(sink: Sink) -> u64 {
+    match sink {
+        Sink::Write(_) => 0,
+        Sink::Compare(_, lines) => lines,
+    }
+}
+
+// Prints a file's name, and what is said of so many lines.
+fn say(line: &[u8], w: Part, what: &[u8], lines: u64, after: &[u8])
+    requires { ⌜ Within w (now line) ⌝ }
+{
+    let from = w.from;
+    let to = w.to;
+    io::write_all(STDOUT_FILENO, &line[from..to]);
+    io::write_all(STDOUT_FILENO, what);
+    io::print_decimal(STDOUT_FILENO, lines);
+    io::write_all(STDOUT_FILENO, after);
+}
+
+// Compares the lines of a drawing with those of a file, and says what came of it.
+fn compare(line: &[u8], w: Part, machine: Machine, drawing: i32, stored: i32)
+    requires { ⌜ Within w (now line) ⌝ }
+    requires { ⌜ Made (machine .state) ⌝ }
+{
+    let finished = run(machine, drawing, Sink::Compare(stored, 0));
+    let end = finished.end;
+    let sink = finished.sink;
+    let same = same_lines(sink);
+    if let End::Done = end {
+        if at_end(stored) {
+            say(line, w, b": as stored, ", same, b" lines\n");
+            return;
+        }
+    }
+    say(
+        line,
+        w,
+        b": differs at line ",
+        std::num::wrapping_add_u64(same, 1),
+        b"\n",
+    );
+}
+
+fn check_files(line: &[u8], drawn: Part, kept: Part, machine: Machine)
+    requires { ⌜ Within drawn (now line) ⌝ }
+    requires { ⌜ Within kept (now line) ⌝ }
+    requires { ⌜ Made (machine .state) ⌝ }
+{
+    let drawing = open(line, drawn);
+    if drawing < 0 {
+        return;
+    }
+    let stored = open(line, kept);
+    if stored < 0 {
+        return;
+    }
+    compare(line, kept, machine, drawing, stored);
+    libc::close(drawing);
+    libc::close(stored);
+}
+
+fn check_line(line: &[u8]) {
+    let drawn = word_at(line, 0);
+    let kept = word_after(line, drawn);
+    let left = word_after(line, kept);
+    let bottom = word_after(line, left);
+    let right = word_after(line, bottom);
+    let top = word_after(line, right);
+    let asked = limits_of(
+        limit(line, left),
+        limit(line, bottom),
+        limit(line, right),
+        limit(line, top),
+    );
+    let Limits::Four(l, b, r, t) = asked else {
+        io::write_all(
+            STDERR_FILENO,
+            b"drawings: a line of the list has no four limits\n",
+        );
+        return;
+    };
+    let started = Machine::fresh(l, b, r, t);
+    let machine = started.machine;
+    check_files(line, drawn, kept, machine);
+}
+
+fn check_list(list: &[u8]) {
+    let mut from = 0;
+    while from < list.len() {
+        let to = find(list, from, b'\n');
+        check_line(&list[from..to]);
+        from = to + 1;
+    }
+}
+
+fn main() {
+    let mut space = io::large_buffer();
+    let file = os::open_read(b"list");
+    if file < 0 {
+        os::fail(b"list");
+        return;
+    }
+    let n = io::read_full(file, &mut space);
+    libc::close(file);
+    check_list(&space[..n]);
+}

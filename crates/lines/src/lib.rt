@@ -1,0 +1,120 @@
+// Lines of text in a lent buffer: a stroke's five numbers, or a refusal. specs/Text.antt has the text of each.
+ghost use mathlib.Core.List.{_∷_, []};
+ghost use mathlib.Core.Path.{_≡_};
+ghost use Prim.Native.Nat.{_+_, _*_, _<_, _≤_};
+ghost use lib.IntN.{natAbs};
+ghost use lib.ListN.{length};
+ghost use Rattle.lines.specs.Text.{decimal, natural, sign, whole, strokeAt, strokesBelow, refusalText, longest, Puts};
+ghost use Rattle.lines.specs.Text.{digit as digitOf};
+
+pub mod word;
+
+// The most bytes of a line.
+pub const LONGEST: usize = 105;
+
+fn put_byte(out: &mut [u8], at: usize, byte: u8) -> usize
+    requires { ⌜ at < length (now out) ⌝ }
+    ensures { λ r. ⌜ Puts (byte ∷ []) (now (out .entry)) (now (out .exit)) at r ⌝ }
+{
+    out[at] = byte;
+    at + 1
+}
+
+fn digit_code(digit: u64) -> u8
+    requires { ⌜ digit < 10 ⌝ }
+    ensures { λ r. ⌜ r ≡ digitOf digit ⌝ }
+{
+    b'0' + digit as u8
+}
+
+// The digits of a number: those of its tenth, and the last one.
+fn put_decimal(out: &mut [u8], at: usize, n: u64) -> usize
+    requires { ⌜ at + length (decimal n) ≤ length (now out) ⌝ }
+    ensures { λ r. ⌜ Puts (decimal n) (now (out .entry)) (now (out .exit)) at r ⌝ }
+{
+    if n < 10 {
+        return put_byte(out, at, digit_code(n));
+    }
+    let next = put_decimal(out, at, n / 10);
+    put_byte(out, next, digit_code(n % 10))
+}
+
+// A number that is not below 0, and the byte after it.
+fn put_natural(out: &mut [u8], at: usize, n: u64, byte: u8) -> usize
+    requires { ⌜ at + length (natural n byte) ≤ length (now out) ⌝ }
+    ensures { λ r. ⌜ Puts (natural n byte) (now (out .entry)) (now (out .exit)) at r ⌝ }
+{
+    let next = put_decimal(out, at, n);
+    put_byte(out, next, byte)
+}
+
+// The size of a number; the least one has no positive one beside it.
+fn size(z: i64) -> u64
+    ensures { λ r. ⌜ r ≡ natAbs z ⌝ }
+{
+    if z < 0 {
+        return (-1 - z) as u64 + 1;
+    }
+    z as u64
+}
+
+fn put_sign(out: &mut [u8], at: usize, z: i64) -> usize
+    requires { ⌜ at + length (sign z) ≤ length (now out) ⌝ }
+    ensures { λ r. ⌜ Puts (sign z) (now (out .entry)) (now (out .exit)) at r ⌝ }
+{
+    if z < 0 {
+        return put_byte(out, at, b'-');
+    }
+    at
+}
+
+// Any number, and the byte after it.
+fn put_whole(out: &mut [u8], at: usize, z: i64, byte: u8) -> usize
+    requires { ⌜ at + length (whole z byte) ≤ length (now out) ⌝ }
+    ensures { λ r. ⌜ Puts (whole z byte) (now (out .entry)) (now (out .exit)) at r ⌝ }
+{
+    let next = put_sign(out, at, z);
+    put_natural(out, next, size(z), byte)
+}
+
+// The line of the i-th five numbers: pen, x0, y0, x1, y1.
+pub fn stroke_line(out: &mut [u8], at: usize, numbers: &[i64], i: usize) -> usize
+    requires { ⌜ at + longest ≤ length (now out) ⌝ }
+    requires { ⌜ i * 5 + 5 ≤ length (now numbers) ⌝ }
+    ensures { λ r. ⌜ Puts (strokeAt (now (numbers .entry)) i) (now (out .entry)) (now (out .exit)) at r ⌝ }
+    ensures { λ r. ⌜ r ≤ at + longest ⌝ }
+{
+    let pen = i * 5;
+    let x0 = put_whole(out, at, numbers[pen], b' ');
+    let y0 = put_whole(out, x0, numbers[pen + 1], b' ');
+    let x1 = put_whole(out, y0, numbers[pen + 2], b' ');
+    let y1 = put_whole(out, x1, numbers[pen + 3], b' ');
+    put_whole(out, y1, numbers[pen + 4], b'\n')
+}
+
+// The lines of the first strokes of a list of numbers.
+pub fn stroke_lines(out: &mut [u8], at: usize, numbers: &[i64], count: usize) -> usize
+    requires { ⌜ at + count * longest ≤ length (now out) ⌝ }
+    requires { ⌜ count * 5 ≤ length (now numbers) ⌝ }
+    ensures { λ r. ⌜ Puts (strokesBelow (now (numbers .entry)) count) (now (out .entry)) (now (out .exit)) at r ⌝ }
+    ensures { λ r. ⌜ r ≤ at + count * longest ⌝ }
+{
+    let mut end = at;
+    let mut i = 0;
+    while i < count {
+        end = stroke_line(out, end, numbers, i);
+        i += 1;
+    }
+    end
+}
+
+// The line of a refusal: its number, and the byte, counted from 1.
+pub fn refusal_line(out: &mut [u8], at: usize, number: u8, byte: u64) -> usize
+    requires { ⌜ at + longest ≤ length (now out) ⌝ }
+    ensures { λ r. ⌜ Puts (refusalText number byte) (now (out .entry)) (now (out .exit)) at r ⌝ }
+{
+    let letter = put_byte(out, at, b'E');
+    let first = put_byte(out, letter, b' ');
+    let second = put_natural(out, first, number as u64, b' ');
+    put_natural(out, second, byte, b'\n')
+}

@@ -1,0 +1,98 @@
+-- Each turn makes what the block still asks for shorter.
+use mathlib.Core.Path.{_≡_, refl, sym, _∙_}
+use Prim.Native.Nat.{_≤_}
+use native.Mathlib.Omega.{arith}
+use lib.ListN.{length}
+use lib.Seq.{length-take-le}
+use Rattle.lines.specs.TextLaws.{puts-length}
+use Rattle.plotting.specs.PlottedLaws.{Between, begins, empties, left, left-less}
+use Rattle.plotting.proofs.files.deliver_block.Statement.{statement}
+use Rattle.plotting.proofs.files.deliver_block.Tie as tie
+
+abbrev Inv-loop : tie.InvT-loop
+Inv-loop before block text₀ after p₀ s₀ text p s = Between p block × (length text ≡ 65536)
+
+abbrev μ-loop : tie.MeasureT-loop
+μ-loop before block text₀ after p₀ s₀ text p s = left p block
+
+add-after : tie.Need-add-after Inv-loop μ-loop
+add-after c = let s : tie.Start Inv-loop μ-loop = search in record { fits = s .pre .1 .0 }
+
+begun-requires : tie.Need-begun-requires Inv-loop μ-loop
+begun-requires c κs = tt
+
+loop-holds : tie.Need-loop-holds Inv-loop μ-loop
+loop-holds c =
+    let s : tie.Start Inv-loop μ-loop = search in
+    let k : tie.After-shared-slice-known Inv-loop μ-loop = search in
+    (begins (c .begun .ensures) (λ i. k .shared-slice-known .given i .fits) (s .pre .0) (s .pre .1 .0), s .pre .1 .1)
+
+fill-requires : tie.Need-fill-requires Inv-loop μ-loop
+fill-requires c κs =
+    let l : tie.At-loop Inv-loop μ-loop = search in
+    (l .loop .inv .0 .ready, omega (arith, l .loop .inv .0 .empty))
+
+-- the text that a turn leaves in the buffer
+fits : (c : tie.After-fill Inv-loop μ-loop) → c .fill .result .length ≤ length (c .fill .last .1 .1 .0)
+fits c = let e = c .fill .ensures .0 .puts in omega (arith, e .room, puts-length e)
+
+wide : (c : tie.After-fill Inv-loop μ-loop) → length (c .fill .last .1 .1 .0) ≡ 65536
+wide c = puts-length (c .fill .ensures .0 .puts) ∙ c .before .before .before .loop .inv .1
+
+slice-reshare-prefix-deliver : tie.Need-slice-reshare-prefix-deliver Inv-loop μ-loop
+slice-reshare-prefix-deliver c = fits (c .before .before)
+
+slice-aggregate-deliver : tie.Need-slice-aggregate-deliver Inv-loop μ-loop
+slice-aggregate-deliver c = sym (length-take-le _ _ (fits (c .before .before .before)))
+
+deliver-requires : tie.Need-deliver-requires Inv-loop μ-loop
+deliver-requires c κs = let f = c .before .before .before in omega (arith, fits f, wide f, length-take-le (f .fill .result .length) (f .fill .last .1 .1 .0) (fits f))
+
+same-length : tie.Need-same-length Inv-loop μ-loop
+same-length c = let f = c .before .before .before .before .before .before .before in let s = f .before .before .before .before .before .before .before in wide f ∙ sym (s .pre .1 .1)
+
+returns : tie.Need-returns Inv-loop μ-loop
+returns c = let f = c .before .before .before .before .before .before .before in (f .fill .ensures .0 .ready .made, refl)
+
+emptied-requires : tie.Need-emptied-requires Inv-loop μ-loop
+emptied-requires c κs = tt
+
+loop-less : tie.Need-loop-less Inv-loop μ-loop
+loop-less c =
+    let f = c .before .before .before .before .before .before .before in
+    let l = f .before .before .before in
+    let e = f .fill .ensures in
+    let t : tie.In-loop Inv-loop μ-loop = search in
+    left-less (e .0) (t .loop-test .taken) (λ m. omega (arith, e .1 m, l .loop .inv .0 .empty, l .loop .inv .1)) (c .emptied .ensures)
+
+loop-again : tie.Need-loop-again Inv-loop μ-loop
+loop-again c =
+    let f = c .before .before .before .before .before .before .before in
+    (empties (c .emptied .ensures) (f .fill .ensures .0 .ready), wide f)
+
+same-length-2 : tie.Need-same-length-2 Inv-loop μ-loop
+same-length-2 c = let s = c .before .before .before .before .before .before in c .before .before .loop .inv .1 ∙ sym (s .pre .1 .1)
+
+returns-2 : tie.Need-returns-2 Inv-loop μ-loop
+returns-2 c = (c .before .before .loop .inv .0 .ready .made, refl)
+
+pub deliver-block-spec : {M : Type 1} → statement M
+deliver-block-spec =
+    tie.close
+    (tie.spec
+    Inv-loop
+    μ-loop
+    add-after
+    begun-requires
+    loop-holds
+    fill-requires
+    slice-reshare-prefix-deliver
+    slice-aggregate-deliver
+    deliver-requires
+    same-length
+    returns
+    emptied-requires
+    loop-less
+    loop-again
+    same-length-2
+    returns-2)

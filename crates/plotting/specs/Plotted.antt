@@ -1,0 +1,48 @@
+-- Printing by blocks: how far it is, and what a part of it does.
+use mathlib.Core.Bool.{Bool, true, false}
+use mathlib.Core.List.{List, [], _++_}
+use mathlib.Core.Path.{_≡_}
+use Prim.Native.Nat.{ℕ, _+_, _*_, _^_, _≤_, _<_}
+use lib.ListN.{length, getD, drop}
+use Rattle.hpgl.specs.Made.{Made}
+use Rattle.machine.specs.declared.Machine.{Machine}
+use Rattle.machine.specs.declared.Gathered.{Gathered}
+use Rattle.lines.specs.Text.{longest, Puts}
+use Rattle.plotting.specs.declared.Plot.{Plot}
+use Rattle.plotting.specs.Printed.{printed}
+
+-- what is still to be printed, where `later` are the bytes of the blocks to come
+abbrev pub due : Plot → List ℕ → List ℕ → List ℕ
+due p block later = printed (p .machine .state) (drop (p .at) block ++ later) (p .before + p .at)
+
+abbrev pub begunOf : Machine → ℕ → Plot
+begunOf m n = record { machine = m; before = n; at = 0; length = 0; more = true }
+
+abbrev pub emptiedOf : Plot → Plot
+emptiedOf p = record { machine = p .machine; before = p .before; at = p .at; length = 0; more = p .more }
+
+-- after a gather
+abbrev pub movedOf : Plot → Gathered → ℕ → Bool → Plot
+movedOf p g n more = record { machine = g .machine; before = p .before; at = g .at; length = n; more = more }
+
+-- a plot that may go on with a block of bytes: its machine comes from the calls, its place is in the block, no count of bytes leaves 64 bits, and
+-- where there is no more all of the block is printed
+pub record Ready (p : Plot) (block : List ℕ) : Type 0 where
+  pub bytes : (i : ℕ) → getD block i 0 < 256
+  pub made : Made (p .machine .state)
+  pub place : p .at ≤ length block
+  pub count : p .before + length block < 2 ^ 64
+  pub ends : p .more ≡ false → (p .at ≡ length block) × (due p block [] ≡ [])
+
+-- the lines of one gather: 256 strokes, and a byte that is refused
+abbrev pub most : ℕ
+most = 257 * longest
+
+-- From p to q some text was printed: whatever comes later, what was due is that text and what is due now. It stands in the buffer, after what
+-- was there, and the rest of the buffer is as before.
+pub record Plotted (p q : Plot) (block before after : List ℕ) : Type 0 where
+  pub text : List ℕ
+  pub prints : (later : List ℕ) → due p block later ≡ text ++ due q block later
+  pub puts : Puts text before after (p .length) (q .length)
+  pub ready : Ready q block
+  pub earlier : q .before ≡ p .before

@@ -1,0 +1,34 @@
+-- What the program strokes prints (document 01, at the end of "Checked figures"): a line for each stroke, and one for each byte that is refused.
+use Prim.Native.Nat.{ℕ, zero, suc, _+_}
+use mathlib.Core.List.{List, [], _∷_, _++_}
+use lib.IntN.{pos}
+use Rattle.hpgl.specs.declared.State.{State}
+use Rattle.hpgl.specs.declared.Stroke.{Stroke}
+use Rattle.hpgl.specs.declared.Drawn.{Drawn}
+use Rattle.hpgl.specs.declared.Drawn.the-variants as drawn
+use Rattle.hpgl.specs.Machine.{waiting, takeState, takeNumber, drawState, drawAnswer}
+use Rattle.lines.specs.Text.{strokeText, refusalText}
+
+abbrev pub strokeLine : Stroke → List ℕ
+strokeLine s = strokeText (pos (s .pen)) (s .x0) (s .y0) (s .x1) (s .y1)
+
+-- the line of a draw: a hidden segment has none
+unfoldable pub drawnLine : Drawn → List ℕ
+drawnLine (drawn.Stroke s) = strokeLine s
+drawnLine drawn.Hidden = []
+drawnLine drawn.Idle = []
+
+-- the line of a byte, with the number that take answers for it: one that is not refused has none
+unfoldable pub byteLine : ℕ → ℕ → List ℕ
+byteLine zero byte = []
+byteLine (suc n) byte = refusalText (suc n) byte
+
+-- the lines of the k segments that wait; `idle` goes on once none waits
+unfoldable pub drawnLines : ℕ → State → (State → List ℕ) → List ℕ
+drawnLines zero m idle = idle m
+drawnLines (suc k) m idle = drawnLine (drawAnswer m) ++ drawnLines k (drawState m) idle
+
+-- the lines of a machine that is given these bytes, with n bytes before them: each byte is taken once no segment waits
+unfoldable pub printed : State → List ℕ → ℕ → List ℕ
+printed m [] n = drawnLines (waiting (m .work)) m (λ i. [])
+printed m (b ∷ bs) n = drawnLines (waiting (m .work)) m (λ i. byteLine (takeNumber i b) (n + 1) ++ printed (takeState i b) bs (n + 1))

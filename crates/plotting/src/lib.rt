@@ -1,0 +1,128 @@
+// What the program strokes prints: bytes in blocks, and their lines into a lent buffer. specs/Printed.antt has the lines, specs/Plotted.antt what
+// a part of the printing does.
+ghost use mathlib.Core.Bool.{true};
+ghost use mathlib.Core.Path.{_≡_};
+ghost use Prim.Native.Nat.{_+_, _≤_, _<_};
+ghost use lib.ListN.{length};
+ghost use Rattle.hpgl.specs.Made.{Made};
+ghost use Rattle.plotting.specs.Plotted.{Ready, Plotted, begunOf, emptiedOf, movedOf, most};
+
+pub mod files;
+
+use lines::LONGEST;
+use lines::refusal_line;
+use lines::stroke_lines;
+use machine::Gathered;
+use machine::Machine;
+
+// The strokes that one gather takes, five numbers each, and the bytes of their lines and of a refusal.
+const NUMBERS: usize = 1280;
+
+const MOST: usize = 257 * LONGEST;
+
+// "feed: list full"
+const LIST_FULL: u8 = 21;
+
+// How far the printing of a block is: the machine; the bytes of the blocks before; the place in this one; the bytes of text in the buffer; and
+// whether some of the block is still to be printed.
+pub struct Plot {
+    pub machine: Machine,
+    pub before: u64,
+    pub at: usize,
+    pub length: usize,
+    pub more: bool,
+}
+
+// A block begins, with an empty buffer.
+pub fn begun(machine: Machine, before: u64) -> Plot
+    ensures { λ r. ⌜ r ≡ begunOf machine before ⌝ }
+{
+    Plot {
+        machine: machine,
+        before: before,
+        at: 0,
+        length: 0,
+        more: true,
+    }
+}
+
+// The text is taken out of the buffer.
+pub fn emptied(p: Plot) -> Plot
+    ensures { λ r. ⌜ r ≡ emptiedOf p ⌝ }
+{
+    let machine = p.machine;
+    Plot {
+        machine: machine,
+        before: p.before,
+        at: p.at,
+        length: 0,
+        more: p.more,
+    }
+}
+
+// After a gather, with so many bytes of text.
+fn moved(p: Plot, g: Gathered, length: usize, more: bool) -> Plot
+    ensures { λ r. ⌜ r ≡ movedOf p g length more ⌝ }
+{
+    let machine = g.machine;
+    Plot {
+        machine: machine,
+        before: p.before,
+        at: g.at,
+        length: length,
+        more: more,
+    }
+}
+
+// The lines of one gather.
+fn step(p: Plot, block: &[u8], numbers: &mut [i64], text: &mut [u8]) -> Plot
+    requires { ⌜ Ready p (now block) ⌝ }
+    requires { ⌜ length (now numbers) ≡ 1280 ⌝ }
+    requires { ⌜ p .length + most ≤ length (now text) ⌝ }
+    ensures { λ r. ⌜ Plotted p r (now (block .entry)) (now (text .entry)) (now (text .exit)) ⌝ }
+    ensures { λ r. ⌜ (r .more ≡ true → p .length < r .length) ⌝ }
+{
+    let machine = p.machine;
+    let g = machine.gather(block, p.at, numbers);
+    let end = stroke_lines(text, p.length, numbers, g.stored);
+    if g.number == 0 {
+        return moved(p, g, end, false);
+    }
+    if g.number == LIST_FULL {
+        return moved(p, g, end, true);
+    }
+    let last = refusal_line(text, end, g.number, p.before + g.at as u64);
+    moved(p, g, last, true)
+}
+
+// Room for the strokes of one gather.
+fn records() -> [i64; NUMBERS]
+    ensures { λ r. ⌜ 1280 ≡ length r ⌝ }
+{
+    [0; NUMBERS]
+}
+
+// The lines of a block, until it is done or the buffer may not hold those of another gather.
+pub fn fill(p: Plot, block: &[u8], text: &mut [u8]) -> Plot
+    requires { ⌜ Ready p (now block) ⌝ }
+    requires { ⌜ p .length ≤ length (now text) ⌝ }
+    ensures { λ r. ⌜ Plotted p r (now (block .entry)) (now (text .entry)) (now (text .exit)) ⌝ }
+    ensures { λ r. ⌜ (r .more ≡ true → length (now (text .entry)) < r .length + most) ⌝ }
+{
+    let mut space = records();
+    let numbers: &mut [i64] = &mut space;
+    let mut q = p;
+    loop {
+        if !q.more {
+            return q;
+        }
+        if text.len() < MOST {
+            return q;
+        }
+        let length = q.length;
+        if text.len() - MOST < length {
+            return q;
+        }
+        q = step(q, block, numbers, text);
+    }
+}
