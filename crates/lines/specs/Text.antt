@@ -21,7 +21,7 @@ unfoldable pub digitsWithin : ℕ → ℕ → List ℕ
 digitsWithin zero n = []
 digitsWithin (suc k) n = cond (ltb n 10) (digit n ∷ []) (digitsWithin k (n / 10) ++ (digit (n % 10) ∷ []))
 
--- n has fewer than n + 2 digits
+-- n has at most n + 1 digits
 unfoldable pub decimal : ℕ → List ℕ
 decimal n = digitsWithin (suc n) n
 

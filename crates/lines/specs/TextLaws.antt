@@ -24,12 +24,7 @@ enough : (j k n : ℕ) → n ≤ j → n ≤ k → digitsWithin (suc j) n ≡ di
 unfolding digitsWithin
 enough zero k n p q = rw (lt-ltb n 10 (omega arith))
 enough (suc j) zero n p q = rw (lt-ltb n 10 (omega arith))
-enough (suc j) (suc k) n p q = go (ltb n 10) refl (λ h. enough j k (n / 10) (omega arith) (omega arith))
-  where
-    go : (t : Bool) → ltb n 10 ≡ t → (10 ≤ n → digitsWithin (suc j) (n / 10) ≡ digitsWithin (suc k) (n / 10))
-        → cond t (digit n ∷ []) (digitsWithin (suc j) (n / 10) ++ (digit (n % 10) ∷ [])) ≡ cond t (digit n ∷ []) (digitsWithin (suc k) (n / 10) ++ (digit (n % 10) ∷ []))
-    go true e same = refl
-    go false e same = ap (λ (s : List ℕ). s ++ (digit (n % 10) ∷ [])) (same (ltb-false n 10 e))
+enough (suc j) (suc k) n p q = rw (enough j k (n / 10) (omega arith) (omega arith))
 
 within-more : (k n : ℕ) → 10 ≤ n → digitsWithin (suc k) n ≡ digitsWithin k (n / 10) ++ (digit (n % 10) ∷ [])
 unfolding digitsWithin
@@ -131,13 +126,11 @@ begun-room z byte {k} b h t f =
 
 whole-some : (z : ℤ) (byte : ℕ) → 0 < length (whole z byte)
 unfolding whole natural
-whole-some z byte = omega (arith, length-append (sign z) (decimal (natAbs z) ++ (byte ∷ [])), length-append (decimal (natAbs z)) (byte ∷ []))
+whole-some z byte = simp length-append (omega arith)
 
 pub stroke-some : (pen x0 y0 x1 y1 : ℤ) → 0 < length (strokeText pen x0 y0 x1 y1)
 unfolding strokeText
-stroke-some pen x0 y0 x1 y1 =
-    omega
-    (arith, whole-some y1 lineEnd, length-append (whole pen (code " ") ++ whole x0 (code " ") ++ whole y0 (code " ") ++ whole x1 (code " ")) (whole y1 lineEnd))
+stroke-some pen x0 y0 x1 y1 = simp length-append (omega (arith, whole-some y1 lineEnd))
 
 pub refusal-some : (refused byte : ℕ) → 0 < length (refusalText refused byte)
 unfolding refusalText

@@ -20,7 +20,7 @@ use Rattle.hpgl.specs.FeedLaws.{draw-less}
 use Rattle.hpgl.specs.PartsOfFeed.{take-not-full}
 use Rattle.lines.specs.Text.{strokeText, strokeAt, strokesBelow, refusalText}
 use Rattle.lines.specs.TextLaws.{stroke-some}
-use Rattle.plotting.specs.Printed.{strokeLine, drawnLine, byteLine, drawnLines, printed}
+use Rattle.plotting.specs.Printed.{strokeLine, drawnLine, byteLine, drawnLines, takenLine, printed}
 
 abbrev pub strokeLines : List Stroke → List ℕ
 strokeLines [] = []
@@ -42,7 +42,7 @@ end-refused (suc n) byte h k = rw (ne-eqb (suc n) listFull k)
 -- what is printed once no segment waits
 abbrev onward : List ℕ → ℕ → State → List ℕ
 onward [] n i = []
-onward (b ∷ bs) n i = byteLine (takeNumber i b) (n + 1) ++ printed (takeState i b) bs (n + 1)
+onward (b ∷ bs) n i = takenLine b n i (λ j. printed j bs (n + 1))
 
 by-onward : (m : State) (bs : List ℕ) (n : ℕ) → printed m bs n ≡ drawnLines (waiting (m .work)) m (onward bs n)
 unfolding printed
@@ -165,11 +165,6 @@ below ss xs (suc k) h = ap (λ (l : List ℕ). l ++ strokeAt (numbersOf ss ++ xs
 
 pub numbers-lines : (ss : List Stroke) (xs : List ℤ) → strokesBelow (numbersOf ss ++ xs) (length ss) ≡ strokeLines ss
 numbers-lines ss xs = below ss xs (length ss) (omega arith) ∙ ap strokeLines (take-length ss)
-
-pub numbers-count : (ss : List Stroke) → length (numbersOf ss) ≡ length ss * 5
-unfolding numbersOf
-numbers-count [] = refl
-numbers-count (s ∷ ss) = omega (arith, numbers-count ss)
 
 pub lines-some : (ss : List Stroke) → 0 < length ss → 0 < length (strokeLines ss)
 lines-some [] h = absurd (omega arith)

@@ -1,4 +1,4 @@
--- Printing by blocks: how far it is, and what a part of it does.
+-- Printing by blocks: how far it is, and what a part of it does. From fresh on, the parts put together are the lines of the whole input.
 use mathlib.Core.Bool.{Bool, true, false}
 use mathlib.Core.List.{List, [], _++_}
 use mathlib.Core.Path.{_≡_}

@@ -28,7 +28,11 @@ unfoldable pub drawnLines : ℕ → State → (State → List ℕ) → List ℕ
 drawnLines zero m idle = idle m
 drawnLines (suc k) m idle = drawnLine (drawAnswer m) ++ drawnLines k (drawState m) idle
 
--- the lines of a machine that is given these bytes, with n bytes before them: each byte is taken once no segment waits
+-- the line of the byte b, with n bytes before it; `next` goes on once it is taken
+abbrev pub takenLine : ℕ → ℕ → State → (State → List ℕ) → List ℕ
+takenLine b n m next = byteLine (takeNumber m b) (n + 1) ++ next (takeState m b)
+
+-- the lines of a machine that is given these bytes, with n bytes before them: each is taken once no segment waits
 unfoldable pub printed : State → List ℕ → ℕ → List ℕ
 printed m [] n = drawnLines (waiting (m .work)) m (λ i. [])
-printed m (b ∷ bs) n = drawnLines (waiting (m .work)) m (λ i. byteLine (takeNumber i b) (n + 1) ++ printed (takeState i b) bs (n + 1))
+printed m (b ∷ bs) n = drawnLines (waiting (m .work)) m (λ i. takenLine b n i (λ j. printed j bs (n + 1)))

@@ -21,11 +21,12 @@ pub enum Sink {
     Compare(i32, u64),
 }
 
-pub struct Delivered {
-    pub sink: Sink,
-    pub good: bool,
+struct Delivered {
+    sink: Sink,
+    good: bool,
 }
 
+// How a run ended.
 pub enum End {
     Done,
     // a read of the input failed

@@ -9,19 +9,18 @@ ghost use Rattle.plotting.specs.Plotted.{Ready, Plotted, begunOf, emptie
 
 pub mod files;
 
+use instructions::numbers::LIST_FULL;
 use lines::LONGEST;
 use lines::refusal_line;
 use lines::stroke_lines;
 use machine::Gathered;
 use machine::Machine;
 
-// The strokes that one gather takes, five numbers each, and the bytes of their lines and of a refusal.
+// One gather takes 256 strokes, of five numbers each.
 const NUMBERS: usize = 1280;
 
+// The bytes of their lines, and of a refusal.
 const MOST: usize = 257 * LONGEST;
-
-// "feed: list full"
-const LIST_FULL: u8 = 21;
 
 // How far the printing of a block is: the machine; the bytes of the blocks before; the place in this one; the bytes of text in the buffer; and
 // whether some of the block is still to be printed.
