@@ -2,6 +2,9 @@
 --
 -- The calls are take, with any byte and any answer, and draw, in any order; the list may be empty. The first gets the machine that fresh returned,
 -- with 10 too, each later one the machine that the call before it left. The exact model is fed with the same calls and nothing else.
+--
+-- Among the machines that it excludes: one that loses a segment or draws it out of order, takes a byte while one waits, clips to other limits, paints
+-- with another pen, says "hidden" of what shows or "idle" while one waits, or shows an edge that was reached pen up.
 use mathlib.Core.Path.{_≡_}
 use mathlib.Core.Bool.{true}
 use mathlib.Core.List.{List, [], _∷_}
