@@ -4,6 +4,7 @@ pub mod Change
 pub mod Rules
 pub mod Machine
 pub mod Feed
+pub mod Plot
 pub mod Trace
 pub mod ExactModel
 pub mod Condition3
