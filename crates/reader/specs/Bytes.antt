@@ -1,7 +1,7 @@
 -- The classes of bytes, by their ASCII codes. No rule of what a byte does stands here.
 use Prim.Native.Nat.{ℕ, _-_}
 use Prim.Native.Char.{code}
-use mathlib.Core.Bool.{true, false, cond, _||_}
+use mathlib.Core.Bool.{Bool, true, false, cond, _||_}
 use lib.Dec.{leb, ltb, eqb}
 use Rattle.reader.specs.declared.bytes.Class.{Class}
 use Rattle.reader.specs.declared.bytes.Class.the-variants.{Blank, Semicolon, Letter, Digit, Sign, Point, Other}
@@ -18,6 +18,9 @@ lowClassOf b =
     (cond (eqb b (code "-")) (Sign true)
     (cond (eqb b (code ".")) Point
     Other)))
+
+unfoldable pub isDigit : ℕ → Bool
+isDigit b = cond (ltb b (code "0")) false (leb b (code "9"))
 
 -- Any byte, upwards from the digits. "A letter may be of either case": it is told by its capital.
 unfoldable pub classOf : ℕ → Class

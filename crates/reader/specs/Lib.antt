@@ -4,6 +4,7 @@ pub mod Number
 pub mod Reader
 pub mod Inside
 pub mod Step
+pub mod Next
 pub mod Numeral
 pub mod Stream
 pub mod Written
@@ -17,3 +18,4 @@ pub mod InstructionLaws
 pub mod CauseLaws
 pub mod SizeLaws
 pub mod InsideLaws
+pub mod NextLaws

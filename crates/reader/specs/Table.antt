@@ -114,13 +114,19 @@ table =
     ∷ row "P" "R" 0 any 2 1 0
     ∷ []
 
--- What stands in a row's column.
-unfoldable pub cellOf : ℕ → ℕ → ℕ
-cellOf op column = getD (getD table op []) column 0
+-- The row of an instruction, and what stands in its column.
+abbrev pub rowOf : ℕ → List ℕ
+rowOf op = getD table op []
 
--- Whether two letters name an instruction.
+unfoldable pub cellOf : ℕ → ℕ → ℕ
+cellOf op column = getD (rowOf op) column 0
+
+-- Whether a row has these two letters, and so whether they name an instruction.
+abbrev pub namesOf : List ℕ → ℕ → ℕ → Bool
+namesOf row a b = cond (eqb (getD row firstLetter 0) a) (eqb (getD row secondLetter 0) b) false
+
 unfoldable pub namedOf : ℕ → ℕ → ℕ → Bool
-namedOf op a b = cond (eqb (cellOf op firstLetter) a) (eqb (cellOf op secondLetter) b) false
+namedOf op a b = namesOf (rowOf op) a b
 
 -- The instruction that two letters name, of n from place i on.
 unfoldable pub findFrom : ℕ → ℕ → ℕ → ℕ → Found

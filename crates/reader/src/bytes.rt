@@ -1,6 +1,6 @@
 // The class of a byte: what it can be to a reader, whatever stands before it.
 ghost use mathlib.Core.Path.{_≡_};
-ghost use Rattle.reader.specs.Bytes.{classOf, lowClassOf};
+ghost use Rattle.reader.specs.Bytes.{isDigit, classOf, lowClassOf};
 
 pub enum Class {
     Blank,
@@ -55,6 +55,15 @@ fn low_class(byte: u8) -> Class
         return Class::Point;
     }
     Class::Other
+}
+
+pub fn is_digit(byte: u8) -> bool
+    ensures { λ r. ⌜ r ≡ isDigit byte ⌝ }
+{
+    if byte < b'0' {
+        return false;
+    }
+    byte <= b'9'
 }
 
 // The class of a byte. Digits come first: most bytes of a drawing are digits.

@@ -1,5 +1,7 @@
 // The reader of bytes: what each byte of an instruction stream means. It knows nothing of paper, pens or limits.
 ghost use mathlib.Core.Path.{_≡_};
+ghost use lib.ListN.{drop};
+ghost use Rattle.reader.specs.Next.{moreDigits, isNothing, nextOf};
 ghost use Rattle.reader.specs.Reader.{noneOf, storedOf, pairOf, freshReader, goOnOf, quietOf, refuseOf, beginOf, openOf, withNumbers};
 ghost use Rattle.reader.specs.Step.{nameOf, keptOf, closedOf, endOf, completeOf, closeOf, closeEndOf, idleOf, firstOf, parametersOf, inNumberOf, passOverOf, labelOf, stepOf, passedMode, passedOver};
 
@@ -9,6 +11,7 @@ mod table;
 
 use bytes::Class;
 use bytes::class_of;
+use bytes::is_digit;
 use number::Number;
 use number::Value;
 pub use table::CI;
@@ -103,6 +106,13 @@ pub struct Step {
     pub event: Event,
 }
 
+// What bytes come to, up to the first that means something: the reader after it, what it means, and the place after it.
+pub struct Next {
+    pub reader: Reader,
+    pub event: Event,
+    pub at: usize,
+}
+
 impl Numbers {
     fn none() -> Numbers
         ensures { λ r. ⌜ r ≡ noneOf ⌝ }
@@ -167,6 +177,32 @@ fn passed_mode(mode: Mode) -> Mode
     }
 }
 
+// Whether a byte is one more digit of an open number.
+fn more_digits(mode: Mode, byte: u8) -> bool
+    ensures { λ r. ⌜ r ≡ moreDigits mode byte ⌝ }
+{
+    match mode {
+        Mode::Idle => false,
+        Mode::First(_) => false,
+        Mode::Parameters => false,
+        Mode::InNumber => is_digit(byte),
+        Mode::PassOver => false,
+        Mode::Label => false,
+    }
+}
+
+fn is_nothing(event: Event) -> bool
+    ensures { λ r. ⌜ r ≡ isNothing event ⌝ }
+{
+    match event {
+        Event::Nothing => true,
+        Event::Named(_) => false,
+        Event::Pair(_) => false,
+        Event::Ended(_, _) => false,
+        Event::Refused(_) => false,
+    }
+}
+
 impl Reader {
     pub fn fresh() -> Reader
         ensures { λ r. ⌜ r ≡ freshReader ⌝ }
@@ -192,6 +228,41 @@ impl Reader {
             Mode::InNumber => self.in_number(class),
             Mode::PassOver => self.pass_over(class),
             Mode::Label => self.label(byte),
+        }
+    }
+
+    // The bytes from a place on, up to the first that means something, or the end.
+    pub fn next(self, bytes: &[u8], from: usize) -> Next
+        ensures { λ q. ⌜ q ≡ nextOf self (drop from (now (bytes .entry))) from ⌝ }
+    {
+        let mut reader = self;
+        let mut at = from;
+        while at < bytes.len() {
+            let byte = bytes[at];
+            let mode = reader.mode;
+            at += 1;
+            // most bytes of a drawing: only the number changes, and no step is built
+            if more_digits(mode, byte) {
+                let number = reader.number;
+                reader.number = number.with_digit(byte - b'0');
+                continue;
+            }
+            let step = reader.step(byte);
+            reader = step.reader;
+            let event = step.event;
+            if is_nothing(event) {
+                continue;
+            }
+            return Next {
+                reader: reader,
+                event: event,
+                at: at,
+            };
+        }
+        Next {
+            reader: reader,
+            event: Event::Nothing,
+            at: at,
         }
     }
 

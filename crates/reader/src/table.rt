@@ -1,7 +1,7 @@
 // The table of sixteen instructions, and what is looked up in it.
 ghost use mathlib.Core.Path.{_≡_};
 ghost use Prim.Native.Nat.{_<_};
-ghost use Rattle.reader.specs.Table.{rows, columns, cellOf, namedOf, findOf, isLabel, countFits, takesPairs, hasRoom, knownInPolygon, changesSettings};
+ghost use Rattle.reader.specs.Table.{rows, rowOf, namesOf, findOf, isLabel, countFits, takesPairs, hasRoom, knownInPolygon, changesSettings};
 
 // An instruction's code is its place in the table.
 pub const IN: usize = 0;
@@ -83,21 +83,20 @@ pub enum Found {
     Nowhere,
 }
 
-// What stands in a row's column.
-fn cell(op: usize, column: usize) -> u8
-    requires { ⌜ (op < rows) × (column < columns) ⌝ }
-    ensures { λ r. ⌜ r ≡ cellOf op column ⌝ }
+// The row of an instruction.
+fn row(op: usize) -> [u8; COLUMNS]
+    requires { ⌜ op < rows ⌝ }
+    ensures { λ r. ⌜ r ≡ rowOf op ⌝ }
 {
-    TABLE[op][column]
+    TABLE[op]
 }
 
-// Whether two letters name the instruction.
-fn named(op: usize, first: u8, second: u8) -> bool
-    requires { ⌜ op < rows ⌝ }
-    ensures { λ r. ⌜ r ≡ namedOf op first second ⌝ }
+// Whether a row has these two letters.
+fn names(row: [u8; COLUMNS], first: u8, second: u8) -> bool
+    ensures { λ r. ⌜ r ≡ namesOf row first second ⌝ }
 {
-    if cell(op, FIRST) == first {
-        return cell(op, SECOND) == second;
+    if row[FIRST] == first {
+        return row[SECOND] == second;
     }
     false
 }
@@ -106,9 +105,11 @@ fn named(op: usize, first: u8, second: u8) -> bool
 pub fn find(first: u8, second: u8) -> Found
     ensures { λ r. ⌜ r ≡ findOf first second ⌝ }
 {
+    // laid out once, and not for each row
+    let table = TABLE;
     let mut op: usize = 0;
     while op < ROWS {
-        if named(op, first, second) {
+        if names(table[op], first, second) {
             return Found::At(op);
         }
         op += 1;
@@ -131,11 +132,11 @@ pub fn count_fits(op: usize, n: u8) -> bool
     ensures { λ r. ⌜ r ≡ countFits op n ⌝ }
 {
     if op < ROWS {
-        let least = cell(op, LEAST);
+        let row = row(op);
+        let least = row[LEAST];
         if least <= n {
-            if n <= cell(op, MOST) {
-                let step = cell(op, STEP);
-                return (n - least) % step == 0;
+            if n <= row[MOST] {
+                return (n - least) % row[STEP] == 0;
             }
             return false;
         }
@@ -149,7 +150,7 @@ pub fn has_room(op: usize, n: u8) -> bool
     ensures { λ r. ⌜ r ≡ hasRoom op n ⌝ }
 {
     if op < ROWS {
-        return n < cell(op, MOST);
+        return n < row(op)[MOST];
     }
     false
 }
@@ -159,7 +160,7 @@ pub fn takes_pairs(op: usize) -> bool
     ensures { λ r. ⌜ r ≡ takesPairs op ⌝ }
 {
     if op < ROWS {
-        return cell(op, MOST) == ANY;
+        return row(op)[MOST] == ANY;
     }
     false
 }
@@ -169,7 +170,7 @@ pub fn known_in_polygon(op: usize) -> bool
     ensures { λ r. ⌜ r ≡ knownInPolygon op ⌝ }
 {
     if op < ROWS {
-        return cell(op, POLYGON) == 1;
+        return row(op)[POLYGON] == 1;
     }
     false
 }
@@ -179,7 +180,7 @@ pub fn changes_settings(op: usize) -> bool
     ensures { λ r. ⌜ r ≡ changesSettings op ⌝ }
 {
     if op < ROWS {
-        return cell(op, SETTINGS) == 1;
+        return row(op)[SETTINGS] == 1;
     }
     false
 }

@@ -3,31 +3,38 @@ use mathlib.Core.Path.{_≡_, refl, sym, _∙_}
 use Prim.Native.Nat.{suc, _+_, _≤_, _-_}
 use native.Mathlib.Omega.{arith}
 use borrow.Author.Needs.{needs}
-use Rattle.reader.specs.Table.{rows, findFrom, findOf}
+use Rattle.reader.specs.Table.{rows, namedOf, findFrom, findOf}
 use Rattle.reader.proofs.Laws.{find-here, find-later}
 use Rattle.reader.proofs.table.find.Statement.{statement}
 use Rattle.reader.proofs.table.find.Tie as tie
 
 abbrev Inv-loop : tie.InvT-loop
-Inv-loop first second op₀ op = (op ≤ rows) × (findOf first second ≡ findFrom first second op (rows - op))
+Inv-loop first second table op₀ op = (op ≤ rows) × (findOf first second ≡ findFrom first second op (rows - op))
 
 abbrev μ-loop : tie.MeasureT-loop
-μ-loop first second op₀ op = rows - op
+μ-loop first second table op₀ op = rows - op
 
 loop-holds : tie.Need-loop-holds Inv-loop μ-loop
 unfolding findOf
 loop-holds c = (search needs, refl)
 
-named-requires : tie.Need-named-requires Inv-loop μ-loop
-named-requires c κs = search needs
+mul-names : tie.Need-mul-names Inv-loop μ-loop
+mul-names c = search needs
+
+array-copy-out-names : tie.Need-array-copy-out-names Inv-loop μ-loop
+array-copy-out-names c = search needs
+
+names-requires : tie.Need-names-requires Inv-loop μ-loop
+names-requires c κs = search needs
 
 returns : tie.Need-returns Inv-loop μ-loop
+unfolding namedOf
 returns c =
-    let at = c .before .before .before in
+    let at = c .before .before .before .before in
     let a = at .before .args in
     sym
     (at .loop .inv .1
-    ∙ find-here (a .first) (a .second) (at .loop .op) (rows - at .loop .op) (omega arith) (sym (c .before .named .ensures) ∙ c .if1 .taken))
+    ∙ find-here (a .first) (a .second) (at .loop .op) (rows - at .loop .op) (omega arith) (sym (c .before .names .ensures) ∙ c .if1 .taken))
 
 add-op : tie.Need-add-op Inv-loop μ-loop
 add-op c = search needs
@@ -36,14 +43,15 @@ loop-less : tie.Need-loop-less Inv-loop μ-loop
 loop-less c = search needs
 
 loop-again : tie.Need-loop-again Inv-loop μ-loop
+unfolding namedOf
 loop-again c =
-    let at = c .before .before .before in
+    let at = c .before .before .before .before in
     let a = at .before .args in
     let op = at .loop .op in
     let left : rows - op ≡ suc (rows - (op + 1)) = omega arith in (
       search needs,
       (at .loop .inv .1
-          ∙ rw left (find-later (a .first) (a .second) op (rows - (op + 1)) (sym (c .before .named .ensures) ∙ c .if1 .left))),
+          ∙ rw left (find-later (a .first) (a .second) op (rows - (op + 1)) (sym (c .before .names .ensures) ∙ c .if1 .left))),
     )
 
 returns-2 : tie.Need-returns-2 Inv-loop μ-loop
@@ -60,7 +68,9 @@ find-spec =
     Inv-loop
     μ-loop
     loop-holds
-    named-requires
+    mul-names
+    array-copy-out-names
+    names-requires
     returns
     add-op
     loop-less
