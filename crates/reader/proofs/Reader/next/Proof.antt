@@ -31,7 +31,7 @@ more-digits-requires c κs = search needs
 sub-with-digit : tie.Need-sub-with-digit Inv-loop μ-loop
 sub-with-digit c =
     let l : tie.At-loop Inv-loop μ-loop = search in
-    digit-step (l .loop .reader) _ (sym (c .before .before .more-digits .ensures) ∙ c .before .if1 .taken) .0
+    omega (arith, digit-step (l .loop .reader) _ (sym (c .before .before .more-digits .ensures) ∙ c .before .if1 .taken) .0)
 
 with-digit-requires : tie.Need-with-digit-requires Inv-loop μ-loop
 with-digit-requires c κs = search needs
