@@ -3,10 +3,10 @@
 use mathlib.Core.Path.{_≡_, refl, sym, ap, _∙_}
 use mathlib.Core.Bool.{Bool, true, false, true≢false}
 use mathlib.Core.List.{List, [], _∷_, _++_}
-use Prim.Native.Nat.{ℕ, suc, _+_, _≤_, _<_}
+use Prim.Native.Nat.{ℕ, suc, _+_, _-_, _≤_, _<_}
 use native.Mathlib.Omega.{arith}
-use lib.ListN.{length, drop, drop-of-length-le, length-drop}
-use lib.Seq.{drop-cons}
+use lib.ListN.{length, drop, getD, drop-of-length-le, length-drop}
+use lib.Seq.{drop-cons, getD-drop, getD-append-seam}
 use Rattle.reader.specs.declared.Event.{Event}
 use Rattle.reader.specs.declared.Event.the-variants.{Nothing, Named, Pair, Ended, Refused}
 use Rattle.reader.specs.declared.Reader.{Reader}
@@ -137,3 +137,10 @@ next-came r (b ∷ bs) at h =
           step = c .step;
           place = omega (arith, c .place);
         }
+
+-- that byte is the last one that was read
+pub came-byte : {r : Reader} {q : Next} (s : List ℕ) (from : ℕ) (c : Came r (drop from s) from q) → getD s (q .at - 1) 0 ≡ c .byte
+came-byte {q = q} s from c =
+    let n = length (c .before) in
+    let e : q .at - 1 ≡ from + n = omega (arith, c .place) in
+    rw e (sym (getD-drop from s n 0) ∙ ap (λ (l : List ℕ). getD l n 0) (c .split) ∙ getD-append-seam (c .before) (c .byte) (c .rest) 0)

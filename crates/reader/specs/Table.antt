@@ -82,9 +82,6 @@ polygon = 5
 abbrev pub settings : ℕ
 settings = 6
 
-abbrev pub columns : ℕ
-columns = 7
-
 -- As most: no limit.
 abbrev pub any : ℕ
 any = 255
