@@ -11,6 +11,7 @@ pub mod Condition3
 pub mod Valid
 pub mod Made
 pub mod FeedLaws
+pub mod PlotLaws
 pub mod Cases
 pub mod Pins
 pub mod PartsOfFeed
