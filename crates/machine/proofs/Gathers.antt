@@ -1,14 +1,14 @@
--- How far the loop of `gather` is, and its turns: a segment drawn and stored, or a byte taken.
--- Why: each turn is a step of feed (FeedLaws.antt), and a stroke's five numbers come right after those of the strokes before it.
+-- How far the loop of `gather` is, and its turns: a segment drawn and stored, or a byte taken, whose refusal may be stored.
+-- Why: each turn is a step of feed or plot (GatherLaws.antt), and a mark's five numbers come right after those of the marks before it.
 use mathlib.Core.Path.{_≡_, refl, sym, ap, _∙_}
 use mathlib.Core.Bool.{Bool, true, false, cond}
 use mathlib.Core.List.{List, [], _∷_, _++_, append-nil, append-assoc}
-use Prim.Native.Nat.{ℕ, suc, _+_, _*_, _-_, _/_, _≤_, _<_}
+use Prim.Native.Nat.{ℕ, zero, suc, _+_, _*_, _-_, _/_, _≤_, _<_}
 use native.Mathlib.Nat.{suc-add, mul-div-le}
 use native.Mathlib.Omega.{arith}
 use native.Mathlib.Numerals.{add-one}
-use borrow.Author.Tests.{ltb-true, ltb-false}
-use lib.Dec.{ltb}
+use borrow.Author.Tests.{eq-eqb, eqb-true, ltb-true, ltb-false}
+use lib.Dec.{eqb, ltb}
 use lib.IntN.{ℤ, pos}
 use lib.ListN.{length, getD, drop, drop-of-length-le, length-set, length-append}
 use lib.Seq.{drop-cons}
@@ -22,12 +22,13 @@ use Rattle.hpgl.specs.declared.Drawn.{Drawn}
 use Rattle.hpgl.specs.declared.Drawn.the-variants as drawn
 use Rattle.hpgl.specs.Numbers.{listFull}
 use Rattle.hpgl.specs.Machine.{waiting, takeState, takeNumber, workAfter, drawState, drawAnswer}
-use Rattle.hpgl.specs.Feed.{Feed, stop, store, drew, feedFrom, numbersOf, laidNumbers}
-use Rattle.hpgl.specs.FeedLaws.{draw-less, at-end, at-byte, at-refused, at-full, at-draw}
+use Rattle.hpgl.specs.Plot.{Mark, stroke, refusal, Plot, stop, store, drew, numbersOf, laidMarks}
+use Rattle.hpgl.specs.FeedLaws.{draw-less}
 use Rattle.hpgl.specs.Valid.{mostChords, ValidWork, Valid}
 use Rattle.hpgl.specs.Cases.{never}
 use Rattle.hpgl.specs.ValidKept.{valid-draw}
-use Rattle.machine.specs.Gather.{gatheredAs, gatheredOf, Gathers, remainsOf, countAfter, withStroke, putOf}
+use Rattle.machine.specs.Gather.{gatheredAs, plottedOf, gatherFrom, Gathers, remainsOf, stuckOf, countAfter, withStroke, recordOf, putOf}
+use Rattle.machine.specs.GatherLaws.{at-end, at-stuck, at-byte, at-refusal, at-refused, at-full, at-draw}
 use Rattle.machine.proofs.Turns.{Turn, turn-number, turn-taken, turn-valid}
 
 -- no more wait than a circle has chords
@@ -60,27 +61,57 @@ none-remains w at end = go (ltb at end) refl
     go true e h = never h refl
     go false e h = (omega (arith, ltb-false 0 (waiting w) h), ltb-false at end e)
 
--- ---- a stroke is stored after others
+-- ---- whether a record is free
+
+module _ (w : Work) (k room : ℕ) where
+  used-all : (on : Bool) → stuckOf on w k room ≡ true → k ≡ room
+  unfolding stuckOf
+  used-all on = go (eqb k room) refl
+    where
+      go : (b : Bool) → eqb k room ≡ b → cond b (cond on true (ltb 0 (waiting w))) false ≡ true → k ≡ room
+      go true e h = eqb-true k room e
+      go false e h = never refl h
+
+  stuck-on : (on : Bool) → stuckOf on w k room ≡ true → waiting w ≡ 0 → on ≡ true
+  unfolding stuckOf
+  stuck-on true h z = refl
+  stuck-on false h z = let l = rw (eq-eqb k room (used-all false h)) at h in absurd (omega (arith, z, ltb-true 0 (waiting w) l))
+
+  one-free : (on : Bool) → stuckOf on w k room ≡ false → (waiting w ≡ 0 → on ≡ true) → k ≡ room → ⊥
+  unfolding stuckOf
+  one-free true h f e = let l = rw (eq-eqb k room e) at h in never l refl
+  one-free false h f e = let l = rw (eq-eqb k room e) at h in never refl (f (omega (arith, ltb-false 0 (waiting w) l)))
+
+-- ---- a mark is stored after others
 
 after-five : (s : Stroke) (i : ℕ) (a b c d e : ℤ) (zs : List ℤ) →
     withStroke s (suc (suc (suc (suc (suc i))))) (a ∷ b ∷ c ∷ d ∷ e ∷ zs) ≡ a ∷ b ∷ c ∷ d ∷ e ∷ withStroke s i zs
 unfolding withStroke
 after-five s i a b c d e zs = simp (suc-add)
 
-laid-more : (ss : List Stroke) (s : Stroke) (zs : List ℤ) → length ss * 5 + 5 ≤ length zs →
-    withStroke s (length ss * 5) (laidNumbers ss zs) ≡ laidNumbers (ss ++ s ∷ []) zs
+-- the numbers of a mark come before those of the others
+first-five : (k : Mark) (ks : List Mark) (a b c d e : ℤ) (zs : List ℤ) → let p = recordOf k in
+    laidMarks (k ∷ ks) (a ∷ b ∷ c ∷ d ∷ e ∷ zs) ≡ pos (p .pen) ∷ p .x0 ∷ p .y0 ∷ p .x1 ∷ p .y1 ∷ laidMarks ks zs
+unfolding numbersOf
+first-five (stroke p) ks a b c d e zs = refl
+first-five (refusal n t) ks a b c d e zs = refl
+
+laid-more : (ks : List Mark) (k : Mark) (zs : List ℤ) → length ks * 5 + 5 ≤ length zs →
+    withStroke (recordOf k) (length ks * 5) (laidMarks ks zs) ≡ laidMarks (ks ++ k ∷ []) zs
 unfolding withStroke numbersOf
-laid-more ss s [] h = absurd (omega arith)
-laid-more ss s (a ∷ []) h = absurd (omega arith)
-laid-more ss s (a ∷ b ∷ []) h = absurd (omega arith)
-laid-more ss s (a ∷ b ∷ c ∷ []) h = absurd (omega arith)
-laid-more ss s (a ∷ b ∷ c ∷ d ∷ []) h = absurd (omega arith)
-laid-more [] s (a ∷ b ∷ c ∷ d ∷ e ∷ zs) h = refl
-laid-more (p ∷ ss) s (a ∷ b ∷ c ∷ d ∷ e ∷ zs) h =
-    let i : suc (length ss) * 5 ≡ suc (suc (suc (suc (suc (length ss * 5))))) = omega arith in
-    ap (λ (j : ℕ). withStroke s j (laidNumbers (p ∷ ss) (a ∷ b ∷ c ∷ d ∷ e ∷ zs))) i
-    ∙ after-five s (length ss * 5) (pos (p .pen)) (p .x0) (p .y0) (p .x1) (p .y1) (laidNumbers ss zs)
-    ∙ ap (λ (r : List ℤ). pos (p .pen) ∷ p .x0 ∷ p .y0 ∷ p .x1 ∷ p .y1 ∷ r) (laid-more ss s zs (omega arith))
+laid-more ks k [] h = absurd (omega arith)
+laid-more ks k (a ∷ []) h = absurd (omega arith)
+laid-more ks k (a ∷ b ∷ []) h = absurd (omega arith)
+laid-more ks k (a ∷ b ∷ c ∷ []) h = absurd (omega arith)
+laid-more ks k (a ∷ b ∷ c ∷ d ∷ []) h = absurd (omega arith)
+laid-more [] k (a ∷ b ∷ c ∷ d ∷ e ∷ zs) h = sym (first-five k [] a b c d e zs)
+laid-more (j ∷ ks) k (a ∷ b ∷ c ∷ d ∷ e ∷ zs) h =
+    let i : suc (length ks) * 5 ≡ suc (suc (suc (suc (suc (length ks * 5))))) = omega arith in
+    let p = recordOf j in
+    (λ x. withStroke (recordOf k) (i x) (first-five j ks a b c d e zs x))
+    ∙ after-five (recordOf k) (length ks * 5) (pos (p .pen)) (p .x0) (p .y0) (p .x1) (p .y1) (laidMarks ks zs)
+    ∙ ap (λ (r : List ℤ). pos (p .pen) ∷ p .x0 ∷ p .y0 ∷ p .x1 ∷ p .y1 ∷ r) (laid-more ks k zs (omega arith))
+    ∙ sym (first-five j (ks ++ k ∷ []) a b c d e zs)
 
 stroke-length : (s : Stroke) (i : ℕ) (zs : List ℤ) → length (withStroke s i zs) ≡ length zs
 unfolding withStroke
@@ -88,146 +119,176 @@ stroke-length s i zs = simp (length-set)
 
 -- ---- how far it is
 
--- strokes that were stored before what f stores
-abbrev before : List Stroke → Feed → Feed
-before ss f = record { state = f .state; taken = f .taken; strokes = ss ++ f .strokes; number = f .number }
+-- marks that were stored before what f stores
+abbrev before : List Mark → Plot → Plot
+before ks f = record { state = f .state; taken = f .taken; marks = ks ++ f .marks; number = f .number }
 
--- all of feed is `whole`; the strokes so far stand in the list, and what is left follows them
-pub record Far (whole : Feed) (s : List ℕ) (entry now : List ℤ) (m : State) (at count : ℕ) : Type 0 where
-  strokes : List Stroke
-  counted : length strokes ≡ count
+-- all of it is `whole`; the marks so far stand in the list, and what is left follows them
+pub record Far (on : Bool) (whole : Plot) (s : List ℕ) (entry now : List ℤ) (m : State) (at count : ℕ) : Type 0 where
+  marks : List Mark
+  counted : length marks ≡ count
   pub room : count ≤ length entry / 5
   pub long : length now ≡ length entry
-  laid : now ≡ laidNumbers strokes entry
+  laid : now ≡ laidMarks marks entry
   pub valid : Valid m
-  goes-on : whole ≡ before strokes (feedFrom m (drop at s) at (length entry / 5 - count))
+  goes-on : whole ≡ before marks (gatherFrom on m (drop at s) at (length entry / 5 - count))
 
-pub far-start : (m : State) (s : List ℕ) (entry : List ℤ) (at : ℕ) → Valid m → Far (feedFrom m (drop at s) at (length entry / 5)) s entry entry m at 0
+pub far-start : (on : Bool) (m : State) (s : List ℕ) (entry : List ℤ) (at : ℕ) → Valid m → Far on (gatherFrom on m (drop at s) at (length entry / 5)) s entry entry m at 0
 unfolding numbersOf
-far-start m s entry at v = record {
-  strokes = [];
+far-start on m s entry at v = record {
+  marks = [];
   counted = refl;
   room = omega arith;
   long = refl;
   laid = refl;
   valid = v;
-  goes-on = let z : length entry / 5 ≡ length entry / 5 - 0 = omega arith in ap (λ (r : ℕ). feedFrom m (drop at s) at r) z;
+  goes-on = let z : length entry / 5 ≡ length entry / 5 - 0 = omega arith in ap (λ (r : ℕ). gatherFrom on m (drop at s) at r) z;
 }
 
-module _ {whole : Feed} {s : List ℕ} {entry now : List ℤ} {m : State} {at count : ℕ} (far : Far whole s entry now m at count) where
+module _ {on : Bool} {whole : Plot} {s : List ℕ} {entry now : List ℤ} {m : State} {at count : ℕ} (far : Far on whole s entry now m at count) where
   far-long : length now / 5 ≡ length entry / 5
   far-long = ap (λ (n : ℕ). n / 5) (far .long)
 
-  -- there is room for a further stroke, and for its numbers
-  pub far-free : (count ≡ length now / 5 → ⊥) → count < length entry / 5
-  far-free f = let z : count ≡ length entry / 5 → ⊥ = λ e. f (e ∙ sym far-long) in omega (arith, z, far .room)
+  -- there is room for a further mark, and for its numbers
+  pub far-free : stuckOf on (m .work) count (length now / 5) ≡ false → (waiting (m .work) ≡ 0 → on ≡ true) → count < length entry / 5
+  far-free h f =
+      let z : count ≡ length entry / 5 → ⊥ = λ e. one-free (m .work) count (length now / 5) on h f (e ∙ sym far-long) in
+      omega (arith, z, far .room)
 
   pub far-fits : count < length entry / 5 → count * 5 + 5 ≤ length now
   far-fits h = omega (arith, mul-div-le (length entry) 5, far .long)
 
-  -- feed stops here
-  far-stop : (i : State) (t n : ℕ) → feedFrom m (drop at s) at (length entry / 5 - count) ≡ stop i t n →
+  bytes-left : at < length s → drop at s ≡ getD s at 0 ∷ drop (at + 1) s
+  bytes-left h = rw (add-one, drop-cons s at 0 h) refl
+
+  -- it stops here
+  far-stop : (i : State) (t n : ℕ) → gatherFrom on m (drop at s) at (length entry / 5 - count) ≡ stop i t n →
       Gathers whole entry now (gatheredAs i t count n)
   far-stop i t n e =
-      let w = far .goes-on ∙ ap (before (far .strokes)) e in
-      let z = append-nil (far .strokes) in (
-        sym (ap gatheredOf w ∙ ap (λ (k : ℕ). gatheredAs i t k n) (ap length z ∙ far .counted)),
-        far .laid ∙ sym (ap (λ (f : Feed). laidNumbers (f .strokes) entry) w ∙ ap (λ (ss : List Stroke). laidNumbers ss entry) z),
+      let w = far .goes-on ∙ ap (before (far .marks)) e in
+      let z = append-nil (far .marks) in (
+        sym (ap plottedOf w ∙ ap (λ (k : ℕ). gatheredAs i t k n) (ap length z ∙ far .counted)),
+        far .laid ∙ sym (ap (λ (f : Plot). laidMarks (f .marks) entry) w ∙ ap (λ (ks : List Mark). laidMarks ks entry) z),
       )
 
-  pub far-full : 0 < waiting (m .work) → count ≡ length now / 5 → Gathers whole entry now (gatheredAs m at count listFull)
-  far-full h e =
+  pub far-full : remainsOf (m .work) at (length s) ≡ true → stuckOf on (m .work) count (length now / 5) ≡ true → Gathers whole entry now (gatheredAs m at count listFull)
+  far-full h k =
+      let e = used-all (m .work) count (length now / 5) on k in
       let z : length entry / 5 - count ≡ 0 = omega (arith, e ∙ far-long) in
-      far-stop m at listFull (ap (λ (r : ℕ). feedFrom m (drop at s) at r) z ∙ at-full m (drop at s) at h)
+      far-stop m at listFull (ap (λ (r : ℕ). gatherFrom on m (drop at s) at r) z ∙ full (waiting (m .work)) refl)
+    where
+      full : (n : ℕ) → waiting (m .work) ≡ n → gatherFrom on m (drop at s) at 0 ≡ stop m at listFull
+      full zero z =
+          ap (λ (bs : List ℕ). gatherFrom on m bs at 0) (bytes-left (byte-remains (m .work) at (length s) h z))
+          ∙ at-stuck m at z (getD s at 0) (drop (at + 1) s) (stuck-on (m .work) count (length now / 5) on k z)
+      full (suc n) z = at-full m (drop at s) at (omega (arith, z)) on
 
   pub far-end : waiting (m .work) ≡ 0 → length s ≤ at → Gathers whole entry now (gatheredAs m at count 0)
-  far-end h k = far-stop m at 0 (rw (drop-of-length-le s k) (at-end m at (length entry / 5 - count) h))
+  far-end h k = far-stop m at 0 (rw (drop-of-length-le s k) (at-end m at h on (length entry / 5 - count)))
+
+  -- a mark is stored, and the machine `next` goes on from the place t
+  far-more : (k : Mark) (next : State) (t : ℕ) → count < length entry / 5 → Valid next →
+      gatherFrom on m (drop at s) at (length entry / 5 - count) ≡ store k (gatherFrom on next (drop t s) t (length entry / 5 - (count + 1))) →
+      Far on whole s entry (withStroke (recordOf k) (count * 5) now) next t (count + 1)
+  far-more k next t free v e =
+      let n = far .counted in
+      let fits = far-fits free in
+      let f = gatherFrom on next (drop t s) t (length entry / 5 - (count + 1)) in
+      record {
+        marks = far .marks ++ k ∷ [];
+        counted = length-append (far .marks) (k ∷ []) ∙ ap (λ (n : ℕ). n + 1) n;
+        room = omega arith;
+        long = stroke-length (recordOf k) (count * 5) now ∙ far .long;
+        laid =
+            ap (λ (zs : List ℤ). withStroke (recordOf k) (count * 5) zs) (far .laid)
+            ∙ ap (λ (n : ℕ). withStroke (recordOf k) (n * 5) (laidMarks (far .marks) entry)) (sym n)
+            ∙ laid-more (far .marks) k entry (omega (arith, n, fits, far .long));
+        valid = v;
+        goes-on =
+            far .goes-on
+            ∙ ap (before (far .marks)) e
+            ∙ ap (λ (ks : List Mark). record { state = f .state; taken = f .taken; marks = ks; number = f .number }) (sym (append-assoc (far .marks) (k ∷ []) (f .marks)));
+      }
+
+  -- nothing is stored
+  far-same : (next : State) (t : ℕ) → Valid next →
+      gatherFrom on m (drop at s) at (length entry / 5 - count) ≡ gatherFrom on next (drop t s) t (length entry / 5 - count) →
+      Far on whole s entry now next t count
+  far-same next t v e = record {
+    marks = far .marks;
+    counted = far .counted;
+    room = far .room;
+    long = far .long;
+    laid = far .laid;
+    valid = v;
+    goes-on = far .goes-on ∙ ap (before (far .marks)) e;
+  }
+
+  less-one : count < length entry / 5 → length entry / 5 - count ≡ suc (length entry / 5 - (count + 1))
+  less-one free = omega arith
 
   -- a segment is drawn, and stored where it is not hidden
   module _ (h : 0 < waiting (m .work)) (free : count < length entry / 5) where
-    drawn-on : whole ≡ before (far .strokes) (drew (drawAnswer m) (length entry / 5 - (count + 1)) (λ r. feedFrom (drawState m) (drop at s) at r))
-    drawn-on =
-        let z : length entry / 5 - count ≡ suc (length entry / 5 - (count + 1)) = omega arith in
-        far .goes-on
-        ∙ ap (before (far .strokes)) (ap (λ (r : ℕ). feedFrom m (drop at s) at r) z ∙ at-draw m (drop at s) at (length entry / 5 - (count + 1)) h)
+    drawn-on : gatherFrom on m (drop at s) at (length entry / 5 - count) ≡ drew (drawAnswer m) (length entry / 5 - (count + 1)) (λ r. gatherFrom on (drawState m) (drop at s) at r)
+    drawn-on = ap (λ (r : ℕ). gatherFrom on m (drop at s) at r) (less-one free) ∙ at-draw m (drop at s) at h on (length entry / 5 - (count + 1))
 
-    unstored : drew (drawAnswer m) (length entry / 5 - (count + 1)) (λ r. feedFrom (drawState m) (drop at s) at r) ≡ feedFrom (drawState m) (drop at s) at (suc (length entry / 5 - (count + 1))) →
-        Far whole s entry now (drawState m) at count
-    unstored e =
-        let z : suc (length entry / 5 - (count + 1)) ≡ length entry / 5 - count = omega arith in
-        record {
-          strokes = far .strokes;
-          counted = far .counted;
-          room = far .room;
-          long = far .long;
-          laid = far .laid;
-          valid = valid-draw (far .valid);
-          goes-on = drawn-on ∙ ap (before (far .strokes)) (e ∙ ap (λ (r : ℕ). feedFrom (drawState m) (drop at s) at r) z);
-        }
+    unstored : drew (drawAnswer m) (length entry / 5 - (count + 1)) (λ r. gatherFrom on (drawState m) (drop at s) at r) ≡ gatherFrom on (drawState m) (drop at s) at (suc (length entry / 5 - (count + 1))) →
+        Far on whole s entry now (drawState m) at count
+    unstored e = far-same (drawState m) at (valid-draw (far .valid)) (drawn-on ∙ e ∙ ap (λ (r : ℕ). gatherFrom on (drawState m) (drop at s) at r) (sym (less-one free)))
 
-    drawn-by : (d : Drawn) → drawAnswer m ≡ d → Far whole s entry (putOf d (count * 5) now) (drawState m) at (countAfter d count)
+    drawn-by : (d : Drawn) → drawAnswer m ≡ d → Far on whole s entry (putOf d (count * 5) now) (drawState m) at (countAfter d count)
     unfolding drew putOf countAfter
     drawn-by drawn.Idle e = unstored (rw e refl)
     drawn-by drawn.Hidden e = unstored (rw e refl)
     drawn-by (drawn.Stroke p) e =
-        let k = far .counted in
-        let fits = far-fits free in
-        record {
-          strokes = far .strokes ++ p ∷ [];
-          counted = length-append (far .strokes) (p ∷ []) ∙ ap (λ (n : ℕ). n + 1) k;
-          room = omega arith;
-          long = stroke-length p (count * 5) now ∙ far .long;
-          laid =
-              ap (λ (zs : List ℤ). withStroke p (count * 5) zs) (far .laid)
-              ∙ ap (λ (n : ℕ). withStroke p (n * 5) (laidNumbers (far .strokes) entry)) (sym k)
-              ∙ laid-more (far .strokes) p entry (omega (arith, k, fits, far .long));
-          valid = valid-draw (far .valid);
-          goes-on =
-              drawn-on
-              ∙ ap (λ (d : Drawn). before (far .strokes) (drew d (length entry / 5 - (count + 1)) (λ r. feedFrom (drawState m) (drop at s) at r))) e
-              ∙ (λ i. record {
-                state = feedFrom (drawState m) (drop at s) at (length entry / 5 - (count + 1)) .state;
-                taken = feedFrom (drawState m) (drop at s) at (length entry / 5 - (count + 1)) .taken;
-                strokes = sym (append-assoc (far .strokes) (p ∷ []) (feedFrom (drawState m) (drop at s) at (length entry / 5 - (count + 1)) .strokes)) i;
-                number = feedFrom (drawState m) (drop at s) at (length entry / 5 - (count + 1)) .number;
-              });
-        }
+        far-more (stroke p) (drawState m) at free (valid-draw (far .valid))
+        (drawn-on ∙ ap (λ (d : Drawn). drew d (length entry / 5 - (count + 1)) (λ r. gatherFrom on (drawState m) (drop at s) at r)) e)
 
     pub far-draw : {d : Drawn} {numbers : List ℤ} {k : ℕ} {w : Work} → d ≡ drawAnswer m → numbers ≡ putOf d (count * 5) now → k ≡ countAfter d count → w ≡ workAfter (m .work) →
-        Far whole s entry numbers (record { reader = m .reader; core = m .core; store = m .store; work = w }) at k
+        Far on whole s entry numbers (record { reader = m .reader; core = m .core; store = m .store; work = w }) at k
     unfolding drawState
     far-draw {d} e f g h = rw (f, g, h) (drawn-by d (sym e))
 
   -- a byte is taken
   module _ {next : State} {q : Step} {t : Acted} (turn : Turn m (getD s at 0) q t next) (idle : waiting (m .work) ≡ 0) (h : at < length s) where
-    bytes-left : drop at s ≡ getD s at 0 ∷ drop (at + 1) s
-    bytes-left = rw (add-one, drop-cons s at 0 h) refl
-
     number-is : takeNumber m (getD s at 0) ≡ t .number
     number-is = turn-number m next (getD s at 0) q t turn idle
 
     state-is : takeState m (getD s at 0) ≡ next
     state-is = turn-taken m next (getD s at 0) q t turn idle
 
-    pub far-turn : t .number ≡ 0 → Far whole s entry now next (at + 1) count
-    far-turn e = record {
-      strokes = far .strokes;
-      counted = far .counted;
-      room = far .room;
-      long = far .long;
-      laid = far .laid;
-      valid = turn-valid m next (getD s at 0) q t turn idle (far .valid);
-      goes-on =
-          far .goes-on
-          ∙ ap (before (far .strokes))
-          (ap (λ (bs : List ℕ). feedFrom m bs at (length entry / 5 - count)) bytes-left
-          ∙ at-byte m at (length entry / 5 - count) idle (getD s at 0) (drop (at + 1) s) (number-is ∙ e)
-          ∙ ap (λ (i : State). feedFrom i (drop (at + 1) s) (at + 1) (length entry / 5 - count)) state-is);
-    }
+    next-valid : Valid next
+    next-valid = turn-valid m next (getD s at 0) q t turn idle (far .valid)
 
-    pub far-refused : (t .number ≡ 0 → ⊥) → Gathers whole entry now (gatheredAs next (at + 1) count (t .number))
-    far-refused f =
-        far-stop next (at + 1) (t .number)
-        (ap (λ (bs : List ℕ). feedFrom m bs at (length entry / 5 - count)) bytes-left
-        ∙ at-refused m at (length entry / 5 - count) idle (getD s at 0) (drop (at + 1) s) (λ e. f (sym number-is ∙ e))
-        ∙ (λ i. stop (state-is i) (at + 1) (number-is i)))
+    on-byte : (r : ℕ) → gatherFrom on m (drop at s) at r ≡ gatherFrom on m (getD s at 0 ∷ drop (at + 1) s) at r
+    on-byte r = ap (λ (bs : List ℕ). gatherFrom on m bs at r) (bytes-left h)
+
+    pub far-turn : (on ≡ true → count < length entry / 5) → t .number ≡ 0 → Far on whole s entry now next (at + 1) count
+    far-turn free e =
+        far-same next (at + 1) next-valid
+        (on-byte (length entry / 5 - count)
+        ∙ at-byte m at idle (getD s at 0) (drop (at + 1) s) on (length entry / 5 - count) (λ o. omega (arith, free o)) (number-is ∙ e)
+        ∙ ap (λ (i : State). gatherFrom on i (drop (at + 1) s) (at + 1) (length entry / 5 - count)) state-is)
+
+    module _ (f : t .number ≡ 0 → ⊥) where
+      refused : takeNumber m (getD s at 0) ≡ 0 → ⊥
+      refused e = f (sym number-is ∙ e)
+
+      -- its refusal is stored
+      pub far-refusal : on ≡ true → count < length entry / 5 → {numbers : List ℤ} {k : ℕ} → numbers ≡ withStroke (recordOf (refusal (t .number) (at + 1))) (count * 5) now → k ≡ count + 1 →
+          Far on whole s entry numbers next (at + 1) k
+      far-refusal o free e g =
+          rw (e, g)
+          (far-more (refusal (t .number) (at + 1)) next (at + 1) free next-valid
+          (on-byte (length entry / 5 - count)
+          ∙ ap (λ (r : ℕ). gatherFrom on m (getD s at 0 ∷ drop (at + 1) s) at r) (less-one free)
+          ∙ at-refusal m at idle (getD s at 0) (drop (at + 1) s) refused o (length entry / 5 - (count + 1))
+          ∙ (λ i. store (refusal (number-is i) (at + 1)) (gatherFrom on (state-is i) (drop (at + 1) s) (at + 1) (length entry / 5 - (count + 1))))))
+
+      -- it ends here
+      pub far-refused : on ≡ false → Gathers whole entry now (gatheredAs next (at + 1) count (t .number))
+      far-refused o =
+          far-stop next (at + 1) (t .number)
+          (on-byte (length entry / 5 - count)
+          ∙ at-refused m at idle (getD s at 0) (drop (at + 1) s) refused o (length entry / 5 - count)
+          ∙ (λ i. stop (state-is i) (at + 1) (number-is i)))

@@ -1,9 +1,9 @@
-// Feed into a list of plain numbers: the machine is taken apart once, the reader goes by itself, and core, store and work are touched by events alone.
+// Feed and plot into a list of plain numbers: the machine is taken apart once, the reader goes by itself, and core, store and work are touched by events alone.
 // (A byte that means nothing yet leaves no work: an outline of no edges may have been there.)
 ghost use mathlib.Core.Path.{_≡_};
-ghost use Prim.Native.Nat.{_/_, _*_, _+_, _≤_};
+ghost use Prim.Native.Nat.{_/_, _*_, _+_, _^_, _<_, _≤_};
 ghost use lib.ListN.{length, drop};
-ghost use Rattle.hpgl.specs.Feed.{feedFrom};
+ghost use Rattle.hpgl.specs.Plot.{refusal};
 ghost use Rattle.hpgl.specs.Valid.{Valid};
 ghost use Rattle.machine.specs.Gather as S;
 use super::Gathered;
@@ -13,6 +13,7 @@ use hpgl::Core;
 use hpgl::Drawn;
 use hpgl::State;
 use hpgl::Store;
+use hpgl::Stroke;
 use hpgl::Work;
 use instructions::drawing::draw_work;
 use instructions::drawing::edge_place;
@@ -26,7 +27,7 @@ use instructions::storing::waiting;
 use reader::Event;
 use reader::Reader;
 
-// The numbers of a stroke: pen and ends.
+// The numbers of a record: pen and ends of a stroke.
 const NUMBERS: usize = 5;
 
 // Whether a byte means nothing yet.
@@ -83,7 +84,27 @@ fn gathered(
     }
 }
 
-// Stores what was drawn after `count` strokes, and answers how many there are then.
+// Stores a record after `count` others, and answers how many there are then.
+fn put_record(numbers: &mut [i64], count: usize, s: Stroke) -> usize
+    requires { ⌜ count * 5 + 5 ≤ length (now numbers) ⌝ }
+    ensures { λ r. ⌜ r ≡ count + 1 ⌝ }
+    ensures { λ r. ⌜ now (numbers .exit) ≡ S.withStroke s (count * 5) (now (numbers .entry)) ⌝ }
+{
+    let k = count * NUMBERS;
+    let pen = s.pen as i64;
+    let x0 = s.x0;
+    let y0 = s.y0;
+    let x1 = s.x1;
+    let y1 = s.y1;
+    numbers[k] = pen;
+    numbers[k + 1] = x0;
+    numbers[k + 2] = y0;
+    numbers[k + 3] = x1;
+    numbers[k + 4] = y1;
+    count + 1
+}
+
+// Stores what was drawn after `count` records, and answers how many there are then.
 fn put(numbers: &mut [i64], count: usize, d: Drawn) -> usize
     requires { ⌜ count * 5 + 5 ≤ length (now numbers) ⌝ }
     ensures { λ r. ⌜ r ≡ S.countAfter d count ⌝ }
@@ -92,20 +113,21 @@ fn put(numbers: &mut [i64], count: usize, d: Drawn) -> usize
     match d {
         Drawn::Idle => count,
         Drawn::Hidden => count,
-        Drawn::Stroke(s) => {
-            let k = count * NUMBERS;
-            let pen = s.pen as i64;
-            let x0 = s.x0;
-            let y0 = s.y0;
-            let x1 = s.x1;
-            let y1 = s.y1;
-            numbers[k] = pen;
-            numbers[k + 1] = x0;
-            numbers[k + 2] = y0;
-            numbers[k + 3] = x1;
-            numbers[k + 4] = y1;
-            count + 1
-        }
+        Drawn::Stroke(s) => put_record(numbers, count, s),
+    }
+}
+
+// The record of a refusal; no stroke has pen 0.
+fn refusal_record(number: u8, at: usize) -> Stroke
+    requires { ⌜ at < 2 ^ 63 ⌝ }
+    ensures { λ r. ⌜ r ≡ S.recordOf (refusal number at) ⌝ }
+{
+    Stroke {
+        pen: 0,
+        x0: number as i64,
+        y0: at as i64,
+        x1: 0,
+        y1: 0,
     }
 }
 
@@ -119,10 +141,24 @@ fn remains(w: Work, at: usize, end: usize) -> bool
     0 < waiting(w)
 }
 
-// Draws while a segment waits, else takes the next byte, up to one that is refused, the last, or a segment with no room for a stroke.
-pub fn gather(m: State, bytes: &[u8], from: usize, numbers: &mut [i64]) -> Gathered
+// Whether what comes next may need a record, of which all are used: a segment does, and where refusals are stored any byte.
+fn stuck(on: bool, w: Work, count: usize, room: usize) -> bool
+    ensures { λ r. ⌜ r ≡ S.stuckOf on w count room ⌝ }
+{
+    if count == room {
+        if on {
+            return true;
+        }
+        return 0 < waiting(w);
+    }
+    false
+}
+
+// Draws while a segment waits, else takes the next byte, up to the last, or one with no room for what it may leave.
+// A byte that is refused ends it, or it goes on with the refusal stored.
+pub fn gather(m: State, bytes: &[u8], from: usize, numbers: &mut [i64], on: bool) -> Gathered
     requires { ⌜ Valid m ⌝ }
-    ensures { λ r. ⌜ S.Gathers (feedFrom m (drop from (now (bytes .entry))) from (length (now (numbers .entry)) / 5)) (now (numbers .entry)) (now (numbers .exit)) r ⌝ }
+    ensures { λ r. ⌜ S.Gathers (S.gatherFrom on m (drop from (now (bytes .entry))) from (length (now (numbers .entry)) / 5)) (now (numbers .entry)) (now (numbers .exit)) r ⌝ }
 {
     let mut reader = m.reader;
     let mut core = m.core;
@@ -131,10 +167,10 @@ pub fn gather(m: State, bytes: &[u8], from: usize, numbers: &mut [i64]) -> Gathe
     let mut at = from;
     let mut count = 0;
     while remains(work, at, bytes.len()) {
+        if stuck(on, work, count, numbers.len() / NUMBERS) {
+            return gathered(reader, core, store, work, at, count, LIST_FULL);
+        }
         if 0 < waiting(work) {
-            if count == numbers.len() / NUMBERS {
-                return gathered(reader, core, store, work, at, count, LIST_FULL);
-            }
             let e = store.edges[edge_place(work)];
             count = put(numbers, count, draw_work(core, e, work));
             work = work_after(work);
@@ -156,7 +192,12 @@ pub fn gather(m: State, bytes: &[u8], from: usize, numbers: &mut [i64]) -> Gathe
         core = t.core;
         work = queued(edge_count(core), action);
         if t.number > 0 {
-            return gathered(reader.passed_over(), core, store, work, at, count, t.number);
+            reader = reader.passed_over();
+            if on {
+                count = put_record(numbers, count, refusal_record(t.number, at));
+                continue;
+            }
+            return gathered(reader, core, store, work, at, count, t.number);
         }
     }
     gathered(reader, core, store, work, at, count, 0)

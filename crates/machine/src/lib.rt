@@ -4,10 +4,11 @@ ghost use Prim.Native.Nat.{_/_};
 ghost use lib.ListN.{length, drop};
 ghost use Rattle.hpgl.specs.Machine as M;
 ghost use Rattle.hpgl.specs.Feed.{feedFrom, laidNumbers};
+ghost use Rattle.hpgl.specs.Plot.{plotFrom, laidMarks};
 ghost use Rattle.hpgl.specs.Made.{Made};
 ghost use Rattle.machine.specs.Calls.{startedOf, takenOf, workedOf};
 ghost use Rattle.machine.specs.Run.{runOf};
-ghost use Rattle.machine.specs.Gather.{gatheredOf};
+ghost use Rattle.machine.specs.Gather.{gatheredOf, plottedOf};
 
 mod gathering;
 
@@ -58,7 +59,7 @@ pub struct Ran {
     pub number: u8,
 }
 
-// How far a feed went: the place of the next byte, how many strokes are stored, and 01's number.
+// How far a feed or a plot went: the place of the next byte, how many records are stored, and 01's number.
 pub struct Gathered {
     pub machine: Machine,
     pub at: usize,
@@ -171,7 +172,7 @@ impl Machine {
         let m = self.state;
         // with no room for a stroke, feed stops where a segment waits
         let mut none = [0; 1];
-        let g = gather(m, bytes, from, &mut none);
+        let g = gather(m, bytes, from, &mut none, false);
         let machine = g.machine;
         if g.number == LIST_FULL {
             return Ran {
@@ -194,6 +195,16 @@ impl Machine {
         ensures { λ r. ⌜ now (numbers .exit) ≡ laidNumbers (feedFrom (self .state) (drop from (now (bytes .entry))) from (length (now (numbers .entry)) / 5) .strokes) (now (numbers .entry)) ⌝ }
     {
         let m = self.state;
-        gather(m, bytes, from, numbers)
+        gather(m, bytes, from, numbers, false)
+    }
+
+    // A feed that goes on after a refused byte, and stores the refusal among the strokes: 0, its number, its place counted from 1, 0, 0.
+    pub fn plot(self, bytes: &[u8], from: usize, numbers: &mut [i64]) -> Gathered
+        requires { ⌜ Made (self .state) ⌝ }
+        ensures { λ r. ⌜ r ≡ plottedOf (plotFrom (self .state) (drop from (now (bytes .entry))) from (length (now (numbers .entry)) / 5)) ⌝ }
+        ensures { λ r. ⌜ now (numbers .exit) ≡ laidMarks (plotFrom (self .state) (drop from (now (bytes .entry))) from (length (now (numbers .entry)) / 5) .marks) (now (numbers .entry)) ⌝ }
+    {
+        let m = self.state;
+        gather(m, bytes, from, numbers, true)
     }
 }

@@ -10,6 +10,7 @@ use Rattle.hpgl.specs.ValidKept.{made-valid}
 use Rattle.machine.specs.declared.Gathered.{Gathered}
 use Rattle.machine.specs.declared.Ran.{Ran}
 use Rattle.machine.specs.Run.{ranOf, runOf}
+use Rattle.machine.specs.Gather.{gatherFrom}
 use Rattle.machine.specs.RunLaws.{run-feeds}
 use Rattle.machine.proofs.Machine.run.Statement.{statement}
 use Rattle.machine.proofs.Machine.run.Tie as tie
@@ -21,6 +22,7 @@ abbrev ran : Gathered → Ran
 ran g = ranOf (g .machine .state) (g .at) (cond (eqb (g .number) listFull) 0 (g .number))
 
 answer : (g : tie.After-gather) → let s = start g .args in ran (g .gather .result) ≡ runOf (s .self .state) (drop (s .from) (s .bytes .now)) (s .from)
+unfolding gatherFrom
 answer g = ap ran (g .gather .ensures .0) ∙ sym (run-feeds (start g .args .self .state) _ (start g .args .from))
 
 slice-aggregate-gather : tie.Need-slice-aggregate-gather
