@@ -20,7 +20,8 @@ use Rattle.reader.specs.Number.{pointOf, finishOf}
 use Rattle.reader.specs.Table.{findOf, countFits, takesPairs, hasRoom, isLabel}
 use Rattle.reader.specs.Sizes.{isCause, Caused}
 use Rattle.reader.specs.Reader.{unknown, count, range, storedOf, pairOf, goOnOf, quietOf, refuseOf, beginOf, openOf, withNumbers}
-use Rattle.reader.specs.Step.{foundOf, nameOf, keptOf, judgedOf, closedOf, endOf, completeOf, closeWith, closeOf, closeEndWith, closeEndOf, idleOf, firstOf, parametersOf, inNumberOf, passOverOf, labelOf, byMode, stepOf}
+use Rattle.reader.specs.Step.{foundOf, nameOf, keptOf, judgedOf, closedOf, endOf, completeOf, afterNumberOf, closeWith, closeOf, endingOf, idleOf, firstOf, parametersOf, inNumberOf, passOverOf, labelOf, byMode, stepOf}
+use Rattle.reader.specs.Inside.{inside}
 
 -- A number that ends.
 CausedEnd : Closed → Type 0
@@ -55,21 +56,20 @@ module _ (r : Reader) where
       go true = tt
       go false = tt
 
-close-caused : (r : Reader) → Caused (closeOf r .event)
-unfolding closeOf closeWith completeOf quietOf refuseOf goOnOf CausedEnd
-close-caused r = go (closedOf r) (closed-caused r)
-  where
-    go : (c : Closed) → CausedEnd c → Caused (closeWith r c .event)
-    go (Kept ns) e = tt
-    go (Complete p) e = tt
-    go (Faulty n) e = e
+  after-number-caused : (m : Mode) → Caused (afterNumberOf r m .event)
+  unfolding afterNumberOf quietOf goOnOf
+  after-number-caused m = go (inside m)
+    where
+      go : (t : Bool) → Caused (cond t (quietOf r m) (endOf r m) .event)
+      go true = tt
+      go false = end-caused m
 
-close-end-caused : (r : Reader) (m : Mode) → Caused (closeEndOf r m .event)
-unfolding closeEndOf closeEndWith completeOf refuseOf goOnOf CausedEnd
-close-end-caused r m = go (closedOf r) (closed-caused r)
+close-caused : (r : Reader) (m : Mode) → Caused (closeOf r m .event)
+unfolding closeOf closeWith completeOf refuseOf goOnOf CausedEnd
+close-caused r m = go (closedOf r) (closed-caused r)
   where
-    go : (c : Closed) → CausedEnd c → Caused (closeEndWith r m c .event)
-    go (Kept ns) e = end-caused (withNumbers r ns) m
+    go : (c : Closed) → CausedEnd c → Caused (closeWith r m c .event)
+    go (Kept ns) e = after-number-caused (withNumbers r ns) m
     go (Complete p) e = tt
     go (Faulty n) e = e
 
@@ -116,9 +116,9 @@ module _ (r : Reader) where
 
   in-number-caused : (c : Class) → Caused (inNumberOf r c .event)
   unfolding inNumberOf openOf refuseOf goOnOf
-  in-number-caused Blank = close-caused r
-  in-number-caused Semicolon = close-end-caused r Idle
-  in-number-caused (Letter l) = close-end-caused r (First l)
+  in-number-caused Blank = close-caused r (endingOf Blank)
+  in-number-caused Semicolon = close-caused r (endingOf Semicolon)
+  in-number-caused (Letter l) = close-caused r (endingOf (Letter l))
   in-number-caused (Digit d) = tt
   in-number-caused (Sign s) = tt
   in-number-caused Point = go (r .number .pointed)

@@ -10,7 +10,8 @@ use Rattle.reader.specs.Bytes.{lowClassOf, classOf}
 use Rattle.reader.specs.Table.{IN, SC, SP, PU, PD, PA, PR, cellOf, namedOf, findFrom, findOf, countFits, takesPairs, hasRoom, isLabel}
 use Rattle.reader.specs.Number.{startOf, pointOf, countedOf, digitOf, unitOf, tenThousandths, signedOf, largestOf, finishOf}
 use Rattle.reader.specs.Reader.{noneOf, storedOf, pairOf, freshReader, goOnOf, quietOf, refuseOf, beginOf, openOf, withNumbers}
-use Rattle.reader.specs.Step.{foundOf, nameOf, keptOf, judgedOf, closedOf, endOf, completeOf, closeWith, closeOf, closeEndWith, closeEndOf, idleOf, firstOf, parametersOf, inNumberOf, passOverOf, labelOf, byMode, stepOf}
+use Rattle.reader.specs.Step.{foundOf, nameOf, keptOf, judgedOf, closedOf, endOf, completeOf, passedMode, endingOf, afterNumberOf, closeWith, closeOf, idleOf, firstOf, parametersOf, inNumberOf, passOverOf, labelOf, byMode, stepOf}
+use Rattle.reader.specs.Inside.{inside}
 use Rattle.reader.specs.Stream.{bytes, Told, _at_, tell, tells, reads}
 
 infix 60 _gives_
@@ -106,5 +107,5 @@ abbrev pub table : List Row
 table = names ++ numbers ++ counts ++ program
 
 pub examples : told table ≡ said table
-unfolding lowClassOf classOf cellOf namedOf findFrom findOf countFits takesPairs hasRoom startOf pointOf countedOf digitOf unitOf tenThousandths signedOf largestOf finishOf noneOf storedOf pairOf freshReader goOnOf quietOf refuseOf beginOf openOf withNumbers isLabel foundOf nameOf keptOf judgedOf closedOf endOf completeOf closeWith closeOf closeEndWith closeEndOf idleOf firstOf parametersOf inNumberOf passOverOf labelOf byMode stepOf bytes tell tells reads
+unfolding lowClassOf classOf cellOf namedOf findFrom findOf countFits takesPairs hasRoom startOf pointOf countedOf digitOf unitOf tenThousandths signedOf largestOf finishOf noneOf storedOf pairOf freshReader goOnOf quietOf refuseOf beginOf openOf withNumbers isLabel foundOf nameOf keptOf judgedOf closedOf endOf completeOf inside passedMode endingOf afterNumberOf closeWith closeOf idleOf firstOf parametersOf inNumberOf passOverOf labelOf byMode stepOf bytes tell tells reads
 examples = refl

@@ -21,7 +21,7 @@ use Rattle.reader.specs.Bytes.{classOf}
 use Rattle.reader.specs.Number.{digitOf, startOf, pointOf}
 use Rattle.reader.specs.Table.{findOf, countFits, isLabel}
 use Rattle.reader.specs.Reader.{goOnOf, quietOf, refuseOf, beginOf, openOf, withNumbers, labelEnd, count, range, unknown}
-use Rattle.reader.specs.Step.{foundOf, nameOf, endOf, completeOf, closeWith, closedOf, closeOf, closeEndWith, closeEndOf, idleOf, firstOf, parametersOf, inNumberOf, passOverOf, labelOf, byMode, stepOf, passedMode, passedOver}
+use Rattle.reader.specs.Step.{foundOf, nameOf, endOf, completeOf, endingOf, afterNumberOf, closeWith, closedOf, closeOf, idleOf, firstOf, parametersOf, inNumberOf, passOverOf, labelOf, byMode, stepOf, passedMode, passedOver}
 use lib.Dec.{eqb}
 use Rattle.reader.specs.Inside.{inside}
 
@@ -45,6 +45,15 @@ Told r s (Refused k) = (s .op ≡ r .op) × (inside (s .mode) ≡ false)
 
 never : {X : Type 0} {t : Bool} → t ≡ false → t ≡ true → X
 never h k = absurd (false≢true (sym h ∙ k))
+
+passed : (m : Mode) → inside (passedMode m) ≡ false
+unfolding passedMode inside
+passed Idle = refl
+passed (First a) = refl
+passed Parameters = refl
+passed InNumber = refl
+passed PassOver = refl
+passed Label = refl
 
 record Tells (r : Reader) (t : Step) : Type 0 where
   told : Told r (t .reader) (t .event)
@@ -83,19 +92,17 @@ module _ (r : Reader) where
   unfolding endOf goOnOf Told
   ends m w o = both (countFits (r .op) (r .numbers .count)) (record { told = record { op = refl; within = w; out = o } }) (refuses m count o)
 
-  closes : (k : Closed) → inside (r .mode) ≡ true → Tells r (closeWith r k)
-  unfolding closeWith completeOf quietOf goOnOf Told withNumbers
-  closes (Kept ns) w = record { told = record { op = refl; within = λ e. w } }
-  closes (Complete p) w = record { told = record { op = refl; within = λ e. w } }
-  closes (Faulty n) w = passes n
-
-  close-ends : (m : Mode) (k : Closed) → inside (r .mode) ≡ true → inside m ≡ false → Tells r (closeEndWith r m k)
-  unfolding closeEndWith completeOf endOf refuseOf goOnOf Told withNumbers
-  close-ends m (Kept ns) w o =
-      both (countFits (r .op) (ns .count)) (record { told = record { op = refl; within = w; out = o } })
-      (record { told = (refl, o) })
-  close-ends m (Complete p) w o = record { told = record { op = refl; within = λ e. w } }
-  close-ends m (Faulty n) w o = refuses m n o
+  closes : (m : Mode) (k : Closed) → inside (r .mode) ≡ true → Tells r (closeWith r m k)
+  unfolding closeWith afterNumberOf completeOf quietOf endOf refuseOf goOnOf Told withNumbers
+  closes m (Kept ns) w = go (inside m) refl
+    where
+      go : (t : Bool) → inside m ≡ t → Tells r (cond t (quietOf (withNumbers r ns) m) (endOf (withNumbers r ns) m))
+      go true i = record { told = record { op = refl; within = λ e. w } }
+      go false o =
+          both (countFits (r .op) (ns .count)) (record { told = record { op = refl; within = w; out = o } })
+          (record { told = (refl, o) })
+  closes m (Complete p) w = record { told = record { op = refl; within = λ e. w } }
+  closes m (Faulty n) w = refuses (passedMode m) n (passed m)
 
   idle : (k : Class) → Tells r (idleOf r k)
   unfolding idleOf inside
@@ -128,10 +135,10 @@ module _ (r : Reader) where
   parameters Other w = passes unknown
 
   in-number : (k : Class) → inside (r .mode) ≡ true → Tells r (inNumberOf r k)
-  unfolding inNumberOf closeOf closeEndOf inside
-  in-number Blank w = closes (closedOf r) w
-  in-number Semicolon w = close-ends Idle (closedOf r) w refl
-  in-number (Letter l) w = close-ends (First l) (closedOf r) w refl
+  unfolding inNumberOf closeOf
+  in-number Blank w = closes (endingOf Blank) (closedOf r) w
+  in-number Semicolon w = closes (endingOf Semicolon) (closedOf r) w
+  in-number (Letter l) w = closes (endingOf (Letter l)) (closedOf r) w
   in-number (Digit d) w = opens (digitOf (r .number) d) w
   in-number (Sign s) w = passes range
   in-number Point w = both (r .number .pointed) (passes range) (opens (pointOf (r .number)) w)
@@ -162,16 +169,8 @@ module _ (r : Reader) where
 
 -- what a refusal leaves is inside no instruction
 pub passed-outside : (r : Reader) → inside (passedOver r .mode) ≡ false
-unfolding passedOver passedMode inside
-passed-outside r = go (r .mode)
-  where
-    go : (m : Mode) → inside (passedMode m) ≡ false
-    go Idle = refl
-    go (First a) = refl
-    go Parameters = refl
-    go InNumber = refl
-    go PassOver = refl
-    go Label = refl
+unfolding passedOver
+passed-outside r = passed (r .mode)
 
 -- what the reader itself refuses has its mode already: nothing more is passed over, and the text of LB stays a text
 pub refused-passed : (r : Reader) (b k : ℕ) → stepOf r b .event ≡ Refused k → passedOver (stepOf r b .reader) ≡ stepOf r b .reader

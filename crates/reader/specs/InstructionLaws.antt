@@ -24,7 +24,8 @@ use Rattle.reader.specs.declared.Reader.{Reader}
 use Rattle.reader.specs.Bytes.{classOf, lowClassOf}
 use Rattle.reader.specs.Table.{rows, least, most, step, any, cellOf, namedOf, findFrom, findOf, isLabel, countFits, takesPairs, hasRoom}
 use Rattle.reader.specs.Reader.{noneOf, storedOf, pairOf, goOnOf, quietOf, beginOf, withNumbers}
-use Rattle.reader.specs.Step.{foundOf, nameOf, keptOf, judgedOf, closedOf, endOf, completeOf, closeWith, closeOf, closeEndWith, closeEndOf, idleOf, firstOf, parametersOf, inNumberOf, byMode, stepOf}
+use Rattle.reader.specs.Step.{foundOf, nameOf, keptOf, judgedOf, closedOf, endOf, completeOf, endingOf, afterNumberOf, closeWith, closeOf, idleOf, firstOf, parametersOf, inNumberOf, byMode, stepOf}
+use Rattle.reader.specs.Inside.{inside}
 use Rattle.reader.specs.Every.{holds, every-at}
 use Rattle.reader.specs.Stream.{readNumeral, reader, _telling_, Means, done, quiet, loud}
 use Rattle.reader.specs.Numeral.{text}
@@ -43,11 +44,11 @@ module _ (op : ℕ) where
     kept = rw (numeral-value (l .numeral), l .good) refl
 
     at-comma : stepOf opened (code ",") ≡ reader op (storedOf ns (l .value)) Parameters (readNumeral (l .numeral)) telling Nothing
-    unfolding stepOf byMode classOf lowClassOf inNumberOf closeOf closeWith judgedOf keptOf quietOf goOnOf withNumbers
+    unfolding stepOf byMode classOf lowClassOf inNumberOf closeOf closeWith endingOf afterNumberOf inside judgedOf keptOf quietOf goOnOf withNumbers
     at-comma = rw kept (simp (room, single))
 
     at-semicolon : countFits op (storedOf ns (l .value) .count) ≡ true → stepOf opened (code ";") ≡ reader op (storedOf ns (l .value)) Idle (readNumeral (l .numeral)) telling Ended op (storedOf ns (l .value))
-    unfolding stepOf byMode classOf lowClassOf inNumberOf closeEndOf closeEndWith judgedOf keptOf endOf goOnOf withNumbers
+    unfolding stepOf byMode classOf lowClassOf inNumberOf closeOf closeWith endingOf afterNumberOf inside judgedOf keptOf endOf goOnOf withNumbers
     at-semicolon fits = rw kept (simp (room, single, fits))
 
   -- An instruction ends with no number open.
@@ -114,15 +115,15 @@ module _ (op : ℕ) (listed : op < rows) (double : takesPairs op ≡ true) (fits
     y-complete = rw (numeral-value (p .y .numeral), p .y .good) (simp (space 1 (lit< tt), double))
 
     x-comma : stepOf (reader op noneOf InNumber (readNumeral (p .x .numeral))) (code ",") ≡ reader op half Parameters (readNumeral (p .x .numeral)) telling Nothing
-    unfolding stepOf byMode classOf lowClassOf inNumberOf closeOf closeWith quietOf goOnOf withNumbers
+    unfolding stepOf byMode classOf lowClassOf inNumberOf closeOf closeWith endingOf afterNumberOf inside quietOf goOnOf withNumbers
     x-comma = rw x-kept refl
 
     y-comma : stepOf (reader op half InNumber (readNumeral (p .y .numeral))) (code ",") ≡ reader op noneOf Parameters (readNumeral (p .y .numeral)) telling Pair (coordinates p)
-    unfolding stepOf byMode classOf lowClassOf inNumberOf closeOf closeWith completeOf goOnOf withNumbers
+    unfolding stepOf byMode classOf lowClassOf inNumberOf closeOf closeWith endingOf completeOf goOnOf withNumbers
     y-comma = rw y-complete refl
 
     y-semicolon : stepOf (reader op half InNumber (readNumeral (p .y .numeral))) (code ";") ≡ reader op noneOf Idle (readNumeral (p .y .numeral)) telling Pair (coordinates p)
-    unfolding stepOf byMode classOf inNumberOf closeEndOf closeEndWith completeOf goOnOf withNumbers
+    unfolding stepOf byMode classOf inNumberOf closeOf closeWith endingOf completeOf goOnOf withNumbers
     y-semicolon = rw y-complete refl
 
     first-half : {q : Reader} {bs : List ℕ} {es : List Event} (n : Number) → Means (reader op half InNumber (readNumeral (p .y .numeral))) bs es q → Means (reader op noneOf Parameters n) (text (p .x .numeral) ++ (code "," ∷ (text (p .y .numeral) ++ bs))) es q

@@ -28,7 +28,8 @@ use Rattle.reader.specs.Table.{rows, namedOf, findFrom, findOf, countFit
 use Rattle.reader.specs.Sizes.{Small, Readable, SmallPair, SoundStep}
 use Rattle.reader.specs.NumeralLaws.{largest-le}
 use Rattle.reader.specs.Reader.{noneOf, storedOf, pairOf, freshReader, goOnOf, quietOf, refuseOf, beginOf, openOf, withNumbers}
-use Rattle.reader.specs.Step.{foundOf, nameOf, keptOf, judgedOf, closedOf, endOf, completeOf, closeWith, closeOf, closeEndWith, closeEndOf, idleOf, firstOf, parametersOf, inNumberOf, passOverOf, labelOf, byMode, stepOf, passedOver}
+use Rattle.reader.specs.Step.{foundOf, nameOf, keptOf, judgedOf, closedOf, endOf, completeOf, passedMode, endingOf, afterNumberOf, closeWith, closeOf, idleOf, firstOf, parametersOf, inNumberOf, passOverOf, labelOf, byMode, stepOf, passedOver}
+use Rattle.reader.specs.Inside.{inside}
 
 -- A number that has ended.
 signed-small : (s : Bool) (m : ℕ) → m ≤ bottom → Bd (signedOf s m) bottom
@@ -119,23 +120,22 @@ with-readable : (r : Reader) → Readable r → (ns : Numbers) → Small ns → 
 unfolding withNumbers
 with-readable r h ns s = record { op = h .op; numbers = s }
 
-close-sound : (r : Reader) → Readable r → SoundStep (closeOf r)
-unfolding closeOf closeWith SoundClosed
-close-sound r h = go (closedOf r) (closed-sound r h)
+after-number-sound : (r : Reader) → Readable r → (m : Mode) → SoundStep (afterNumberOf r m)
+unfolding afterNumberOf
+after-number-sound r h m = go (inside m)
   where
-    go : (c : Closed) → SoundClosed c → SoundStep (closeWith r c)
-    go (Kept ns) s = quiet-sound (withNumbers r ns) (with-readable r h ns s) Parameters
-    go (Complete p) s = pair-sound r h Parameters p s
-    go (Faulty n) s = refuse-sound r h PassOver n
+    go : (t : Bool) → SoundStep (cond t (quietOf r m) (endOf r m))
+    go true = quiet-sound r h m
+    go false = end-sound r h m
 
-close-end-sound : (r : Reader) → Readable r → (m : Mode) → SoundStep (closeEndOf r m)
-unfolding closeEndOf closeEndWith SoundClosed
-close-end-sound r h m = go (closedOf r) (closed-sound r h)
+close-sound : (r : Reader) → Readable r → (m : Mode) → SoundStep (closeOf r m)
+unfolding closeOf closeWith SoundClosed
+close-sound r h m = go (closedOf r) (closed-sound r h)
   where
-    go : (c : Closed) → SoundClosed c → SoundStep (closeEndWith r m c)
-    go (Kept ns) s = end-sound (withNumbers r ns) (with-readable r h ns s) m
+    go : (c : Closed) → SoundClosed c → SoundStep (closeWith r m c)
+    go (Kept ns) s = after-number-sound (withNumbers r ns) (with-readable r h ns s) m
     go (Complete p) s = pair-sound r h m p s
-    go (Faulty n) s = refuse-sound r h m n
+    go (Faulty n) s = refuse-sound r h (passedMode m) n
 
 -- What is found stands in the table.
 Placed : ℕ → Found → Type 0
@@ -204,9 +204,9 @@ module _ (r : Reader) (h : Readable r) where
 
   in-number-sound : (c : Class) → SoundStep (inNumberOf r c)
   unfolding inNumberOf
-  in-number-sound Blank = close-sound r h
-  in-number-sound Semicolon = close-end-sound r h Idle
-  in-number-sound (Letter l) = close-end-sound r h (First l)
+  in-number-sound Blank = close-sound r h (endingOf Blank)
+  in-number-sound Semicolon = close-sound r h (endingOf Semicolon)
+  in-number-sound (Letter l) = close-sound r h (endingOf (Letter l))
   in-number-sound (Digit d) = open-sound r h _
   in-number-sound (Sign s) = refuse PassOver 3
   in-number-sound Point = go (r .number .pointed)

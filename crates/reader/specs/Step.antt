@@ -3,8 +3,7 @@
 --   refuseOf r m n   the byte is refused with n, and the reader goes on in mode m
 --   openOf r n       the number n is open
 --   endOf r m        the instruction ends, and the reader goes on in mode m
---   closeOf r        the open number ends
---   closeEndOf r m   the open number ends and then, if it is good, the instruction; the reader goes on in mode m
+--   closeOf r m      the open number ends and, if m is outside the instruction, so does that; the reader goes on in mode m
 use Prim.Native.Nat.{ℕ}
 use mathlib.Core.Bool.{false, cond}
 use lib.IntN.{ℤ}
@@ -62,23 +61,33 @@ endOf r m =
 unfoldable pub completeOf : Reader → Mode → Coordinates → Step
 completeOf r m p = goOnOf (withNumbers r noneOf) m (Pair p)
 
--- A number ends, its instruction does not.
-unfoldable pub closeWith : Reader → Closed → Step
-closeWith r (Kept ns) = quietOf (withNumbers r ns) Parameters
-closeWith r (Complete p) = completeOf r Parameters p
-closeWith r (Faulty n) = refuseOf r PassOver n
+-- "After a refusal the rest is passed over": the rest of an instruction that is being read. A byte that ended it has done so,
+-- and the text of LB stays a text.
+unfoldable pub passedMode : Mode → Mode
+passedMode m = cond (inside m) PassOver m
 
-unfoldable pub closeOf : Reader → Step
-closeOf r = closeWith r (closedOf r)
+-- "It ends at a blank, semicolon or letter": the mode that such a byte leads to. Others do not end a number.
+unfoldable pub endingOf : Class → Mode
+endingOf Blank = Parameters
+endingOf Semicolon = Idle
+endingOf (Letter l) = First l
+endingOf (Digit d) = InNumber
+endingOf (Sign s) = InNumber
+endingOf Point = InNumber
+endingOf Other = InNumber
 
--- A number and its instruction end. A pair that is completed leaves no number, so nothing more is due.
-unfoldable pub closeEndWith : Reader → Mode → Closed → Step
-closeEndWith r m (Kept ns) = endOf (withNumbers r ns) m
-closeEndWith r m (Complete p) = completeOf r m p
-closeEndWith r m (Faulty n) = refuseOf r m n
+-- A number has been kept: its instruction goes on, or the byte that leads out of it ends it.
+unfoldable pub afterNumberOf : Reader → Mode → Step
+afterNumberOf r m = cond (inside m) (quietOf r m) (endOf r m)
 
-unfoldable pub closeEndOf : Reader → Mode → Step
-closeEndOf r m = closeEndWith r m (closedOf r)
+-- The open number ends, on a byte that leads to mode m. A pair that is completed leaves no number, so nothing more is due.
+unfoldable pub closeWith : Reader → Mode → Closed → Step
+closeWith r m (Kept ns) = afterNumberOf (withNumbers r ns) m
+closeWith r m (Complete p) = completeOf r m p
+closeWith r m (Faulty n) = refuseOf r (passedMode m) n
+
+unfoldable pub closeOf : Reader → Mode → Step
+closeOf r m = closeWith r m (closedOf r)
 
 -- Between instructions.
 unfoldable pub idleOf : Reader → Class → Step
@@ -112,9 +121,9 @@ parametersOf r Other = refuseOf r PassOver unknown
 
 -- In an instruction, with a number open.
 unfoldable pub inNumberOf : Reader → Class → Step
-inNumberOf r Blank = closeOf r
-inNumberOf r Semicolon = closeEndOf r Idle
-inNumberOf r (Letter l) = closeEndOf r (First l)
+inNumberOf r Blank = closeOf r (endingOf Blank)
+inNumberOf r Semicolon = closeOf r (endingOf Semicolon)
+inNumberOf r (Letter l) = closeOf r (endingOf (Letter l))
 inNumberOf r (Digit d) = openOf r (digitOf (r .number) d)
 inNumberOf r (Sign s) = refuseOf r PassOver range
 inNumberOf r Point = cond (r .number .pointed) (refuseOf r PassOver range) (openOf r (pointOf (r .number)))
@@ -146,10 +155,6 @@ byMode r b Label = labelOf r b
 unfoldable pub stepOf : Reader → ℕ → Step
 stepOf r b = byMode r b (r .mode)
 
--- "After a refusal the rest is passed over", whoever refuses: the rest of an instruction that is being read. A byte that
--- ended it has done so, and a refusal by the reader itself has its mode already: that of LB is Label, and stays.
-unfoldable pub passedMode : Mode → Mode
-passedMode m = cond (inside m) PassOver m
-
+-- Where a refusal leaves the reader, whoever refuses. One of its own has its mode already.
 unfoldable pub passedOver : Reader → Reader
 passedOver r = record { mode = passedMode (r .mode); op = r .op; numbers = r .numbers; number = r .number }

@@ -1,9 +1,10 @@
 // The reader of bytes: what each byte of an instruction stream means. It knows nothing of paper, pens or limits.
 ghost use mathlib.Core.Path.{_≡_};
 ghost use lib.ListN.{drop};
+ghost use Rattle.reader.specs.Inside.{inside};
 ghost use Rattle.reader.specs.Next.{moreDigits, isNothing, nextOf};
 ghost use Rattle.reader.specs.Reader.{noneOf, storedOf, pairOf, freshReader, goOnOf, quietOf, refuseOf, beginOf, openOf, withNumbers};
-ghost use Rattle.reader.specs.Step.{nameOf, keptOf, closedOf, endOf, completeOf, closeOf, closeEndOf, idleOf, firstOf, parametersOf, inNumberOf, passOverOf, labelOf, stepOf, passedMode, passedOver};
+ghost use Rattle.reader.specs.Step.{nameOf, keptOf, closedOf, endOf, completeOf, endingOf, afterNumberOf, closeOf, idleOf, firstOf, parametersOf, inNumberOf, passOverOf, labelOf, stepOf, passedMode, passedOver};
 
 mod bytes;
 mod number;
@@ -163,18 +164,28 @@ impl Numbers {
     }
 }
 
+// Whether a mode is inside an instruction: after its name, and before the byte that ends it or is refused.
+fn inside(mode: Mode) -> bool
+    ensures { λ r. ⌜ r ≡ inside mode ⌝ }
+{
+    match mode {
+        Mode::Idle => false,
+        Mode::First(_) => false,
+        Mode::Parameters => true,
+        Mode::InNumber => true,
+        Mode::PassOver => false,
+        Mode::Label => false,
+    }
+}
+
 // Inside an instruction its rest is passed over, and elsewhere the mode stays. No refused byte leaves a number open.
 fn passed_mode(mode: Mode) -> Mode
     ensures { λ r. ⌜ r ≡ passedMode mode ⌝ }
 {
-    match mode {
-        Mode::Idle => Mode::Idle,
-        Mode::First(letter) => Mode::First(letter),
-        Mode::Parameters => Mode::PassOver,
-        Mode::InNumber => Mode::PassOver,
-        Mode::PassOver => Mode::PassOver,
-        Mode::Label => Mode::Label,
+    if inside(mode) {
+        return Mode::PassOver;
     }
+    mode
 }
 
 // Whether a byte is one more digit of an open number.
@@ -188,6 +199,21 @@ fn more_digits(mode: Mode, byte: u8) -> bool
         Mode::InNumber => is_digit(byte),
         Mode::PassOver => false,
         Mode::Label => false,
+    }
+}
+
+// The mode that a byte which ends a number leads to. Others do not end it.
+fn ending(class: Class) -> Mode
+    ensures { λ r. ⌜ r ≡ endingOf class ⌝ }
+{
+    match class {
+        Class::Blank => Mode::Parameters,
+        Class::Semicolon => Mode::Idle,
+        Class::Letter(letter) => Mode::First(letter),
+        Class::Digit(_) => Mode::InNumber,
+        Class::Sign(_) => Mode::InNumber,
+        Class::Point => Mode::InNumber,
+        Class::Other => Mode::InNumber,
     }
 }
 
@@ -333,9 +359,8 @@ impl Reader {
     {
         let number = self.number;
         match class {
-            Class::Blank => self.close(),
-            Class::Semicolon => self.close_end(Mode::Idle),
-            Class::Letter(letter) => self.close_end(Mode::First(letter)),
+            // one call for the three: what is called at one place is built in there, and runs faster
+            Class::Blank | Class::Semicolon | Class::Letter(_) => self.close(ending(class)),
             Class::Digit(digit) => self.open(number.with_digit(digit)),
             Class::Sign(_) => self.refuse(Mode::PassOver, RANGE),
             Class::Point => {
@@ -452,25 +477,24 @@ impl Reader {
         self.with_numbers(none).go_on(mode, Event::Pair(pair))
     }
 
-    // A number ends, its instruction does not.
-    fn close(self) -> Step
-        ensures { λ q. ⌜ q ≡ closeOf self ⌝ }
+    // A number has been kept: its instruction goes on, or the byte that leads out of it ends it.
+    fn after_number(self, mode: Mode) -> Step
+        ensures { λ q. ⌜ q ≡ afterNumberOf self mode ⌝ }
     {
-        match self.closed() {
-            Closed::Kept(numbers) => self.with_numbers(numbers).quiet(Mode::Parameters),
-            Closed::Complete(pair) => self.complete(Mode::Parameters, pair),
-            Closed::Faulty(cause) => self.refuse(Mode::PassOver, cause),
+        if inside(mode) {
+            return self.quiet(mode);
         }
+        self.end(mode)
     }
 
-    // A number and its instruction end.
-    fn close_end(self, mode: Mode) -> Step
-        ensures { λ q. ⌜ q ≡ closeEndOf self mode ⌝ }
+    // The open number ends, on a byte that leads to a mode.
+    fn close(self, mode: Mode) -> Step
+        ensures { λ q. ⌜ q ≡ closeOf self mode ⌝ }
     {
         match self.closed() {
-            Closed::Kept(numbers) => self.with_numbers(numbers).end(mode),
+            Closed::Kept(numbers) => self.with_numbers(numbers).after_number(mode),
             Closed::Complete(pair) => self.complete(mode, pair),
-            Closed::Faulty(cause) => self.refuse(mode, cause),
+            Closed::Faulty(cause) => self.refuse(passed_mode(mode), cause),
         }
     }
 

@@ -131,6 +131,9 @@ pub fn is_label(first: u8, second: u8) -> bool
 pub fn count_fits(op: usize, n: u8) -> bool
     ensures { λ r. ⌜ r ≡ countFits op n ⌝ }
 {
+    if takes_pairs(op) {
+        return n % 2 == 0;
+    }
     if op < ROWS {
         let row = row(op);
         let least = row[LEAST];
@@ -149,20 +152,24 @@ pub fn count_fits(op: usize, n: u8) -> bool
 pub fn has_room(op: usize, n: u8) -> bool
     ensures { λ r. ⌜ r ≡ hasRoom op n ⌝ }
 {
+    if takes_pairs(op) {
+        return n < ANY;
+    }
     if op < ROWS {
         return n < row(op)[MOST];
     }
     false
 }
 
-// Whether an instruction takes pairs.
+// Whether an instruction takes pairs: the last four do. Asked for every number, so the table is not laid out; nor is it for
+// their counts, above.
 pub fn takes_pairs(op: usize) -> bool
     ensures { λ r. ⌜ r ≡ takesPairs op ⌝ }
 {
-    if op < ROWS {
-        return row(op)[MOST] == ANY;
+    if op < PU {
+        return false;
     }
-    false
+    op < ROWS
 }
 
 // Whether an instruction is known in polygon mode.

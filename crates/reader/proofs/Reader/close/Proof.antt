@@ -14,8 +14,8 @@ enum-known-numbers c = search needs
 with-numbers-requires : tie.Need-with-numbers-requires
 with-numbers-requires c κs = search needs
 
-quiet-requires : tie.Need-quiet-requires
-quiet-requires c κs = search needs
+after-number-requires : tie.Need-after-number-requires
+after-number-requires c κs = search needs
 
 enum-known-pair : tie.Need-enum-known-pair
 enum-known-pair c = search needs
@@ -26,12 +26,15 @@ complete-requires c κs = search needs
 enum-known-cause : tie.Need-enum-known-cause
 enum-known-cause c = search needs
 
+passed-mode-requires : tie.Need-passed-mode-requires
+passed-mode-requires c κs = search needs
+
 refuse-requires : tie.Need-refuse-requires
 refuse-requires c κs = search needs
 
 returns : tie.Need-returns
 unfolding closeOf closeWith
-returns c = search (rules, ← c .quiet .ensures, ← c .before .with-numbers .ensures, c .before .before .before .numbers .given .1, ← c .before .before .before .before .before .closed .ensures)
+returns c = search (rules, ← c .after-number .ensures, ← c .before .with-numbers .ensures, c .before .before .before .numbers .given .1, ← c .before .before .before .before .before .closed .ensures)
 
 returns-2 : tie.Need-returns-2
 unfolding closeOf closeWith
@@ -39,7 +42,7 @@ returns-2 c = search (rules, ← c .complete .ensures, c .before .before .pair .
 
 returns-3 : tie.Need-returns-3
 unfolding closeOf closeWith
-returns-3 c = search (rules, ← c .refuse .ensures, c .before .before .cause .given .1, ← c .before .before .before .before .closed .ensures)
+returns-3 c = search (rules, ← c .refuse .ensures, ← c .before .passed-mode .ensures, c .before .before .before .cause .given .1, ← c .before .before .before .before .before .closed .ensures)
 
 pub close-spec : {M : Type 1} → statement M
 close-spec =
@@ -48,10 +51,11 @@ close-spec =
     closed-requires
     enum-known-numbers
     with-numbers-requires
-    quiet-requires
+    after-number-requires
     enum-known-pair
     complete-requires
     enum-known-cause
+    passed-mode-requires
     refuse-requires
     returns
     returns-2
