@@ -1,22 +1,28 @@
 // Prints the sine and the cosine of every tenth of a degree of a turn, scaled by 100,000, a line for each: angle, sine, cosine.
 // The stored `stdout` is of an outside program (docs/VECTORS.md).
+ghost use mathlib.Core.Path.{_≡_};
+ghost use Rattle.sines.specs.Table as S;
+
 const TURN: u16 = 3600;
 
-fn put_line(buffer: &mut [u8; 65536], used: usize, tenths: u16) -> usize {
+fn put_line(buffer: &mut [u8; 65536], used: usize, table: &[u32], tenths: u16) -> usize
+    requires { ⌜ now table ≡ S.sines ⌝ }
+{
     let angle = tenths as i64;
     let angle_end = text::put_whole(buffer, used, angle);
     let sine_start = text::put_byte(buffer, angle_end, b' ');
-    let sine_end = text::put_whole(buffer, sine_start, sines::sine(angle));
+    let sine_end = text::put_whole(buffer, sine_start, sines::sine(table, angle));
     let cosine_start = text::put_byte(buffer, sine_end, b' ');
-    let cosine_end = text::put_whole(buffer, cosine_start, sines::cosine(angle));
+    let cosine_end = text::put_whole(buffer, cosine_start, sines::cosine(table, angle));
     text::put_byte(buffer, cosine_end, b'\n')
 }
 
 fn main() {
+    let table = sines::table();
     let mut buffer = io::large_buffer();
     let mut used = 0;
     for tenths in 0..TURN {
-        used = put_line(&mut buffer, used, tenths);
+        used = put_line(&mut buffer, used, &table, tenths);
     }
     text::flush(&buffer, used);
 }

@@ -3,7 +3,7 @@
 ghost use mathlib.Core.Path.{_≡_};
 ghost use Prim.Native.Nat.{_≤_};
 ghost use lib.IntN.{pos};
-ghost use Rattle.sines.specs.Table.{sineAt};
+ghost use Rattle.sines.specs.Table.{sines, sineAt};
 ghost use Rattle.sines.specs.Angle.{restOf, sineIn, sineOf, cosineOf};
 
 const TURN: i64 = 3600;
@@ -914,11 +914,18 @@ const SINES: [u32; 901] = [
     100000,
 ];
 
-fn entry(i: usize) -> i64
-    requires { ⌜ i ≤ 900 ⌝ }
+// The table, laid out once for many sines: each mention of the constant lays it out anew.
+pub fn table() -> [u32; 901]
+    ensures { λ r. ⌜ r ≡ sines ⌝ }
+{
+    SINES
+}
+
+fn entry(table: &[u32], i: usize) -> i64
+    requires { ⌜ (now table ≡ sines) × (i ≤ 900) ⌝ }
     ensures { λ r. ⌜ r ≡ pos (sineAt i) ⌝ }
 {
-    SINES[i] as i64
+    table[i] as i64
 }
 
 // The angle less its whole turns. `%` has the sign of the angle.
@@ -933,36 +940,38 @@ fn rest(tenths: i64) -> usize
 }
 
 // The sine of an angle i past q quarters.
-fn sine_in(q: usize, i: usize) -> i64
-    requires { ⌜ (q ≤ 4) × (i ≤ 900) ⌝ }
+fn sine_in(table: &[u32], q: usize, i: usize) -> i64
+    requires { ⌜ (now table ≡ sines) × (q ≤ 4) × (i ≤ 900) ⌝ }
     ensures { λ r. ⌜ r ≡ sineIn q i ⌝ }
 {
     if q == 0 {
-        return entry(i);
+        return entry(table, i);
     }
     if q == 1 {
-        return entry(QUARTER - i);
+        return entry(table, QUARTER - i);
     }
     if q == 2 {
-        return -entry(i);
+        return -entry(table, i);
     }
     if q == 3 {
-        return -entry(QUARTER - i);
+        return -entry(table, QUARTER - i);
     }
-    entry(i)
+    entry(table, i)
 }
 
-pub fn sine(tenths: i64) -> i64
+pub fn sine(table: &[u32], tenths: i64) -> i64
+    requires { ⌜ now table ≡ sines ⌝ }
     ensures { λ r. ⌜ r ≡ sineOf tenths ⌝ }
 {
     let r = rest(tenths);
-    sine_in(r / QUARTER, r % QUARTER)
+    sine_in(table, r / QUARTER, r % QUARTER)
 }
 
 // The sine of a quarter more.
-pub fn cosine(tenths: i64) -> i64
+pub fn cosine(table: &[u32], tenths: i64) -> i64
+    requires { ⌜ now table ≡ sines ⌝ }
     ensures { λ r. ⌜ r ≡ cosineOf tenths ⌝ }
 {
     let r = rest(tenths);
-    sine_in(r / QUARTER + 1, r % QUARTER)
+    sine_in(table, r / QUARTER + 1, r % QUARTER)
 }

@@ -5,16 +5,22 @@ use Rattle.sinecheck.proofs.main.Statement.{statement}
 use Rattle.sinecheck.proofs.main.Tie as tie
 
 abbrev Inv-loop : tie.InvT-loop
-Inv-loop buffer₀ used₀ tenths₀ buffer used tenths = tenths ≤ 3600
+Inv-loop table buffer₀ used₀ tenths₀ buffer used tenths = tenths ≤ 3600
 
 abbrev μ-loop : tie.MeasureT-loop
-μ-loop buffer₀ used₀ tenths₀ buffer used tenths = 3600 - tenths
+μ-loop table buffer₀ used₀ tenths₀ buffer used tenths = 3600 - tenths
+
+table-requires : tie.Need-table-requires Inv-loop μ-loop
+table-requires c κs = search needs
 
 large-buffer-requires : tie.Need-large-buffer-requires Inv-loop μ-loop
 large-buffer-requires c κs = search needs
 
 loop-holds : tie.Need-loop-holds Inv-loop μ-loop
 loop-holds c = search needs
+
+slice-aggregate-put-line : tie.Need-slice-aggregate-put-line Inv-loop μ-loop
+slice-aggregate-put-line c = search needs
 
 put-line-requires : tie.Need-put-line-requires Inv-loop μ-loop
 put-line-requires c κs = search needs
@@ -40,8 +46,10 @@ main-spec =
     (tie.spec
     Inv-loop
     μ-loop
+    table-requires
     large-buffer-requires
     loop-holds
+    slice-aggregate-put-line
     put-line-requires
     add-tenths
     loop-less

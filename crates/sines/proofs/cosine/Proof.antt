@@ -10,8 +10,8 @@ use Rattle.sines.specs.Quarters.{rest-quarters, tenths-few}
 use Rattle.sines.proofs.cosine.Statement.{statement}
 use Rattle.sines.proofs.cosine.Tie as tie
 
-rest-is : (c : tie.After-rest) → c .rest .result ≡ restOf (c .before .args .tenths)
-rest-is c = c .rest .ensures ∙ ap restOf (arg w64 (c .before .fits .tenths) .is)
+rest-is : (c : tie.After-rest) → c .rest .result ≡ restOf (c .before .before .args .tenths)
+rest-is c = c .rest .ensures ∙ ap restOf (arg w64 (c .before .before .fits .tenths) .is)
 
 rest-requires : tie.Need-rest-requires
 rest-requires c κs = search needs
@@ -20,7 +20,9 @@ add-sine-in : tie.Need-add-sine-in
 add-sine-in c = search needs
 
 sine-in-requires : tie.Need-sine-in-requires
-sine-in-requires c κs = rw (rest-is c, add-one) (rest-quarters (c .before .args .tenths), tenths-few _)
+sine-in-requires c κs =
+    let s : tie.Start = search in
+    rw (rest-is c, add-one) (s .pre, rest-quarters (s .args .tenths), tenths-few _)
 
 next : (q i : ℕ) → sineIn (q + 1) i ≡ cosineIn q i
 unfolding sineIn

@@ -10,14 +10,16 @@ use Rattle.sines.specs.Quarters.{rest-quarters, tenths-few}
 use Rattle.sines.proofs.sine.Statement.{statement}
 use Rattle.sines.proofs.sine.Tie as tie
 
-rest-is : (c : tie.After-rest) → c .rest .result ≡ restOf (c .before .args .tenths)
-rest-is c = c .rest .ensures ∙ ap restOf (arg w64 (c .before .fits .tenths) .is)
+rest-is : (c : tie.After-rest) → c .rest .result ≡ restOf (c .before .before .args .tenths)
+rest-is c = c .rest .ensures ∙ ap restOf (arg w64 (c .before .before .fits .tenths) .is)
 
 rest-requires : tie.Need-rest-requires
 rest-requires c κs = search needs
 
 sine-in-requires : tie.Need-sine-in-requires
-sine-in-requires c κs = rw (rest-is c) (le-of-lt (rest-quarters (c .before .args .tenths)), tenths-few _)
+sine-in-requires c κs =
+    let s : tie.Start = search in
+    rw (rest-is c) (s .pre, le-of-lt (rest-quarters (s .args .tenths)), tenths-few _)
 
 returns : tie.Need-returns
 unfolding sineOf

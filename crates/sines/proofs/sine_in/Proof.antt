@@ -13,7 +13,7 @@ use Rattle.sines.proofs.sine_in.Statement.{statement}
 use Rattle.sines.proofs.sine_in.Tie as tie
 
 size : (s : tie.Start) → Bd (pos (sineAt (s .args .i))) 100000
-size s = record { bd = at-most (s .args .i) (s .pre .1) }
+size s = record { bd = at-most (s .args .i) (s .pre .2) }
 
 size-back : (s : tie.Start) → Bd (pos (sineAt (900 - s .args .i))) 100000
 size-back s = record { bd = at-most (900 - s .args .i) (sub-le 900 (s .args .i)) }
