@@ -7,6 +7,7 @@
 -- In the manner of Liang and Barsky: how far along the segment is the box entered, and how far along the way back?
 -- The segment from a to b is divided into ux · uy equal steps, where ux and uy are its extents in x and in y. A step moves x by 1/uy and y
 -- by 1/ux. So the segment crosses each edge of the box, a whole number, after a whole number of steps, and there is nothing to divide.
+use mathlib.Core.Bool.{Bool, true, false}
 use lib.IntN.{ℤ, pos, negℤ, _+ℤ_, _-ℤ_, _*ℤ_}
 use Rattle.exact.specs.Whole.{_<?_, pick}
 use Rattle.exact.specs.Divide.{nearestDiv}
@@ -57,3 +58,8 @@ clip r a b =
     let m : ℤ = entry r a b in
     let n : ℤ = entry r b a in
     pick (steps a b <? m +ℤ n) Hidden (Stroke (place a b m) (place b a n))
+
+-- the point is in the box, edges included: of a segment between two such points clip leaves all (Unclipped.antt)
+unfoldable pub inside : Rect → Point → Bool
+inside r p =
+    pick (p .x <? r .left) false (pick (r .right <? p .x) false (pick (p .y <? r .bottom) false (pick (r .top <? p .y) false true)))

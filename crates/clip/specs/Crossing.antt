@@ -54,7 +54,7 @@ pub entry-is : (r : Rect) (a b : Point) → Is (entry r a b) (till r a b) 0
 unfolding entry
 entry-is r a b = natural (larger-ge (pos 0) _)
 
-till-max : (r : Rect) (a b : Point) →
+pub till-max : (r : Rect) (a b : Point) →
     till r a b ≡ max (up (axisEntry (r .left) (r .right) (a .x) (b .x) (extent (a .y) (b .y)))) (up (axisEntry (r .bottom) (r .top) (a .y) (b .y) (extent (a .x) (b .x))))
 unfolding entry
 till-max r a b = rw (larger-up, larger-up) (omega arith)

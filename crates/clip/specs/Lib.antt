@@ -4,6 +4,7 @@ pub mod Reach
 pub mod Axis
 pub mod Crossing
 pub mod Exactness
+pub mod Unclipped
 pub mod Halves
 pub mod Parameter
 pub mod Nearness

@@ -113,8 +113,26 @@ fn steps(a: Point, b: Point) -> i64
     extent(a.x, b.x) * extent(a.y, b.y)
 }
 
+fn inside(r: Rect, p: Point) -> bool
+    ensures { λ t. ⌜ t ≡ S.inside r p ⌝ }
+{
+    if p.x < r.left {
+        return false;
+    }
+    if r.right < p.x {
+        return false;
+    }
+    if p.y < r.bottom {
+        return false;
+    }
+    if r.top < p.y {
+        return false;
+    }
+    true
+}
+
 // The part of the segment from a to b that is in the box, its ends rounded. Each end is found from a and b themselves.
-pub fn clip(r: Rect, a: Point, b: Point) -> Clipped
+fn part(r: Rect, a: Point, b: Point) -> Clipped
     requires { ⌜ SmallRect r × SmallPoint a × SmallPoint b ⌝ }
     ensures { λ c. ⌜ c ≡ S.clip r a b ⌝ }
 {
@@ -124,4 +142,17 @@ pub fn clip(r: Rect, a: Point, b: Point) -> Clipped
         return Clipped::Hidden;
     }
     Clipped::Stroke(place(a, b, m), place(b, a, n))
+}
+
+// A segment with both ends in the box, as most have, is that part already, and nothing is divided.
+pub fn clip(r: Rect, a: Point, b: Point) -> Clipped
+    requires { ⌜ SmallRect r × SmallPoint a × SmallPoint b ⌝ }
+    ensures { λ c. ⌜ c ≡ S.clip r a b ⌝ }
+{
+    if inside(r, a) {
+        if inside(r, b) {
+            return Clipped::Stroke(a, b);
+        }
+    }
+    part(r, a, b)
 }

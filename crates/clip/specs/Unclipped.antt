@@ -1,0 +1,85 @@
+-- Laws: a segment with both ends in the box is left as it is. Why: the box is entered after no step either way, and no step from an end is that end.
+use mathlib.Core.Path.{_≡_, refl, sym, ap, _∙_}
+use mathlib.Core.Bool.{Bool, true, false}
+use native.Mathlib.Omega.{arith}
+use lib.IntN.{ℤ, pos, _+ℤ_, _*ℤ_}
+use Rattle.exact.specs.Whole.{_≤ᶻ_, _<ᶻ_, _<?_, <?-false, pick, up, is, Z, ord}
+use Rattle.exact.specs.Divide.{nearestDiv}
+use Rattle.exact.specs.Nearest.{nearest-only}
+use Rattle.clip.specs.Clip.{axisEntry, entry, toward, axisPlace, place, clip, inside}
+use Rattle.clip.specs.Axis.{extent-pos, In, in-past}
+use Rattle.clip.specs.Crossing.{till, till-max, entry-is, shows}
+use Rattle.clip.specs.declared.Point.{Point}
+use Rattle.clip.specs.declared.Rect.{Rect}
+use Rattle.clip.specs.declared.Clipped.the-variants.{Stroke}
+
+-- ---- the test, as facts
+record Held (r : Rect) (p : Point) : Type 0 where
+  left : r .left ≤ᶻ p .x
+  right : p .x ≤ᶻ r .right
+  bottom : r .bottom ≤ᶻ p .y
+  top : p .y ≤ᶻ r .top
+
+pick-out : (t : Bool) {s : Bool} → pick t false s ≡ true → (t ≡ false) × (s ≡ true)
+pick-out true e = (sym e, (cc))
+pick-out false e = (refl, e)
+
+held : {r : Rect} {p : Point} → inside r p ≡ true → Held r p
+unfolding inside
+held {r} {p} e =
+    let a = pick-out (p .x <? r .left) e in
+    let b = pick-out (r .right <? p .x) (a .1) in
+    let c = pick-out (p .y <? r .bottom) (b .1) in
+    let d = pick-out (r .top <? p .y) (c .1) in
+    record { left = <?-false _ _ (a .0); right = <?-false _ _ (b .0); bottom = <?-false _ _ (c .0); top = <?-false _ _ (d .0) }
+
+-- ---- no step enters
+entered : {lo hi p : ℤ} (q : ℤ) {u : ℤ} → lo ≤ᶻ p → p ≤ᶻ hi → pos 0 <ᶻ u → up (axisEntry lo hi p q u) ≡ 0
+entered {lo} {hi} {p} q {u} l h k =
+    let i : In lo hi p q 1 0 = record { low = omega (arith, ord); high = omega (arith, ord) } in
+    omega (arith, in-past lo hi p q u 1 0 (omega arith) k i .after)
+
+none-till : {r : Rect} {a : Point} (b : Point) → Held r a → till r a b ≡ 0
+none-till {r} {a} b h =
+    omega (
+      arith,
+      till-max r a b,
+      entered (b .x) (h .left) (h .right) (extent-pos (a .y) (b .y)),
+      entered (b .y) (h .bottom) (h .top) (extent-pos (a .x) (b .x)),
+    )
+
+none-entry : {r : Rect} {a : Point} (b : Point) → Held r a → entry r a b ≡ pos 0
+none-entry {r} {a} b h = omega (arith, ord, entry-is r a b .eq, none-till b h)
+
+-- ---- the place after no step
+none-toward : (s t : Bool) → pick s (pos 0) (pick t (pos 0) (pos 0)) ≡ pos 0
+none-toward true t = refl
+none-toward false true = refl
+none-toward false false = refl
+
+none-axis : (p q : ℤ) {u : ℤ} → pos 0 <ᶻ u → axisPlace p q u (pos 0) ≡ p
+unfolding axisPlace toward
+none-axis p q {u} k =
+    ap (λ (m : ℤ). nearestDiv (u *ℤ p +ℤ m) u) (none-toward (p <? q) (q <? p)) ∙ sym (nearest-only (u *ℤ p +ℤ pos 0) u p k (low k) (high k))
+  where
+    low : pos 0 <ᶻ u → pos 2 *ℤ u *ℤ p ≤ᶻ pos 2 *ℤ (u *ℤ p +ℤ pos 0) +ℤ u
+    low = rw (is p, is u) (simp Z (omega arith))
+
+    high : pos 0 <ᶻ u → pos 2 *ℤ (u *ℤ p +ℤ pos 0) +ℤ u <ᶻ pos 2 *ℤ u *ℤ (p +ℤ pos 1)
+    high = rw (is p, is u) (simp Z (omega arith))
+
+none-place : (a b : Point) → place a b (pos 0) ≡ a
+unfolding place
+none-place a b =
+    let x = none-axis (a .x) (b .x) (extent-pos (a .y) (b .y)) in
+    let y = none-axis (a .y) (b .y) (extent-pos (a .x) (b .x)) in
+    λ i. record { x = x i; y = y i }
+
+from-inside : {r : Rect} {a : Point} (b : Point) → Held r a → place a b (entry r a b) ≡ a
+from-inside {r} {a} b h = ap (place a b) (none-entry b h) ∙ none-place a b
+
+pub unclipped : (r : Rect) (a b : Point) → inside r a ≡ true → inside r b ≡ true → clip r a b ≡ Stroke a b
+unclipped r a b ha hb =
+    let h = held ha in
+    let k = held hb in
+    shows r a b (omega (arith, none-till b h, none-till a k)) ∙ (λ i. Stroke (from-inside b h i) (from-inside a k i))
