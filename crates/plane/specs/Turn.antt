@@ -26,9 +26,13 @@ quarter = 1
 abbrev pub turnCount : ℕ
 turnCount = 2
 
--- the number in row i and column j of the table of turn t
+-- the table of turn t
+abbrev pub rowsOf : ℕ → List (List ℤ)
+rowsOf t = getD turns t []
+
+-- the number in its row i and column j
 unfoldable pub turnOf : ℕ → ℕ → ℕ → ℤ
-turnOf t i j = getD (getD (getD turns t []) i []) j (pos 0)
+turnOf t i j = getD (getD (rowsOf t) i []) j (pos 0)
 
 -- ---- points
 

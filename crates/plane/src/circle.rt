@@ -6,6 +6,7 @@ ghost use lib.IntN.{pos};
 ghost use Rattle.exact.specs.Whole.{_<ᶻ_};
 ghost use Rattle.exact.specs.Fit.{Bd};
 ghost use Rattle.clip.specs.Reach.{reach};
+ghost use Rattle.sines.specs.Table.{sines};
 ghost use Rattle.plane.specs.Circle.{chordsOf, angleOf, rotatedOf, splitOf, centreOf, fromCentre, pointFromCentre};
 ghost use Rattle.plane.specs.Bounds.{AxisBounds, Locatable, WayBounds, CentreBounds, mostProduct, mostWidth, mostWay, mostAngle};
 use super::position::Axis;
@@ -56,12 +57,12 @@ pub fn vertex_angle(angle: usize, i: usize) -> i64
 }
 
 // The way turned by an angle, scaled.
-pub fn rotated(w: Way, angle: i64) -> Way
-    requires { ⌜ WayBounds w ⌝ }
+pub fn rotated(w: Way, table: &[u32], angle: i64) -> Way
+    requires { ⌜ WayBounds w × (now table ≡ sines) ⌝ }
     ensures { λ r. ⌜ r ≡ rotatedOf w angle ⌝ }
 {
-    let c = cosine(angle);
-    let s = sine(angle);
+    let c = cosine(table, angle);
+    let s = sine(table, angle);
     Way {
         u: w.u * c - w.v * s,
         v: w.u * s + w.v * c,
@@ -103,11 +104,11 @@ pub fn vertex(c: Centre, t: i64) -> i64
 }
 
 // The location of a vertex: a way from the centre, turned by an angle. A circle's way is (radius, 0).
-pub fn vertex_point(cx: Centre, cy: Centre, w: Way, angle: i64) -> Point
-    requires { ⌜ CentreBounds cx × CentreBounds cy × WayBounds w ⌝ }
+pub fn vertex_point(cx: Centre, cy: Centre, w: Way, table: &[u32], angle: i64) -> Point
+    requires { ⌜ CentreBounds cx × CentreBounds cy × WayBounds w × (now table ≡ sines) ⌝ }
     ensures { λ r. ⌜ r ≡ pointFromCentre cx cy w angle ⌝ }
 {
-    let t = rotated(w, angle);
+    let t = rotated(w, table, angle);
     let x = vertex(cx, t.u);
     let y = vertex(cy, t.v);
     Point { x: x, y: y }

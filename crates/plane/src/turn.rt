@@ -3,19 +3,19 @@ ghost use mathlib.Core.Path.{_≡_};
 ghost use Prim.Native.Nat.{_<_};
 ghost use Rattle.exact.specs.Fit.{Bd};
 ghost use Rattle.clip.specs.Reach.{SmallPoint, SmallRect};
-ghost use Rattle.plane.specs.Turn.{turnCount, turnOf, alongOf, turnedOf, turnedBackOf, rebasedOf, lesserOf, greaterOf, orderedOf, turnedBoxOf};
+ghost use Rattle.plane.specs.Turn.{turnCount, rowsOf, alongOf, turnedOf, turnedBackOf, rebasedOf, lesserOf, greaterOf, orderedOf, turnedBoxOf};
 use clip::Point;
 use clip::Rect;
 
 // Turn 0 leaves a point in its place, turn 1 is the quarter turn.
 const TURNS: [[[i64; 2]; 2]; 2] = [[[1, 0], [0, 1]], [[0, -1], [1, 0]]];
 
-// The number in row i and column j of a turn's table.
-fn entry(turn: usize, i: usize, j: usize) -> i64
-    requires { ⌜ (turn < turnCount) × (i < 2) × (j < 2) ⌝ }
-    ensures { λ r. ⌜ r ≡ turnOf turn i j ⌝ }
+// The table of a turn, row by row, laid out once for its four numbers.
+fn rows(turn: usize) -> [[i64; 2]; 2]
+    requires { ⌜ turn < turnCount ⌝ }
+    ensures { λ r. ⌜ r ≡ rowsOf turn ⌝ }
 {
-    TURNS[turn][i][j]
+    TURNS[turn]
 }
 
 // A row or a column of a table times a point.
@@ -31,8 +31,9 @@ pub fn turned(p: Point, turn: usize) -> Point
     requires { ⌜ SmallPoint p × (turn < turnCount) ⌝ }
     ensures { λ r. ⌜ r ≡ turnedOf p turn ⌝ }
 {
-    let x = along(entry(turn, 0, 0), entry(turn, 0, 1), p);
-    let y = along(entry(turn, 1, 0), entry(turn, 1, 1), p);
+    let t = rows(turn);
+    let x = along(t[0][0], t[0][1], p);
+    let y = along(t[1][0], t[1][1], p);
     Point { x: x, y: y }
 }
 
@@ -41,8 +42,9 @@ pub fn turned_back(p: Point, turn: usize) -> Point
     requires { ⌜ SmallPoint p × (turn < turnCount) ⌝ }
     ensures { λ r. ⌜ r ≡ turnedBackOf p turn ⌝ }
 {
-    let x = along(entry(turn, 0, 0), entry(turn, 1, 0), p);
-    let y = along(entry(turn, 0, 1), entry(turn, 1, 1), p);
+    let t = rows(turn);
+    let x = along(t[0][0], t[1][0], p);
+    let y = along(t[0][1], t[1][1], p);
     Point { x: x, y: y }
 }
 

@@ -15,41 +15,45 @@ cosine-requires c κs = search needs
 sine-requires : tie.Need-sine-requires
 sine-requires c κs = search needs
 
-cosine : (x : tie.After-cosine) → Num (m64 (x .cosine .result)) (cosineOf (x .before .args .angle)) 100000
-cosine x = ret w64 (x .cosine .ok) (x .cosine .ensures ∙ ap cosineOf (arg w64 (x .before .fits .angle) .is)) (cosine-size (x .before .args .angle))
+cosine : (x : tie.After-cosine) → Num (m64 (x .cosine .result)) (cosineOf (x .before .before .args .angle)) 100000
+cosine x =
+    let s : tie.Start = x .before .before in
+    ret w64 (x .cosine .ok) (x .cosine .ensures ∙ ap cosineOf (arg w64 (s .fits .angle) .is)) (cosine-size (s .args .angle))
 
-sine : (x : tie.After-sine) → Num (m64 (x .sine .result)) (sineOf (x .before .before .args .angle)) 100000
-sine x = ret w64 (x .sine .ok) (x .sine .ensures ∙ ap sineOf (arg w64 (x .before .before .fits .angle) .is)) (sine-size (x .before .before .args .angle))
-
-mul-t5 : tie.Need-mul-t5
-mul-t5 c = let x : tie.After-sine = search in fit w64 (val w64 (x .before .before .pre .u) tt ⊗ cosine (x .before)) tt
+sine : (x : tie.After-sine) → Num (m64 (x .sine .result)) (sineOf (x .before .before .before .args .angle)) 100000
+sine x =
+    let s : tie.Start = x .before .before .before in
+    ret w64 (x .sine .ok) (x .sine .ensures ∙ ap sineOf (arg w64 (s .fits .angle) .is)) (sine-size (s .args .angle))
 
 mul-t6 : tie.Need-mul-t6
-mul-t6 c = let x : tie.After-sine = search in fit w64 (val w64 (x .before .before .pre .v) tt ⊗ sine x) tt
+mul-t6 c = let x : tie.After-sine = search in fit w64 (val w64 (x .before .before .before .pre .0 .u) tt ⊗ cosine (x .before)) tt
 
-sub-t7 : tie.Need-sub-t7
-sub-t7 c =
+mul-t7 : tie.Need-mul-t7
+mul-t7 c = let x : tie.After-sine = search in fit w64 (val w64 (x .before .before .before .pre .0 .v) tt ⊗ sine x) tt
+
+sub-t8 : tie.Need-sub-t8
+sub-t8 c =
     let x : tie.After-sine = search in
-    let p = x .before .before .pre in
+    let p = x .before .before .before .pre .0 in
     fit w64 (put w64 (val w64 (p .u) tt ⊗ cosine (x .before)) tt ⊖ put w64 (val w64 (p .v) tt ⊗ sine x) tt) tt
 
-mul-t8 : tie.Need-mul-t8
-mul-t8 c = let x : tie.After-sine = search in fit w64 (val w64 (x .before .before .pre .u) tt ⊗ sine x) tt
-
 mul-t9 : tie.Need-mul-t9
-mul-t9 c = let x : tie.After-sine = search in fit w64 (val w64 (x .before .before .pre .v) tt ⊗ cosine (x .before)) tt
+mul-t9 c = let x : tie.After-sine = search in fit w64 (val w64 (x .before .before .before .pre .0 .u) tt ⊗ sine x) tt
 
-add-t10 : tie.Need-add-t10
-add-t10 c =
+mul-t10 : tie.Need-mul-t10
+mul-t10 c = let x : tie.After-sine = search in fit w64 (val w64 (x .before .before .before .pre .0 .v) tt ⊗ cosine (x .before)) tt
+
+add-t11 : tie.Need-add-t11
+add-t11 c =
     let x : tie.After-sine = search in
-    let p = x .before .before .pre in
+    let p = x .before .before .before .pre .0 in
     fit w64 (put w64 (val w64 (p .u) tt ⊗ sine x) tt ⊕ put w64 (val w64 (p .v) tt ⊗ cosine (x .before)) tt) tt
 
 returns : tie.Need-returns
 unfolding rotatedOf
 returns c =
     let x : tie.After-sine = search in
-    let p = x .before .before .pre in
+    let p = x .before .before .before .pre .0 in
     let eu = put w64 (put w64 (val w64 (p .u) tt ⊗ cosine (x .before)) tt ⊖ put w64 (val w64 (p .v) tt ⊗ sine x) tt) tt .is in
     let ev = put w64 (put w64 (val w64 (p .u) tt ⊗ sine x) tt ⊕ put w64 (val w64 (p .v) tt ⊗ cosine (x .before)) tt) tt .is in
     λ i. record { u = eu i; v = ev i }
@@ -60,10 +64,10 @@ rotated-spec =
     (tie.spec
     cosine-requires
     sine-requires
-    mul-t5
     mul-t6
-    sub-t7
-    mul-t8
+    mul-t7
+    sub-t8
     mul-t9
-    add-t10
+    mul-t10
+    add-t11
     returns)

@@ -1,61 +1,78 @@
 -- The proof of `turned`: a row times the point, twice.
 use borrow.Author.Needs.{needs}
-use mathlib.Core.Path.{_∙_}
-use native.Mathlib.Omega.{arith}
-use mir.Syntax.{w64}
-use Rattle.exact.specs.Fit.{ret, got, sized}
-use Rattle.plane.specs.Turn.{alongOf, turnedOf}
-use Rattle.plane.specs.TurnLaws.{turn-size}
+use mathlib.Core.List.{[]}
+use Prim.Native.Nat.{ℕ}
+use lib.Dec.{T, ltb}
+use lib.IntN.{pos}
+use lib.ListN.{getD}
+use Rattle.exact.specs.Fit.{Num, m64, sized}
+use Rattle.plane.specs.Turn.{turnOf, turnedOf}
+use Rattle.plane.proofs.Rows.{number, along-is}
 use Rattle.plane.proofs.turn.turned.Statement.{statement}
 use Rattle.plane.proofs.turn.turned.Tie as tie
 
-entry-requires : tie.Need-entry-requires
-entry-requires c κs = search needs
+entry : (a : tie.After-rows) (i j : ℕ) → T (ltb i 2) → T (ltb j 2) → Num (m64 (getD (getD (a .rows .result) i []) j (pos 0))) (turnOf (a .before .args .turn) i j) 1
+entry a i j h k = number i j (a .rows .ensures) (a .before .pre .1) h k
 
-entry-requires-2 : tie.Need-entry-requires-2
-entry-requires-2 c κs = search needs
+rows-requires : tie.Need-rows-requires
+rows-requires c κs = search needs
+
+index-1-along : tie.Need-index-1-along
+index-1-along c = search needs
+
+index-2-along : tie.Need-index-2-along
+index-2-along c = search needs
+
+index-1-along-2 : tie.Need-index-1-along-2
+index-1-along-2 c = search needs
+
+index-2-along-2 : tie.Need-index-2-along-2
+index-2-along-2 c = search needs
 
 along-requires : tie.Need-along-requires
 along-requires c κs =
-    let s : tie.Start = search in
-    (sized (ret w64 (c .before .entry .ok) (c .before .entry .ensures) (turn-size _ _ _ (s .pre .1) (omega arith) (omega arith))) tt, sized (ret w64 (c .entry2 .ok) (c .entry2 .ensures) (turn-size _ _ _ (s .pre .1) (omega arith) (omega arith))) tt, s .pre .0)
+    let a : tie.After-rows = search in
+    (sized (entry a 0 0 tt tt) tt, sized (entry a 0 1 tt tt) tt, a .before .pre .0)
 
-entry-requires-3 : tie.Need-entry-requires-3
-entry-requires-3 c κs = search needs
+index-1-along-3 : tie.Need-index-1-along-3
+index-1-along-3 c = search needs
 
-entry-requires-4 : tie.Need-entry-requires-4
-entry-requires-4 c κs = search needs
+index-2-along-3 : tie.Need-index-2-along-3
+index-2-along-3 c = search needs
+
+index-1-along-4 : tie.Need-index-1-along-4
+index-1-along-4 c = search needs
+
+index-2-along-4 : tie.Need-index-2-along-4
+index-2-along-4 c = search needs
 
 along-requires-2 : tie.Need-along-requires-2
 along-requires-2 c κs =
-    let s : tie.Start = search in
-    (sized (ret w64 (c .before .entry3 .ok) (c .before .entry3 .ensures) (turn-size _ _ _ (s .pre .1) (omega arith) (omega arith))) tt, sized (ret w64 (c .entry4 .ok) (c .entry4 .ensures) (turn-size _ _ _ (s .pre .1) (omega arith) (omega arith))) tt, s .pre .0)
+    let a : tie.After-rows = search in
+    (sized (entry a 1 0 tt tt) tt, sized (entry a 1 1 tt tt) tt, a .before .pre .0)
 
 returns : tie.Need-returns
 unfolding turnedOf
 returns c =
-    let s : tie.Start = search in
-    let a1 : tie.After-entry = search in
-    let a2 : tie.After-entry2 = search in
-    let a3 : tie.After-entry3 = search in
-    let a4 : tie.After-entry4 = search in
+    let a : tie.After-rows = search in
     let x : tie.After-along = search in
-    let e1 = got w64 (a1 .entry .ok) ∙ a1 .entry .ensures in
-    let e2 = got w64 (a2 .entry2 .ok) ∙ a2 .entry2 .ensures in
-    let e3 = got w64 (a3 .entry3 .ok) ∙ a3 .entry3 .ensures in
-    let e4 = got w64 (a4 .entry4 .ok) ∙ a4 .entry4 .ensures in
-    let ex = got w64 (x .along .ok) ∙ x .along .ensures ∙ (λ i. alongOf (e1 i) (e2 i) (s .args .p .x) (s .args .p .y)) in
-    let ey = got w64 (c .along2 .ok) ∙ c .along2 .ensures ∙ (λ i. alongOf (e3 i) (e4 i) (s .args .p .x) (s .args .p .y)) in
+    let ex = along-is (a .before .args .p) (entry a 0 0 tt tt) (entry a 0 1 tt tt) (x .along .ok) (x .along .ensures) in
+    let ey = along-is (a .before .args .p) (entry a 1 0 tt tt) (entry a 1 1 tt tt) (c .along2 .ok) (c .along2 .ensures) in
     λ i. record { x = ex i; y = ey i }
 
 pub turned-spec : {M : Type 1} → statement M
 turned-spec =
     tie.close
     (tie.spec
-    entry-requires
-    entry-requires-2
+    rows-requires
+    index-1-along
+    index-2-along
+    index-1-along-2
+    index-2-along-2
     along-requires
-    entry-requires-3
-    entry-requires-4
+    index-1-along-3
+    index-2-along-3
+    index-1-along-4
+    index-2-along-4
     along-requires-2
     returns)
