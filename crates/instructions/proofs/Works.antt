@@ -3,12 +3,14 @@ use mathlib.Core.Path.{_≡_, refl, ap}
 use Prim.Native.Nat.{ℕ, zero, suc, _+_, _-_, _<_, _≤_}
 use native.Mathlib.Omega.{arith}
 use borrow.Author.Tests.{eq-eqb, ne-eqb}
-use Rattle.hpgl.specs.declared.Core.{Core}
+use Rattle.clip.specs.declared.Point.{Point}
+use Rattle.clip.specs.declared.Rect.{Rect}
 use Rattle.hpgl.specs.declared.Edge.{Edge}
 use Rattle.hpgl.specs.declared.Circle.{Circle}
 use Rattle.hpgl.specs.declared.Work.the-variants.{Nothing, Chords, Edges}
-use Rattle.hpgl.specs.Machine.{chordShown, edgeShown, workAfter}
-use Rattle.instructions.specs.First.{edgePlace, firstDrawn}
+use Rattle.hpgl.specs.Machine.{workAfter}
+use Rattle.instructions.specs.First.{edgePlace}
+use Rattle.instructions.specs.Corners.{shownIn, edgeShownIn, drawnIn}
 
 pub last-chord : (o : Circle) (i n : ℕ) → n ≤ 1 → workAfter (Chords o i n) ≡ Nothing
 unfolding workAfter
@@ -30,15 +32,15 @@ unfolding workAfter
 more-edges i zero h = absurd (omega arith)
 more-edges i (suc n) h = rw (ne-eqb n 0 (λ e. omega arith)) (ap (Edges (i + 1)) (omega arith))
 
-pub draw-chord : (c : Core) (e : Edge) (o : Circle) (i n : ℕ) → (n ≡ 0 → ⊥) → firstDrawn c e (Chords o i n) ≡ chordShown c o i
-unfolding firstDrawn
-draw-chord c e o i zero h = absurd (h refl)
-draw-chord c e o i (suc n) h = refl
+pub draw-chord : (r : Rect) (t pen : ℕ) (e : Edge) (o : Circle) (i n : ℕ) (p q : Point) → (n ≡ 0 → ⊥) → drawnIn r t pen e (Chords o i n) p q ≡ shownIn r pen p q
+unfolding drawnIn
+draw-chord r t pen e o i zero p q h = absurd (h refl)
+draw-chord r t pen e o i (suc n) p q h = refl
 
-pub draw-edge : (c : Core) (e : Edge) (i n : ℕ) → (n ≡ 0 → ⊥) → firstDrawn c e (Edges i n) ≡ edgeShown c e
-unfolding firstDrawn
-draw-edge c e i zero h = absurd (h refl)
-draw-edge c e i (suc n) h = refl
+pub draw-edge : (r : Rect) (t pen : ℕ) (e : Edge) (i n : ℕ) (p q : Point) → (n ≡ 0 → ⊥) → drawnIn r t pen e (Edges i n) p q ≡ edgeShownIn r t pen e
+unfolding drawnIn
+draw-edge r t pen e i zero p q h = absurd (h refl)
+draw-edge r t pen e i (suc n) p q h = refl
 
 pub place-none : (i n : ℕ) → n ≡ 0 → edgePlace (Edges i n) ≡ 0
 unfolding edgePlace

@@ -2,3 +2,4 @@ pub mod Judging
 pub mod Locating
 pub mod Alone
 pub mod First
+pub mod Corners

@@ -1,9 +1,8 @@
 -- The proof of `draw_work`: Works.antt, arm by arm.
 use borrow.Author.Needs.{needs}
 use mathlib.Core.Path.{refl, sym, subst, _∙_}
-use native.Mathlib.Omega.{arith}
 use Rattle.hpgl.specs.Valid.{ValidWork}
-use Rattle.instructions.specs.First.{firstDrawn}
+use Rattle.instructions.specs.Corners.{drawnIn}
 use Rattle.instructions.proofs.Works.{draw-chord, draw-edge}
 use Rattle.instructions.proofs.drawing.draw_work.Statement.{statement}
 use Rattle.instructions.proofs.drawing.draw_work.Tie as tie
@@ -17,45 +16,46 @@ enum-known-w c = search needs
 shown-requires : tie.Need-shown-requires
 shown-requires c κs =
     let s : tie.Start = search in
-    let h = subst ValidWork (c .before .w .given .1) (s .pre .2) in
+    let h = subst ValidWork (c .before .w .given .1) (s .pre .3) in
     (s .pre .0, h .0, h .1)
 
 enum-known-w-2 : tie.Need-enum-known-w-2
 enum-known-w-2 c = search needs
 
 returns : tie.Need-returns
-unfolding firstDrawn
+unfolding drawnIn
 returns c = rw (c .before .before .w2 .given .1, c .if1 .taken) refl
 
-chord-shown-requires : tie.Need-chord-shown-requires
-chord-shown-requires c κs =
-    let s : tie.Start = search in
-    let h = subst ValidWork (c .before .before .w2 .given .1) (s .pre .2) in
-    (s .pre .0, h .0, omega (arith, h .1, c .if1 .left))
+shown-requires-2 : tie.Need-shown-requires-2
+shown-requires-2 c κs = search needs
 
 enum-known-w-3 : tie.Need-enum-known-w-3
 enum-known-w-3 c = search needs
 
 returns-2 : tie.Need-returns-2
-unfolding firstDrawn
+unfolding drawnIn
 returns-2 c = rw (c .before .before .w3 .given .1, c .if2 .taken) refl
 
 edge-shown-requires : tie.Need-edge-shown-requires
-edge-shown-requires c κs = let s : tie.Start = search in (s .pre .0, s .pre .1)
+edge-shown-requires c κs = search needs
 
 returns-3 : tie.Need-returns-3
-unfolding firstDrawn
+unfolding drawnIn
 returns-3 c = rw (c .enum-told .given .1) refl
 
 returns-4 : tie.Need-returns-4
-unfolding firstDrawn
+unfolding drawnIn
 returns-4 c = rw (c .before .before .w .given .1) (c .shown .ensures)
 
 returns-5 : tie.Need-returns-5
-returns-5 c = let e : tie.Else1 = search in rw (e .before .before .w2 .given .1) (c .chord-shown .ensures ∙ sym (draw-chord _ _ _ _ _ (e .if1 .left)))
+returns-5 c =
+    let e : tie.Else1 = search in
+    rw (e .before .before .w2 .given .1) (c .shown2 .ensures ∙ sym (draw-chord _ _ _ _ _ _ _ _ _ (e .if1 .left)))
 
 returns-6 : tie.Need-returns-6
-returns-6 c = let e : tie.Else2 = search in rw (e .before .before .w3 .given .1) (c .edge-shown .ensures ∙ sym (draw-edge _ _ _ _ (e .if2 .left)))
+returns-6 c =
+    let e : tie.Else2 = search in
+    rw (e .before .before .w3 .given .1) (c .edge-shown .ensures ∙ sym (draw-edge _ _ _ _ _ _ _ _ (e .if2 .left)))
 
 pub draw-work-spec : {M : Type 1} → statement M
 draw-work-spec =
@@ -66,7 +66,7 @@ draw-work-spec =
     shown-requires
     enum-known-w-2
     returns
-    chord-shown-requires
+    shown-requires-2
     enum-known-w-3
     returns-2
     edge-shown-requires

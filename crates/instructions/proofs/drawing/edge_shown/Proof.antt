@@ -2,7 +2,7 @@
 use borrow.Author.Needs.{needs}
 use mathlib.Core.Path.{refl, ap₂, _∙_}
 use Rattle.plane.specs.TurnLaws.{turned-small}
-use Rattle.hpgl.specs.Machine as M
+use Rattle.instructions.specs.Corners.{shownIn, edgeShownIn}
 use Rattle.instructions.proofs.drawing.edge_shown.Statement.{statement}
 use Rattle.instructions.proofs.drawing.edge_shown.Tie as tie
 
@@ -17,19 +17,19 @@ shown-requires c κs =
     let s : tie.Start = search in
     let a : tie.After-turned = search in
     rw (a .turned .ensures, c .turned2 .ensures)
-    (s .pre .0, turned-small (s .pre .1 .from) (s .pre .0 .turn), turned-small (s .pre .1 .to) (s .pre .0 .turn))
+    (s .pre .0, turned-small (s .pre .2 .from) (s .pre .1), turned-small (s .pre .2 .to) (s .pre .1))
 
 returns : tie.Need-returns
-unfolding M.edgeShown
+unfolding edgeShownIn
 returns c =
     let s : tie.Start = search in
     let t : tie.Then1 = search in
     let a : tie.After-turned = search in
     let b : tie.After-turned2 = search in
-    rw (t .if1 .taken) (c .shown .ensures ∙ ap₂ (M.shown (s .args .c)) (a .turned .ensures) (b .turned2 .ensures))
+    rw (t .if1 .taken) (c .shown .ensures ∙ ap₂ (shownIn (s .args .limits) (s .args .pen)) (a .turned .ensures) (b .turned2 .ensures))
 
 returns-2 : tie.Need-returns-2
-unfolding M.edgeShown
+unfolding edgeShownIn
 returns-2 c = rw (c .if1 .left) refl
 
 pub edge-shown-spec : {M : Type 1} → statement M

@@ -6,7 +6,7 @@ use Rattle.exact.specs.Fit.{got}
 use Rattle.clip.specs.declared.Point.{Point}
 use Rattle.plane.specs.Turn.{turnedOf}
 use Rattle.plane.specs.Circle.{angleOf, pointFromCentre}
-use Rattle.hpgl.specs.Machine as M
+use Rattle.instructions.specs.Corners.{vertexAt}
 use Rattle.instructions.proofs.drawing.vertex.Statement.{statement}
 use Rattle.instructions.proofs.drawing.vertex.Tie as tie
 
@@ -32,14 +32,14 @@ place c =
 turned-requires : tie.Need-turned-requires
 turned-requires c κs =
     let s : tie.Start = search in
-    rw (place c) (s .pre .1 .vertices (s .args .i), s .pre .0 .turn)
+    rw (place c) (s .pre .1 .vertices (s .args .i), s .pre .0)
 
 returns : tie.Need-returns
-unfolding M.vertex
+unfolding vertexAt
 returns c =
     let s : tie.Start = search in
     let p : tie.After-vertex-point = search in
-    c .turned .ensures ∙ ap (λ (q : Point). turnedOf q (s .args .s .turn)) (place p)
+    c .turned .ensures ∙ ap (λ (q : Point). turnedOf q (s .args .turn)) (place p)
 
 pub vertex-spec : {M : Type 1} → statement M
 vertex-spec =
