@@ -15,7 +15,7 @@ use hpgl::State;
 use hpgl::Store;
 use hpgl::Stroke;
 use hpgl::Work;
-use instructions::drawing::draw_work;
+use instructions::drawing::draw_first;
 use instructions::drawing::edge_place;
 use instructions::drawing::work_after;
 use instructions::events::act_on;
@@ -26,6 +26,7 @@ use instructions::storing::stored;
 use instructions::storing::waiting;
 use reader::Event;
 use reader::Reader;
+use sines::table;
 
 // The numbers of a record: pen and ends of a stroke.
 const NUMBERS: usize = 5;
@@ -160,6 +161,7 @@ pub fn gather(m: State, bytes: &[u8], from: usize, numbers: &mut [i64], on: bool
     requires { ⌜ Valid m ⌝ }
     ensures { λ r. ⌜ S.Gathers (S.gatherFrom on m (drop from (now (bytes .entry))) from (length (now (numbers .entry)) / 5)) (now (numbers .entry)) (now (numbers .exit)) r ⌝ }
 {
+    let sines = table();
     let mut reader = m.reader;
     let mut core = m.core;
     let mut store = m.store;
@@ -172,7 +174,7 @@ pub fn gather(m: State, bytes: &[u8], from: usize, numbers: &mut [i64], on: bool
         }
         if 0 < waiting(work) {
             let e = store.edges[edge_place(work)];
-            count = put(numbers, count, draw_work(core, e, work));
+            count = put(numbers, count, draw_first(core, e, work, &sines));
             work = work_after(work);
             continue;
         }

@@ -18,7 +18,7 @@ pub use hpgl::Drawn;
 pub use hpgl::Look;
 use hpgl::State;
 pub use hpgl::Stroke;
-use instructions::drawing::draw_work;
+use instructions::drawing::draw_first;
 use instructions::drawing::edge_place;
 use instructions::drawing::work_after;
 use instructions::events::act_on;
@@ -30,6 +30,7 @@ use instructions::settings::good_limits;
 use instructions::storing::applied;
 use instructions::storing::fresh_state;
 use instructions::storing::waiting;
+use sines::table;
 
 // A machine comes only from the calls below.
 pub struct Machine {
@@ -127,8 +128,9 @@ impl Machine {
         let core = m.core;
         let store = m.store;
         let work = m.work;
+        let sines = table();
         let edge = store.edges[edge_place(work)];
-        let drawn = draw_work(core, edge, work);
+        let drawn = draw_first(core, edge, work, &sines);
         let rest = work_after(work);
         Worked {
             machine: Machine {

@@ -12,6 +12,9 @@ use Rattle.machine.specs.Calls.{workedOf}
 use Rattle.machine.proofs.Machine.draw.Statement.{statement}
 use Rattle.machine.proofs.Machine.draw.Tie as tie
 
+table-requires : tie.Need-table-requires
+table-requires c κs = search needs
+
 edge-place-requires : tie.Need-edge-place-requires
 edge-place-requires c κs = search needs
 
@@ -29,11 +32,15 @@ element-copy-out-edge c =
     let h = place-within (s .args .self .state .work) (made-valid (s .pre) .work) in
     omega (arith, h, p .edge-place .ensures)
 
-draw-work-requires : tie.Need-draw-work-requires
-draw-work-requires c κs =
+slice-aggregate-draw-first : tie.Need-slice-aggregate-draw-first
+slice-aggregate-draw-first c = search needs
+
+draw-first-requires : tie.Need-draw-first-requires
+draw-first-requires c κs =
     let s : tie.Start = search in
+    let t : tie.After-table = search in
     let v = made-valid (s .pre) in
-    (v .core .settings, edge-small (v .edges) _, v .work)
+    (v .core .settings, edge-small (v .edges) _, v .work, t .table .ensures)
 
 work-after-requires : tie.Need-work-after-requires
 work-after-requires c κs = let s : tie.Start = search in made-valid (s .pre) .work
@@ -43,9 +50,9 @@ unfolding workedOf M.drawState M.drawAnswer
 returns c =
     let s : tie.Start = search in
     let m = s .args .self .state in
-    let d : tie.After-draw-work = search in
+    let d : tie.After-draw-first = search in
     let p : tie.After-edge-place = search in
-    let e = d .draw-work .ensures ∙ ap (λ (k : ℕ). firstDrawn (m .core) (getD (m .store .edges) k M.noEdge) (m .work)) (p .edge-place .ensures) ∙ first-drawn m (m .work) in
+    let e = d .draw-first .ensures ∙ ap (λ (k : ℕ). firstDrawn (m .core) (getD (m .store .edges) k M.noEdge) (m .work)) (p .edge-place .ensures) ∙ first-drawn m (m .work) in
     λ i. record {
       machine = record { state = record { reader = m .reader; core = m .core; store = m .store; work = c .work-after .ensures i } };
       drawn = e i;
@@ -55,9 +62,11 @@ pub draw-spec : {M : Type 1} → statement M
 draw-spec =
     tie.close
     (tie.spec
+    table-requires
     edge-place-requires
     mul-edge
     element-copy-out-edge
-    draw-work-requires
+    slice-aggregate-draw-first
+    draw-first-requires
     work-after-requires
     returns)
