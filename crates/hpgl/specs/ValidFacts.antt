@@ -30,12 +30,11 @@ use Rattle.hpgl.specs.declared.Pen.{Pen}
 use Rattle.hpgl.specs.declared.Polygon.{Polygon}
 use Rattle.hpgl.specs.declared.Core.{Core}
 use Rattle.hpgl.specs.declared.Edge.{Edge}
-use Rattle.hpgl.specs.declared.Circle.{Circle}
 use Rattle.hpgl.specs.Numbers.{polygonBytes, pointBytes, penBytes, leastAngle, mostEdges}
 use Rattle.hpgl.specs.Place.{rounded, axisX, axisY, location, inRange, absolutePosition, relativePosition, restAt, pagePoint, limits}
 use Rattle.hpgl.specs.Change.{withRelative, withCarriage}
 use Rattle.hpgl.specs.Rules.{origin, carried, aimed, pointCost, circleFits, circle}
-use Rattle.hpgl.specs.Machine.{noEdge, vertex}
+use Rattle.hpgl.specs.Machine.{noEdge}
 use Rattle.hpgl.specs.Valid.{mostChords, ShortPoint, ValidRange, ValidSettings, LocatablePosition, Placed, ValidPolygon, ValidCore, SmallEdge, ValidCircle, Every, none, more}
 
 pub and-both : (x y : Bool) → x && y ≡ true → (x ≡ true) × (y ≡ true)
@@ -264,11 +263,6 @@ unfolding chordsOf
 chords-most {a} h =
     let k : (3600 + a - 1) / a < 721 = div-lt-iff-lt-mul {k = a} {x = 3600 + a - 1} {y = 721} (omega arith) .1 (omega arith) in
     omega arith
-
--- a vertex on the page: what `clip` asks
-pub vertex-small : {s : Settings} {o : Circle} → ValidSettings s → ValidCircle o → (i : ℕ) → SmallPoint (vertex s o i)
-unfolding vertex
-vertex-small w h i = turned-small (h .vertices i) (w .turn)
 
 -- ---- the store
 
