@@ -3,3 +3,4 @@ pub mod Locating
 pub mod Alone
 pub mod First
 pub mod Corners
+pub mod Hand

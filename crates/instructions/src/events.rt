@@ -1,11 +1,16 @@
 // What each event of the reader does to the core.
 ghost use mathlib.Core.Path.{_≡_};
-ghost use Rattle.reader.specs.Sizes.{Small};
+ghost use Rattle.reader.specs.Sizes.{Small, SmallPair};
 ghost use Rattle.hpgl.specs.Rules as R;
 ghost use Rattle.hpgl.specs.Valid.{ValidCore, ValidEvent};
 use super::circles::ci_rule;
-use super::moves::name_rule;
-use super::moves::pair_rule;
+use super::hand::acted_of;
+use super::hand::core_of;
+use super::hand::hand_of;
+use super::moves::letters;
+use super::moves::name_number;
+use super::moves::pair;
+use super::places::frame_of;
 use super::polygons::ea_rule;
 use super::polygons::ep_rule;
 use super::polygons::er_rule;
@@ -23,6 +28,7 @@ use hpgl::Acted;
 use hpgl::Action;
 use hpgl::Core;
 use reader::CI;
+use reader::Coordinates;
 use reader::DF;
 use reader::EA;
 use reader::EP;
@@ -37,8 +43,33 @@ use reader::RO;
 use reader::SC;
 use reader::SP;
 
+// An instruction is named.
+fn name_rule(c: Core, op: usize) -> Acted
+    ensures { λ r. ⌜ r ≡ R.nameRule c op ⌝ }
+{
+    let k = c.carriage;
+    let g = k.polygon;
+    let number = name_number(g.mode, op);
+    if number == 0 {
+        let s = c.settings;
+        return done(core_of(s, letters(hand_of(k), op), g), Action::Keep);
+    }
+    refuse(c, number)
+}
+
+// A pair is complete.
+fn pair_rule(c: Core, n: Coordinates) -> Acted
+    requires { ⌜ ValidCore c × SmallPair n ⌝ }
+    ensures { λ r. ⌜ r ≡ R.pairRule c n ⌝ }
+{
+    let s = c.settings;
+    let k = c.carriage;
+    let g = k.polygon;
+    acted_of(s, pair(frame_of(s), hand_of(k), g, n))
+}
+
 // An instruction ends. PU, PD, PA and PR have done their work.
-fn end_rule(c: Core, op: usize, n: Numbers) -> Acted
+pub fn end_rule(c: Core, op: usize, n: Numbers) -> Acted
     requires { ⌜ ValidCore c × Small n ⌝ }
     ensures { λ r. ⌜ r ≡ R.endRule c op n ⌝ }
 {

@@ -3,6 +3,7 @@ pub mod changes;
 pub mod circles;
 pub mod drawing;
 pub mod events;
+pub mod hand;
 pub mod moves;
 pub mod numbers;
 pub mod places;

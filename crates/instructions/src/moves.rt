@@ -1,37 +1,41 @@
-// Names and pairs: what PU, PD, PA and PR do, outside polygon mode and in it.
+// Names and pairs: what PU, PD, PA and PR do, outside polygon mode and in it. They are the most of a drawing, so that they take of a core what they need:
+// the frame of its settings, the hand, the polygon.
 ghost use mathlib.Core.Path.{_≡_};
+ghost use mathlib.Core.Bool.{not};
 ghost use Prim.Native.Nat.{_+_, _≤_};
+ghost use lib.Dec.{eqb};
+ghost use Rattle.exact.specs.Fit.{Bd};
+ghost use Rattle.clip.specs.Reach.{SmallPoint};
+ghost use Rattle.plane.specs.Bounds.{AxisBounds, mostProduct};
 ghost use Rattle.reader.specs.Sizes.{SmallPair};
-ghost use Rattle.hpgl.specs.Change as C;
 ghost use Rattle.hpgl.specs.Numbers.{polygonBytes, mostEdges};
+ghost use Rattle.hpgl.specs.Place as P;
 ghost use Rattle.hpgl.specs.Rules as R;
-ghost use Rattle.hpgl.specs.Valid.{LocatablePosition, Placed, ValidCore};
-use super::changes::with_carriage;
-use super::changes::with_pen;
-use super::changes::with_polygon;
-use super::changes::with_position;
-use super::changes::with_relative;
+ghost use Rattle.hpgl.specs.Valid.{LocatablePosition, ValidCore};
+ghost use Rattle.instructions.specs.Hand.{frameOf, coreOf, actedOf, ValidParts, nameNumber, lettersOf};
+use super::hand::Hand;
+use super::hand::Paired;
 use super::numbers::PEN_BYTES;
 use super::numbers::POINT_BYTES;
 use super::numbers::POLYGON_BYTES;
 use super::numbers::POLYGON_FULL;
 use super::numbers::TOO_FAR;
 use super::numbers::UNKNOWN;
-use super::places::absolute_position;
+use super::places::Frame;
+use super::places::absolute_on;
 use super::places::located;
-use super::places::page_point;
+use super::places::located_on;
 use super::places::reachable;
 use super::places::relative_position;
-use super::settings::done;
-use super::settings::refuse;
-use hpgl::Acted;
+use clip::Point;
 use hpgl::Action;
-use hpgl::Carriage;
 use hpgl::Core;
 use hpgl::Edge;
 use hpgl::Pen;
 use hpgl::Polygon;
 use hpgl::Position;
+use hpgl::Settings;
+use plane::turn::turned_by;
 use reader::Coordinates;
 use reader::PA;
 use reader::PD;
@@ -50,61 +54,72 @@ fn spent(p: Pen) -> Pen
     }
 }
 
-// The carriage at p.
-fn moved(k: Carriage, p: Position) -> Carriage
-    ensures { λ r. ⌜ r ≡ C.withPosition (C.withPen k (R.spent (k .pen))) p ⌝ }
+// The number of a name: unknown, or none.
+pub fn name_number(mode: bool, op: usize) -> u8
+    ensures { λ r. ⌜ r ≡ nameNumber mode op ⌝ }
 {
-    let pen = k.pen;
-    with_position(with_pen(k, spent(pen)), p)
+    if mode {
+        if known_in_polygon(op) {
+            return 0;
+        }
+        return UNKNOWN;
+    }
+    0
 }
 
-// What the second letter does to the carriage.
-fn letters(k: Carriage, op: usize) -> Carriage
-    ensures { λ r. ⌜ r ≡ R.letters k op ⌝ }
+// What the second letter does to the hand.
+pub fn letters(h: Hand, op: usize) -> Hand
+    ensures { λ r. ⌜ r ≡ lettersOf h op ⌝ }
 {
-    let pen = k.pen;
+    let position = h.position;
+    let pen = h.pen;
     if op == PU {
-        return with_pen(
-            k,
-            Pen {
+        return Hand {
+            position: position,
+            pen: Pen {
                 number: pen.number,
                 down: false,
                 changed: pen.down,
             },
-        );
+            relative: h.relative,
+        };
     }
     if op == PD {
-        return with_pen(
-            k,
-            Pen {
+        return Hand {
+            position: position,
+            pen: Pen {
                 number: pen.number,
                 down: true,
                 changed: !pen.down,
             },
-        );
+            relative: h.relative,
+        };
     }
     if op == PA {
-        return with_relative(with_pen(k, spent(pen)), false);
+        return Hand {
+            position: position,
+            pen: spent(pen),
+            relative: false,
+        };
     }
     if op == PR {
-        return with_relative(with_pen(k, spent(pen)), true);
+        return Hand {
+            position: position,
+            pen: spent(pen),
+            relative: true,
+        };
     }
-    k
+    h
 }
 
-// An instruction is named.
-pub fn name_rule(c: Core, op: usize) -> Acted
-    ensures { λ r. ⌜ r ≡ R.nameRule c op ⌝ }
+// Whether a pen has paint: pen 0 has none.
+fn paints(p: Pen) -> bool
+    ensures { λ r. ⌜ r ≡ not (eqb (p .number) 0) ⌝ }
 {
-    let k = c.carriage;
-    let g = k.polygon;
-    if g.mode {
-        if known_in_polygon(op) {
-            return done(with_carriage(c, letters(k, op)), Action::Keep);
-        }
-        return refuse(c, UNKNOWN);
+    if p.number == 0 {
+        return false;
     }
-    done(with_carriage(c, letters(k, op)), Action::Keep)
+    true
 }
 
 // Whether the pen paints.
@@ -113,29 +128,65 @@ pub fn inked(c: Core) -> bool
 {
     let k = c.carriage;
     let pen = k.pen;
-    if pen.number == 0 {
-        return false;
-    }
-    true
+    paints(pen)
 }
 
-// A move outside polygon mode. The page points are computed only for a line.
-fn move_to(c: Core, p: Position) -> Acted
-    requires { ⌜ ValidCore c × Placed (c .settings) p ⌝ }
-    ensures { λ r. ⌜ r ≡ R.moveTo c p ⌝ }
+// The hand at p.
+fn moved(h: Hand, p: Position) -> Hand
+    ensures { λ r. ⌜ r ≡ record { position = p; pen = R.spent (h .pen); relative = h .relative } ⌝ }
 {
-    let s = c.settings;
-    let k = c.carriage;
-    let from = k.position;
-    let pen = k.pen;
-    let there = with_carriage(c, moved(k, p));
-    if pen.down {
-        if inked(c) {
-            return done(there, Action::Line(page_point(s, from), page_point(s, p)));
-        }
-        return done(there, Action::Keep);
+    let pen = h.pen;
+    Hand {
+        position: p,
+        pen: spent(pen),
+        relative: h.relative,
     }
-    done(there, Action::Keep)
+}
+
+// A pair that is carried out.
+fn carried_out(h: Hand, g: Polygon, a: Action) -> Paired
+    ensures { λ r. ⌜ ((s : Settings) → actedOf s r ≡ R.done (coreOf s h g) a) ⌝ }
+{
+    Paired {
+        hand: h,
+        polygon: g,
+        action: a,
+        number: 0,
+    }
+}
+
+// A pair that is refused with a number.
+fn refused(h: Hand, g: Polygon, number: u8) -> Paired
+    ensures { λ r. ⌜ ((s : Settings) → actedOf s r ≡ R.refuse (coreOf s h g) number) ⌝ }
+{
+    Paired {
+        hand: h,
+        polygon: g,
+        action: Action::Keep,
+        number: number,
+    }
+}
+
+// A move outside polygon mode, to p with its location. The page points are computed only for a line.
+fn move_to(f: Frame, h: Hand, g: Polygon, p: Position, to: Point) -> Paired
+    requires { ⌜ ValidParts f h g × SmallPoint to ⌝ }
+    ensures { λ r. ⌜ ((s : Settings) → f ≡ frameOf s → to ≡ P.location s p → actedOf s r ≡ R.moveTo (coreOf s h g) p) ⌝ }
+{
+    let there = moved(h, p);
+    let pen = h.pen;
+    if pen.down {
+        if paints(pen) {
+            let position = h.position;
+            let x = f.x;
+            let y = f.y;
+            let rows = f.rows;
+            let a = turned_by(rows, located_on(x, y, position));
+            let b = turned_by(rows, to);
+            return carried_out(there, g, Action::Line(a, b));
+        }
+        return carried_out(there, g, Action::Keep);
+    }
+    carried_out(there, g, Action::Keep)
 }
 
 // The bytes of a point.
@@ -193,60 +244,62 @@ pub fn edge_to(c: Core, p: Position) -> Action
     })
 }
 
-// A move in polygon mode: it stores a point and draws nothing.
-fn store_point(c: Core, p: Position) -> Acted
-    requires { ⌜ ValidCore c × LocatablePosition (c .settings) p ⌝ }
-    ensures { λ r. ⌜ r ≡ R.storePoint c p ⌝ }
+// A move in polygon mode, to p with its location: it stores a point and draws nothing.
+fn store_point(f: Frame, h: Hand, g: Polygon, p: Position, to: Point) -> Paired
+    requires { ⌜ ValidParts f h g ⌝ }
+    ensures { λ r. ⌜ ((s : Settings) → f ≡ frameOf s → to ≡ P.location s p → actedOf s r ≡ R.storePoint (coreOf s h g) p) ⌝ }
 {
-    let k = c.carriage;
-    let pen = k.pen;
-    let g = k.polygon;
+    let pen = h.pen;
     let n = point_cost(pen);
     if g.bytes + n <= POLYGON_BYTES {
-        let stored = with_carriage(c, with_polygon(moved(k, p), longer(g, n, p)));
+        let there = moved(h, p);
+        let more = longer(g, n, p);
         if g.empty {
-            return done(stored, Action::Keep);
+            return carried_out(there, more, Action::Keep);
         }
-        return done(stored, edge_to(c, p));
+        let position = h.position;
+        let x = f.x;
+        let y = f.y;
+        let from = located_on(x, y, position);
+        let edge = Edge {
+            from: from,
+            to: to,
+            down: pen.down,
+        };
+        return carried_out(there, more, Action::Join(edge));
     }
-    refuse(c, POLYGON_FULL)
+    refused(h, g, POLYGON_FULL)
 }
 
 // The position of a pair, by the mode.
-fn aimed(c: Core, n: Coordinates) -> Position
-    requires { ⌜ ValidCore c × SmallPair n ⌝ }
-    ensures { λ r. ⌜ r ≡ R.aimed c n ⌝ }
+fn aimed(f: Frame, h: Hand, n: Coordinates) -> Position
+    requires { ⌜ AxisBounds (f .x) × AxisBounds (f .y) × SmallPair n ⌝ }
+    requires { ⌜ Bd (h .position .x .offset) mostProduct × Bd (h .position .y .offset) mostProduct ⌝ }
+    ensures { λ r. ⌜ ((s : Settings) (g : Polygon) → f ≡ frameOf s → r ≡ R.aimed (coreOf s h g) n) ⌝ }
 {
-    let k = c.carriage;
-    if k.relative {
-        let position = k.position;
+    if h.relative {
+        let position = h.position;
         return relative_position(position, n);
     }
-    let s = c.settings;
-    absolute_position(s, n)
+    let x = f.x;
+    let y = f.y;
+    absolute_on(x, y, n)
 }
 
-// A move to a position, if its location is in range.
-fn go_to(c: Core, p: Position) -> Acted
-    requires { ⌜ ValidCore c × LocatablePosition (c .settings) p ⌝ }
-    ensures { λ r. ⌜ r ≡ R.goTo c p ⌝ }
+// A pair is complete: a move to its position, if the location is in range.
+pub fn pair(f: Frame, h: Hand, g: Polygon, n: Coordinates) -> Paired
+    requires { ⌜ ValidParts f h g × SmallPair n ⌝ }
+    ensures { λ r. ⌜ ((s : Settings) → f ≡ frameOf s → actedOf s r ≡ R.pairRule (coreOf s h g) n) ⌝ }
 {
-    let s = c.settings;
-    if reachable(located(s, p)) {
-        let k = c.carriage;
-        let g = k.polygon;
+    let x = f.x;
+    let y = f.y;
+    let p = aimed(f, h, n);
+    let to = located_on(x, y, p);
+    if reachable(to) {
         if g.mode {
-            return store_point(c, p);
+            return store_point(f, h, g, p, to);
         }
-        return move_to(c, p);
+        return move_to(f, h, g, p, to);
     }
-    refuse(c, TOO_FAR)
-}
-
-// A pair is complete.
-pub fn pair_rule(c: Core, n: Coordinates) -> Acted
-    requires { ⌜ ValidCore c × SmallPair n ⌝ }
-    ensures { λ r. ⌜ r ≡ R.pairRule c n ⌝ }
-{
-    go_to(c, aimed(c, n))
+    refused(h, g, TOO_FAR)
 }

@@ -1,10 +1,12 @@
 // Where the pen is: locations, positions, page points, limits, over the settings.
 ghost use mathlib.Core.Path.{_≡_};
 ghost use Rattle.exact.specs.Fit.{Bd};
-ghost use Rattle.plane.specs.Bounds.{mostNumber, mostProduct};
+ghost use Rattle.plane.specs.Bounds.{AxisBounds, Locatable, mostNumber, mostProduct};
+ghost use Rattle.plane.specs.Position.{absoluteOf, locationOf};
 ghost use Rattle.hpgl.specs.Place as P;
 ghost use Rattle.hpgl.specs.Valid.{ValidSettings, LocatablePosition, Placed};
 ghost use Rattle.reader.specs.Sizes.{SmallPair};
+ghost use Rattle.instructions.specs.Hand.{frameOf};
 use super::numbers::ONE;
 use clip::Point;
 use clip::Rect;
@@ -19,8 +21,18 @@ use plane::position::axis_of;
 use plane::position::in_range;
 use plane::position::location;
 use plane::position::relative;
+use plane::turn::Rows;
+use plane::turn::rows_of;
 use plane::turn::turned;
 use reader::Coordinates;
+
+// What the settings make of a pair, made once for many pairs: the axes, the table of the turn, the limits.
+pub struct Frame {
+    pub x: Axis,
+    pub y: Axis,
+    pub rows: Rows,
+    pub limits: Rect,
+}
 
 // A number that is rounded first.
 pub fn rounded(n: i64) -> i64
@@ -52,16 +64,24 @@ pub fn axis_y(s: Settings) -> Axis
     axis_of(scale.on, p1.y, p2.y, range.min, range.max)
 }
 
+// The location of a position on its axes.
+pub fn located_on(x: Axis, y: Axis, p: Position) -> Point
+    requires { ⌜ Locatable x (p .x) × Locatable y (p .y) ⌝ }
+    ensures { λ r. ⌜ r ≡ P.point (locationOf x (p .x)) (locationOf y (p .y)) ⌝ }
+{
+    let px = p.x;
+    let py = p.y;
+    let across = location(x, px);
+    let up = location(y, py);
+    Point { x: across, y: up }
+}
+
 // The location of a position.
 pub fn located(s: Settings, p: Position) -> Point
     requires { ⌜ ValidSettings s × LocatablePosition s p ⌝ }
     ensures { λ r. ⌜ r ≡ P.location s p ⌝ }
 {
-    let px = p.x;
-    let py = p.y;
-    let x = location(axis_x(s), px);
-    let y = location(axis_y(s), py);
-    Point { x: x, y: y }
+    located_on(axis_x(s), axis_y(s), p)
 }
 
 pub fn reachable(p: Point) -> bool
@@ -73,14 +93,22 @@ pub fn reachable(p: Point) -> bool
     false
 }
 
+// The position of a pair in absolute mode, on its axes.
+pub fn absolute_on(x: Axis, y: Axis, n: Coordinates) -> Position
+    requires { ⌜ AxisBounds x × AxisBounds y × SmallPair n ⌝ }
+    ensures { λ r. ⌜ r ≡ record { x = absoluteOf x (n .x); y = absoluteOf y (n .y) } ⌝ }
+{
+    let across = absolute(x, n.x);
+    let up = absolute(y, n.y);
+    Position { x: across, y: up }
+}
+
 // The position of a pair in absolute mode.
 pub fn absolute_position(s: Settings, n: Coordinates) -> Position
     requires { ⌜ ValidSettings s × SmallPair n ⌝ }
     ensures { λ r. ⌜ r ≡ P.absolutePosition s n ⌝ }
 {
-    let x = absolute(axis_x(s), n.x);
-    let y = absolute(axis_y(s), n.y);
-    Position { x: x, y: y }
+    absolute_on(axis_x(s), axis_y(s), n)
 }
 
 // The position of a pair in relative mode.
@@ -127,4 +155,20 @@ pub fn limits_of(s: Settings) -> Rect
     let window = s.window;
     let area = window.area;
     limits(hard, window.set, area, s.turn)
+}
+
+pub fn frame_of(s: Settings) -> Frame
+    requires { ⌜ ValidSettings s ⌝ }
+    ensures { λ r. ⌜ r ≡ frameOf s ⌝ }
+{
+    let x = axis_x(s);
+    let y = axis_y(s);
+    let rows = rows_of(s.turn);
+    let limits = limits_of(s);
+    Frame {
+        x: x,
+        y: y,
+        rows: rows,
+        limits: limits,
+    }
 }

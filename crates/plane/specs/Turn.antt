@@ -9,6 +9,7 @@ use Rattle.clip.specs.Line.{Frac, Exact}
 use Rattle.plane.specs.Fractions.{timesF, sumF}
 use Rattle.clip.specs.declared.Point.{Point}
 use Rattle.clip.specs.declared.Rect.{Rect}
+use Rattle.plane.specs.declared.turn.Rows.{Rows}
 
 -- the tables, row by row: `upright` leaves a point in its place, `quarter` is the quarter turn
 unfoldable pub turns : List (List (List ℤ))
@@ -27,18 +28,26 @@ abbrev pub turnCount : ℕ
 turnCount = 2
 
 -- the table of turn t
-abbrev pub rowsOf : ℕ → List (List ℤ)
-rowsOf t = getD turns t []
+abbrev pub tableOf : ℕ → List (List ℤ)
+tableOf t = getD turns t []
 
 -- the number in its row i and column j
 unfoldable pub turnOf : ℕ → ℕ → ℕ → ℤ
-turnOf t i j = getD (getD (rowsOf t) i []) j (pos 0)
+turnOf t i j = getD (getD (tableOf t) i []) j (pos 0)
+
+-- the whole table
+unfoldable pub rowsOf : ℕ → Rows
+rowsOf t = record { xx = turnOf t 0 0; xy = turnOf t 0 1; yx = turnOf t 1 0; yy = turnOf t 1 1 }
 
 -- ---- points
 
 -- a row times a point
 abbrev pub alongOf : ℤ → ℤ → ℤ → ℤ → ℤ
 alongOf a b x y = a *ℤ x +ℤ b *ℤ y
+
+-- a table times a point; by that of a turn it is `turnedOf` (TurnLaws.antt, `by-rows`)
+unfoldable pub turnedBy : Rows → Point → Point
+turnedBy r p = record { x = alongOf (r .xx) (r .xy) (p .x) (p .y); y = alongOf (r .yx) (r .yy) (p .x) (p .y) }
 
 -- "Location is turned to the page"
 unfoldable pub turnedOf : Point → ℕ → Point

@@ -1,6 +1,6 @@
 -- The laws of the turn, argued over the rows of its tables: each row is a unit along x or y, forth or back, and the two of a table are a quarter apart.
 -- A turn more is one clause more of `quarter`.
-use mathlib.Core.Path.{_≡_, sym, subst}
+use mathlib.Core.Path.{_≡_, refl, sym, subst}
 use Prim.Native.Nat.{ℕ, zero, suc, _<_}
 use native.Mathlib.Omega.{arith}
 use lib.IntN.{ℤ, pos, negsuc, negℤ}
@@ -8,7 +8,8 @@ use Rattle.exact.specs.Whole.{is, Z}
 use Rattle.exact.specs.Fit.{Bd, lit, bd-le, bd-neg}
 use Rattle.clip.specs.Reach.{reach, SmallPoint}
 use Rattle.clip.specs.declared.Point.{Point}
-use Rattle.plane.specs.Turn.{turnCount, turns, turnOf, alongOf, turnedOf, turnedBackOf, rebasedOf}
+use Rattle.plane.specs.Bounds.{UnitRows}
+use Rattle.plane.specs.Turn.{turnCount, turns, turnOf, rowsOf, alongOf, turnedBy, turnedOf, turnedBackOf, rebasedOf}
 
 -- ---- the rows, and the tables that are made of them
 pub data Row : ℤ → ℤ → Type 0 where
@@ -61,6 +62,11 @@ coord-is north x y = rw (is x, is y) (simp Z (omega arith))
 coord-is west x y = rw (is x, is y) (simp Z (omega arith))
 coord-is south x y = rw (is x, is y) (simp Z (omega arith))
 
+-- ---- a turn is its table
+pub by-rows : (p : Point) (t : ℕ) → turnedBy (rowsOf t) p ≡ turnedOf p t
+unfolding rowsOf turnedBy turnedOf
+by-rows p t = refl
+
 -- ---- "point (x, y) goes to page (−y, x)"
 pub turned-quarter : (p : Point) → turnedOf p 1 ≡ record { x = negℤ (p .y); y = p .x }
 unfolding turnedOf turnOf turns
@@ -111,6 +117,10 @@ turn-size t (suc zero) (suc zero) h k l = row-unit (row-y (quarter t h)) .1
 turn-size t zero (suc (suc j)) h k l = absurd (omega arith)
 turn-size t (suc zero) (suc (suc j)) h k l = absurd (omega arith)
 turn-size t (suc (suc i)) j h k l = absurd (omega arith)
+
+pub rows-unit : {t : ℕ} → t < turnCount → UnitRows (rowsOf t)
+unfolding rowsOf
+rows-unit {t} h = let x = row-unit (row-x (quarter t h)) in let y = row-unit (row-y (quarter t h)) in record { xx = x .0; xy = x .1; yx = y .0; yy = y .1 }
 
 coord-size : {a b : ℤ} {n : ℕ} (w : Row a b) (x y : ℤ) → Bd x n → Bd y n → Bd (coord w x y) n
 coord-size east x y h k = h

@@ -3,17 +3,26 @@ ghost use mathlib.Core.Path.{_≡_};
 ghost use Prim.Native.Nat.{_<_};
 ghost use Rattle.exact.specs.Fit.{Bd};
 ghost use Rattle.clip.specs.Reach.{SmallPoint, SmallRect};
-ghost use Rattle.plane.specs.Turn.{turnCount, rowsOf, alongOf, turnedOf, turnedBackOf, rebasedOf, lesserOf, greaterOf, orderedOf, turnedBoxOf};
+ghost use Rattle.plane.specs.Turn.{turnCount, tableOf, alongOf, rowsOf, turnedBy, turnedOf, turnedBackOf, rebasedOf, lesserOf, greaterOf, orderedOf, turnedBoxOf};
+ghost use Rattle.plane.specs.Bounds.{UnitRows};
 use clip::Point;
 use clip::Rect;
 
 // Turn 0 leaves a point in its place, turn 1 is the quarter turn.
 const TURNS: [[[i64; 2]; 2]; 2] = [[[1, 0], [0, 1]], [[0, -1], [1, 0]]];
 
-// The table of a turn, row by row, laid out once for its four numbers.
-fn rows(turn: usize) -> [[i64; 2]; 2]
+// A turn's table, looked up once for many points: its first row is xx, xy.
+pub struct Rows {
+    pub xx: i64,
+    pub xy: i64,
+    pub yx: i64,
+    pub yy: i64,
+}
+
+// The table of a turn, laid out once for its four numbers.
+fn table_of(turn: usize) -> [[i64; 2]; 2]
     requires { ⌜ turn < turnCount ⌝ }
-    ensures { λ r. ⌜ r ≡ rowsOf turn ⌝ }
+    ensures { λ r. ⌜ r ≡ tableOf turn ⌝ }
 {
     TURNS[turn]
 }
@@ -26,15 +35,39 @@ fn along(a: i64, b: i64, p: Point) -> i64
     a * p.x + b * p.y
 }
 
+pub fn rows_of(turn: usize) -> Rows
+    requires { ⌜ turn < turnCount ⌝ }
+    ensures { λ r. ⌜ r ≡ rowsOf turn ⌝ }
+{
+    let t = table_of(turn);
+    let xx = t[0][0];
+    let xy = t[0][1];
+    let yx = t[1][0];
+    let yy = t[1][1];
+    Rows {
+        xx: xx,
+        xy: xy,
+        yx: yx,
+        yy: yy,
+    }
+}
+
+// A table times a point.
+pub fn turned_by(t: Rows, p: Point) -> Point
+    requires { ⌜ UnitRows t × SmallPoint p ⌝ }
+    ensures { λ r. ⌜ r ≡ turnedBy t p ⌝ }
+{
+    let x = along(t.xx, t.xy, p);
+    let y = along(t.yx, t.yy, p);
+    Point { x: x, y: y }
+}
+
 // The page point of a point.
 pub fn turned(p: Point, turn: usize) -> Point
     requires { ⌜ SmallPoint p × (turn < turnCount) ⌝ }
     ensures { λ r. ⌜ r ≡ turnedOf p turn ⌝ }
 {
-    let t = rows(turn);
-    let x = along(t[0][0], t[0][1], p);
-    let y = along(t[1][0], t[1][1], p);
-    Point { x: x, y: y }
+    turned_by(rows_of(turn), p)
 }
 
 // The point of a page point: by the transposed table.
@@ -42,7 +75,7 @@ pub fn turned_back(p: Point, turn: usize) -> Point
     requires { ⌜ SmallPoint p × (turn < turnCount) ⌝ }
     ensures { λ r. ⌜ r ≡ turnedBackOf p turn ⌝ }
 {
-    let t = rows(turn);
+    let t = table_of(turn);
     let x = along(t[0][0], t[1][0], p);
     let y = along(t[0][1], t[1][1], p);
     Point { x: x, y: y }

@@ -1,28 +1,26 @@
--- The proof of `aimed`: by its test; the offsets of a valid core may be moved.
-use mathlib.Core.Path.{refl}
 use borrow.Author.Needs.{needs}
-use Rattle.hpgl.specs.Rules.{aimed}
-use Rattle.hpgl.specs.ValidFacts.{placed-offset}
 use Rattle.instructions.proofs.moves.aimed.Statement.{statement}
 use Rattle.instructions.proofs.moves.aimed.Tie as tie
+use Rattle.instructions.proofs.moves.aimed.Reads as reads
+use Rattle.instructions.proofs.moves.aimed.Lts as lts
+use Rattle.instructions.proofs.places.absolute_on.Reads as absolute-on-reads
+use Rattle.instructions.proofs.places.relative_position.Reads as relative-position-reads
 
+-- src/moves.rt:282:9
 relative-position-requires : tie.Need-relative-position-requires
-relative-position-requires c κs =
-    let s : tie.Start = search in
-    let h = placed-offset (s .pre .0 .settings) (s .pre .0 .position) in
-    (h .0, h .1, s .pre .1)
+relative-position-requires c κs = search needs
 
+-- src/moves.rt:282:9
 returns : tie.Need-returns
-unfolding aimed
-returns c = simp (c .relative-position .ensures, c .before .before .if1 .taken) refl
+returns c = ?
 
-absolute-position-requires : tie.Need-absolute-position-requires
-absolute-position-requires c κs = search needs
+-- src/moves.rt:286:5
+absolute-on-requires : tie.Need-absolute-on-requires
+absolute-on-requires c κs = search needs
 
+-- src/moves.rt:275:1
 returns-2 : tie.Need-returns-2
-unfolding aimed
-returns-2 c = simp (c .absolute-position .ensures, c .before .before .if1 .left) refl
+returns-2 c = ?
 
 pub aimed-spec : {M : Type 1} → statement M
-aimed-spec =
-    tie.close (tie.spec relative-position-requires returns absolute-position-requires returns-2)
+aimed-spec = tie.close (tie.spec relative-position-requires returns absolute-on-requires returns-2)

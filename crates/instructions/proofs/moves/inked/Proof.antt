@@ -1,17 +1,17 @@
--- The proof of `inked`: by its test.
-use mathlib.Core.Path.{refl}
-use borrow.Author.Tests.{eq-eqb, ne-eqb}
-use Rattle.hpgl.specs.Rules.{inked}
+use borrow.Author.Needs.{needs}
 use Rattle.instructions.proofs.moves.inked.Statement.{statement}
 use Rattle.instructions.proofs.moves.inked.Tie as tie
+use Rattle.instructions.proofs.moves.inked.Reads as reads
+use Rattle.instructions.proofs.moves.inked.Lts as lts
+use Rattle.instructions.proofs.moves.paints.Reads as paints-reads
 
+-- src/moves.rt:131:5
+paints-requires : tie.Need-paints-requires
+paints-requires c κs = search needs
+
+-- src/moves.rt:126:1
 returns : tie.Need-returns
-unfolding inked
-returns c = simp (eq-eqb _ _ (c .if1 .taken)) refl
-
-returns-2 : tie.Need-returns-2
-unfolding inked
-returns-2 c = simp (ne-eqb _ _ (c .if1 .left)) refl
+returns c = ?
 
 pub inked-spec : {M : Type 1} → statement M
-inked-spec = tie.close (tie.spec returns returns-2)
+inked-spec = tie.close (tie.spec paints-requires returns)

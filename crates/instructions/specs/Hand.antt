@@ -1,0 +1,105 @@
+-- The parts of a core that a loop over bytes keeps apart: settings, hand and polygon, and the frame that is made of the settings once. What a name or
+-- a pair does is said by Rules.antt of hpgl alone; here are the parts, put together, and what follows for them.
+use mathlib.Core.Path.{_≡_, refl, ap}
+use mathlib.Core.Bool.{Bool, true, false, cond, not, _&&_}
+use Prim.Native.Nat.{ℕ, _≤_}
+use native.Mathlib.Omega.{arith}
+use lib.Dec.{eqb}
+use borrow.Author.Tests.{ne-eqb}
+use Rattle.reader.specs.declared.Numbers.{Numbers}
+use Rattle.reader.specs.Table.{IN, DF, EP, IP, SC, IW, RO, SP, PM, CI, EA, ER, PU, PD, PA, PR, knownInPolygon}
+use Rattle.plane.specs.Turn.{rowsOf}
+use Rattle.hpgl.specs.declared.Settings.{Settings}
+use Rattle.hpgl.specs.declared.Polygon.{Polygon}
+use Rattle.hpgl.specs.declared.Carriage.{Carriage}
+use Rattle.hpgl.specs.declared.Core.{Core}
+use Rattle.hpgl.specs.declared.Acted.{Acted}
+use Rattle.hpgl.specs.declared.Action.the-variants.{Keep}
+use Rattle.hpgl.specs.Numbers.{unknown}
+use Rattle.hpgl.specs.Change.{withPolygon, withCarriage}
+use Rattle.hpgl.specs.Place.{axisX, axisY, limits}
+use Rattle.hpgl.specs.Rules.{noPolygon, done, refuse, letters, nameRule, endRule}
+use Rattle.hpgl.specs.Valid.{ValidCore}
+use Rattle.instructions.specs.declared.places.Frame.{Frame}
+use Rattle.instructions.specs.declared.hand.Hand.{Hand}
+use Rattle.instructions.specs.declared.hand.Paired.{Paired}
+
+-- ---- the parts
+
+-- what the settings make of a pair
+unfoldable pub frameOf : Settings → Frame
+frameOf s = record { x = axisX s; y = axisY s; rows = rowsOf (s .turn); limits = limits s }
+
+abbrev pub handOf : Carriage → Hand
+handOf k = record { position = k .position; pen = k .pen; relative = k .relative }
+
+abbrev pub carriageOf : Hand → Polygon → Carriage
+carriageOf h g = record { position = h .position; pen = h .pen; relative = h .relative; polygon = g }
+
+abbrev pub coreOf : Settings → Hand → Polygon → Core
+coreOf s h g = record { settings = s; carriage = carriageOf h g }
+
+abbrev pub actedOf : Settings → Paired → Acted
+actedOf s t = record { core = coreOf s (t .hand) (t .polygon); action = t .action; number = t .number }
+
+-- parts that are those of a valid core
+pub record ValidParts (f : Frame) (h : Hand) (g : Polygon) : Type 0 where
+  pub settings : Settings
+  pub frame : f ≡ frameOf settings
+  pub core : ValidCore (coreOf settings h g)
+
+-- nothing is lost
+pub core-parts : (c : Core) → coreOf (c .settings) (handOf (c .carriage)) (c .carriage .polygon) ≡ c
+core-parts c = refl
+
+-- ---- names
+
+-- 01's number of a name, by polygon mode
+unfoldable pub nameNumber : Bool → ℕ → ℕ
+nameNumber mode op = cond (mode && not (knownInPolygon op)) unknown 0
+
+-- what the second letter does; it does not look at the polygon
+unfoldable pub lettersOf : Hand → ℕ → Hand
+lettersOf h op = handOf (letters (carriageOf h noPolygon) op)
+
+pub letters-parts : (h : Hand) (g : Polygon) (op : ℕ) → letters (carriageOf h g) op ≡ carriageOf (lettersOf h op) g
+unfolding letters lettersOf
+letters-parts h g op = either (eqb op PU) refl (either (eqb op PD) refl (either (eqb op PA) refl (either (eqb op PR) refl refl)))
+  where
+    either : (t : Bool) {x y a b : Carriage} → x ≡ withPolygon a g → y ≡ withPolygon b g → cond t x y ≡ withPolygon (cond t a b) g
+    either true e f = e
+    either false e f = f
+
+-- a name changes the hand alone, or nothing
+pub name-parts : (s : Settings) (h : Hand) (g : Polygon) (op : ℕ) →
+    nameRule (coreOf s h g) op ≡
+    cond (eqb (nameNumber (g .mode) op) 0) (done (coreOf s (lettersOf h op) g) Keep) (refuse (coreOf s h g) (nameNumber (g .mode) op))
+unfolding nameRule nameNumber
+name-parts s h g op = go (g .mode && not (knownInPolygon op))
+  where
+    go : (t : Bool) → cond t (refuse (coreOf s h g) unknown) (done (withCarriage (coreOf s h g) (letters (carriageOf h g) op)) Keep) ≡
+        cond (eqb (cond t unknown 0) 0) (done (coreOf s (lettersOf h op) g) Keep) (refuse (coreOf s h g) (cond t unknown 0))
+    go true = refl
+    go false = ap (λ (k : Carriage). done (withCarriage (coreOf s h g) k) Keep) (letters-parts h g op)
+
+-- ---- ends
+
+-- PU, PD, PA and PR, the last of the table, have done their work when they end
+pub pairs-end : (c : Core) (op : ℕ) (n : Numbers) → PU ≤ op → endRule c op n ≡ done c Keep
+unfolding endRule
+pairs-end c op n h =
+    rw (
+      ne-eqb op IN (λ e. omega arith),
+      ne-eqb op DF (λ e. omega arith),
+      ne-eqb op EP (λ e. omega arith),
+      ne-eqb op IP (λ e. omega arith),
+      ne-eqb op SC (λ e. omega arith),
+      ne-eqb op IW (λ e. omega arith),
+      ne-eqb op RO (λ e. omega arith),
+      ne-eqb op SP (λ e. omega arith),
+      ne-eqb op PM (λ e. omega arith),
+      ne-eqb op CI (λ e. omega arith),
+      ne-eqb op EA (λ e. omega arith),
+      ne-eqb op ER (λ e. omega arith),
+    )
+    refl

@@ -1,0 +1,69 @@
+// The parts of a core that a loop over bytes keeps apart: its settings, the polygon, and a hand, which is the rest of the carriage.
+ghost use mathlib.Core.Path.{_≡_};
+ghost use Rattle.instructions.specs.Hand.{handOf, coreOf, actedOf};
+use hpgl::Acted;
+use hpgl::Action;
+use hpgl::Carriage;
+use hpgl::Core;
+use hpgl::Pen;
+use hpgl::Polygon;
+use hpgl::Position;
+use hpgl::Settings;
+
+// A carriage without its polygon, which is large and seldom changes.
+pub struct Hand {
+    pub position: Position,
+    pub pen: Pen,
+    pub relative: bool,
+}
+
+// What a pair does: the new hand and polygon, the action, and 01's number (0 for none).
+pub struct Paired {
+    pub hand: Hand,
+    pub polygon: Polygon,
+    pub action: Action,
+    pub number: u8,
+}
+
+pub fn hand_of(k: Carriage) -> Hand
+    ensures { λ r. ⌜ r ≡ handOf k ⌝ }
+{
+    let position = k.position;
+    let pen = k.pen;
+    Hand {
+        position: position,
+        pen: pen,
+        relative: k.relative,
+    }
+}
+
+// The parts put together again.
+pub fn core_of(s: Settings, h: Hand, g: Polygon) -> Core
+    ensures { λ r. ⌜ r ≡ coreOf s h g ⌝ }
+{
+    let position = h.position;
+    let pen = h.pen;
+    Core {
+        settings: s,
+        carriage: Carriage {
+            position: position,
+            pen: pen,
+            relative: h.relative,
+            polygon: g,
+        },
+    }
+}
+
+// What a pair does, with the settings, which stay.
+pub fn acted_of(s: Settings, t: Paired) -> Acted
+    ensures { λ r. ⌜ r ≡ actedOf s t ⌝ }
+{
+    let hand = t.hand;
+    let polygon = t.polygon;
+    let action = t.action;
+    Acted {
+        core: core_of(s, hand, polygon),
+        action: action,
+        number: t.number,
+    }
+}
