@@ -1,14 +1,18 @@
 -- The parts of a core that a loop over bytes keeps apart: settings, hand and polygon, and the frame that is made of the settings once. What a name or
 -- a pair does is said by Rules.antt of hpgl alone; here are the parts, put together, and what follows for them.
-use mathlib.Core.Path.{_≡_, refl, ap}
+use mathlib.Core.Path.{_≡_, refl, ap, _∙_}
 use mathlib.Core.Bool.{Bool, true, false, cond, not, _&&_}
 use Prim.Native.Nat.{ℕ, _≤_}
 use native.Mathlib.Omega.{arith}
 use lib.Dec.{eqb}
 use borrow.Author.Tests.{ne-eqb}
+use Rattle.clip.specs.declared.Point.{Point}
 use Rattle.reader.specs.declared.Numbers.{Numbers}
-use Rattle.reader.specs.Table.{IN, DF, EP, IP, SC, IW, RO, SP, PM, CI, EA, ER, PU, PD, PA, PR, knownInPolygon}
-use Rattle.plane.specs.Turn.{rowsOf}
+use Rattle.reader.specs.Table.{IN, DF, EP, IP, SC, IW, RO, SP, PM, CI, EA, ER, PU, knownInPolygon}
+use Rattle.plane.specs.Position.{locationOf}
+use Rattle.plane.specs.Turn.{rowsOf, turnedBy}
+use Rattle.plane.specs.TurnLaws.{by-rows}
+use Rattle.hpgl.specs.declared.Position.{Position}
 use Rattle.hpgl.specs.declared.Settings.{Settings}
 use Rattle.hpgl.specs.declared.Polygon.{Polygon}
 use Rattle.hpgl.specs.declared.Carriage.{Carriage}
@@ -16,9 +20,8 @@ use Rattle.hpgl.specs.declared.Core.{Core}
 use Rattle.hpgl.specs.declared.Acted.{Acted}
 use Rattle.hpgl.specs.declared.Action.the-variants.{Keep}
 use Rattle.hpgl.specs.Numbers.{unknown}
-use Rattle.hpgl.specs.Change.{withPolygon, withCarriage}
-use Rattle.hpgl.specs.Place.{axisX, axisY, limits}
-use Rattle.hpgl.specs.Rules.{noPolygon, done, refuse, letters, nameRule, endRule}
+use Rattle.hpgl.specs.Place.{point, axisX, axisY, location, pagePoint, limits}
+use Rattle.hpgl.specs.Rules.{done, refuse, letters, nameRule, endRule}
 use Rattle.hpgl.specs.Valid.{ValidCore}
 use Rattle.instructions.specs.declared.places.Frame.{Frame}
 use Rattle.instructions.specs.declared.hand.Hand.{Hand}
@@ -42,6 +45,10 @@ coreOf s h g = record { settings = s; carriage = carriageOf h g }
 abbrev pub actedOf : Settings → Paired → Acted
 actedOf s t = record { core = coreOf s (t .hand) (t .polygon); action = t .action; number = t .number }
 
+-- the location of a position, by the frame
+abbrev pub locationIn : Frame → Position → Point
+locationIn f p = point (locationOf (f .x) (p .x)) (locationOf (f .y) (p .y))
+
 -- parts that are those of a valid core
 pub record ValidParts (f : Frame) (h : Hand) (g : Polygon) : Type 0 where
   pub settings : Settings
@@ -52,35 +59,35 @@ pub record ValidParts (f : Frame) (h : Hand) (g : Polygon) : Type 0 where
 pub core-parts : (c : Core) → coreOf (c .settings) (handOf (c .carriage)) (c .carriage .polygon) ≡ c
 core-parts c = refl
 
+-- ---- places
+
+pub location-in : {f : Frame} (s : Settings) (p : Position) → f ≡ frameOf s → locationIn f p ≡ location s p
+unfolding frameOf location
+location-in s p e = ap (λ (f : Frame). locationIn f p) e
+
+pub page-in : {f : Frame} (s : Settings) (p : Position) → f ≡ frameOf s → turnedBy (f .rows) (location s p) ≡ pagePoint s p
+unfolding frameOf pagePoint
+page-in s p e = ap (λ (f : Frame). turnedBy (f .rows) (location s p)) e ∙ by-rows (location s p) (s .turn)
+
 -- ---- names
 
 -- 01's number of a name, by polygon mode
 unfoldable pub nameNumber : Bool → ℕ → ℕ
 nameNumber mode op = cond (mode && not (knownInPolygon op)) unknown 0
 
--- what the second letter does; it does not look at the polygon
-unfoldable pub lettersOf : Hand → ℕ → Hand
-lettersOf h op = handOf (letters (carriageOf h noPolygon) op)
-
-pub letters-parts : (h : Hand) (g : Polygon) (op : ℕ) → letters (carriageOf h g) op ≡ carriageOf (lettersOf h op) g
-unfolding letters lettersOf
-letters-parts h g op = either (eqb op PU) refl (either (eqb op PD) refl (either (eqb op PA) refl (either (eqb op PR) refl refl)))
-  where
-    either : (t : Bool) {x y a b : Carriage} → x ≡ withPolygon a g → y ≡ withPolygon b g → cond t x y ≡ withPolygon (cond t a b) g
-    either true e f = e
-    either false e f = f
-
--- a name changes the hand alone, or nothing
+-- a name that has none is carried out
 pub name-parts : (s : Settings) (h : Hand) (g : Polygon) (op : ℕ) →
     nameRule (coreOf s h g) op ≡
-    cond (eqb (nameNumber (g .mode) op) 0) (done (coreOf s (lettersOf h op) g) Keep) (refuse (coreOf s h g) (nameNumber (g .mode) op))
+    cond (eqb (nameNumber (g .mode) op) 0) (done (record { settings = s; carriage = letters (carriageOf h g) op }) Keep)
+    (refuse (coreOf s h g) (nameNumber (g .mode) op))
 unfolding nameRule nameNumber
 name-parts s h g op = go (g .mode && not (knownInPolygon op))
   where
-    go : (t : Bool) → cond t (refuse (coreOf s h g) unknown) (done (withCarriage (coreOf s h g) (letters (carriageOf h g) op)) Keep) ≡
-        cond (eqb (cond t unknown 0) 0) (done (coreOf s (lettersOf h op) g) Keep) (refuse (coreOf s h g) (cond t unknown 0))
+    go : (t : Bool) → cond t (refuse (coreOf s h g) unknown) (done (record { settings = s; carriage = letters (carriageOf h g) op }) Keep) ≡
+        cond (eqb (cond t unknown 0) 0) (done (record { settings = s; carriage = letters (carriageOf h g) op }) Keep)
+        (refuse (coreOf s h g) (cond t unknown 0))
     go true = refl
-    go false = ap (λ (k : Carriage). done (withCarriage (coreOf s h g) k) Keep) (letters-parts h g op)
+    go false = refl
 
 -- ---- ends
 

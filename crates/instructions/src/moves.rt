@@ -12,7 +12,7 @@ ghost use Rattle.hpgl.specs.Numbers.{polygonBytes, mostEdges};
 ghost use Rattle.hpgl.specs.Place as P;
 ghost use Rattle.hpgl.specs.Rules as R;
 ghost use Rattle.hpgl.specs.Valid.{LocatablePosition, ValidCore};
-ghost use Rattle.instructions.specs.Hand.{frameOf, coreOf, actedOf, ValidParts, nameNumber, lettersOf};
+ghost use Rattle.instructions.specs.Hand.{frameOf, carriageOf, coreOf, actedOf, ValidParts, nameNumber};
 use super::hand::Hand;
 use super::hand::Paired;
 use super::numbers::PEN_BYTES;
@@ -69,7 +69,7 @@ pub fn name_number(mode: bool, op: usize) -> u8
 
 // What the second letter does to the hand.
 pub fn letters(h: Hand, op: usize) -> Hand
-    ensures { λ r. ⌜ r ≡ lettersOf h op ⌝ }
+    ensures { λ r. ⌜ ((g : Polygon) → carriageOf r g ≡ R.letters (carriageOf h g) op) ⌝ }
 {
     let position = h.position;
     let pen = h.pen;

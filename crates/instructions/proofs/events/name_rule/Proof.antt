@@ -1,46 +1,61 @@
+-- The proof of `name_rule`: by the number of the name.
+use mathlib.Core.Path.{sym, ap, _∙_}
+use Prim.Native.Nat.{ℕ}
+use lib.Dec.{eqb}
 use borrow.Author.Needs.{needs}
+use borrow.Author.Tests.{eq-eqb, ne-eqb}
+use Rattle.hpgl.specs.declared.Core.{Core}
+use Rattle.hpgl.specs.declared.Action.the-variants.{Keep}
+use Rattle.hpgl.specs.Cases.{cond-true, cond-false}
+use Rattle.hpgl.specs.Change.{withCarriage}
+use Rattle.hpgl.specs.Rules.{done, refuse, letters}
+use Rattle.instructions.specs.declared.hand.Hand.{Hand}
+use Rattle.instructions.specs.Hand.{handOf, carriageOf, name-parts}
 use Rattle.instructions.proofs.events.name_rule.Statement.{statement}
 use Rattle.instructions.proofs.events.name_rule.Tie as tie
-use Rattle.instructions.proofs.events.name_rule.Reads as reads
-use Rattle.instructions.proofs.events.name_rule.Lts as lts
-use Rattle.instructions.proofs.hand.core_of.Reads as core-of-reads
-use Rattle.instructions.proofs.hand.hand_of.Reads as hand-of-reads
-use Rattle.instructions.proofs.moves.letters.Reads as letters-reads
-use Rattle.instructions.proofs.moves.name_number.Reads as name-number-reads
-use Rattle.instructions.proofs.settings.done.Reads as done-reads
-use Rattle.instructions.proofs.settings.refuse.Reads as refuse-reads
 
--- src/events.rt:52:9
 name-number-requires : tie.Need-name-number-requires
 name-number-requires c κs = search needs
 
--- src/events.rt:55:40
 hand-of-requires : tie.Need-hand-of-requires
 hand-of-requires c κs = search needs
 
--- src/events.rt:55:32
 letters-requires : tie.Need-letters-requires
 letters-requires c κs = search needs
 
--- src/events.rt:55:21
 core-of-requires : tie.Need-core-of-requires
 core-of-requires c κs = search needs
 
--- src/events.rt:55:9
 done-requires : tie.Need-done-requires
 done-requires c κs = search needs
 
--- src/events.rt:55:9
 returns : tie.Need-returns
-returns c = ?
+returns c =
+    let k : tie.Start = search in
+    let n : tie.After-name-number = search in
+    let t : tie.Then1 = search in
+    let l : tie.After-letters = search in
+    let m = k .args .c in
+    let op = k .args .op in
+    let g = m .carriage .polygon in
+    let named = l .letters .ensures g ∙ ap (λ (h : Hand). letters (carriageOf h g) op) (l .before .hand-of .ensures) in
+    let none = ap (λ (x : ℕ). eqb x 0) (sym (n .name-number .ensures)) ∙ eq-eqb _ _ (t .if1 .taken) in
+    c .done .ensures
+    ∙ ap (λ (r : Core). done r Keep) (c .before .core-of .ensures ∙ ap (withCarriage m) named)
+    ∙ sym (name-parts (m .settings) (handOf (m .carriage)) g op ∙ cond-true _ _ _ none)
 
--- src/events.rt:57:5
 refuse-requires : tie.Need-refuse-requires
 refuse-requires c κs = search needs
 
--- src/events.rt:47:1
 returns-2 : tie.Need-returns-2
-returns-2 c = ?
+returns-2 c =
+    let k : tie.Start = search in
+    let n : tie.After-name-number = search in
+    let m = k .args .c in
+    let some = ap (λ (x : ℕ). eqb x 0) (sym (n .name-number .ensures)) ∙ ne-eqb _ _ (c .before .if1 .left) in
+    c .refuse .ensures
+    ∙ ap (refuse m) (n .name-number .ensures)
+    ∙ sym (name-parts (m .settings) (handOf (m .carriage)) (m .carriage .polygon) (k .args .op) ∙ cond-false _ _ _ some)
 
 pub name-rule-spec : {M : Type 1} → statement M
 name-rule-spec =

@@ -1,26 +1,25 @@
+-- The proof of `aimed`: by its test.
+use mathlib.Core.Path.{refl}
 use borrow.Author.Needs.{needs}
+use Rattle.hpgl.specs.Place.{absolutePosition}
+use Rattle.hpgl.specs.Rules.{aimed}
+use Rattle.instructions.specs.Hand.{frameOf}
 use Rattle.instructions.proofs.moves.aimed.Statement.{statement}
 use Rattle.instructions.proofs.moves.aimed.Tie as tie
-use Rattle.instructions.proofs.moves.aimed.Reads as reads
-use Rattle.instructions.proofs.moves.aimed.Lts as lts
-use Rattle.instructions.proofs.places.absolute_on.Reads as absolute-on-reads
-use Rattle.instructions.proofs.places.relative_position.Reads as relative-position-reads
 
--- src/moves.rt:282:9
 relative-position-requires : tie.Need-relative-position-requires
 relative-position-requires c κs = search needs
 
--- src/moves.rt:282:9
 returns : tie.Need-returns
-returns c = ?
+unfolding aimed
+returns c = λ s g e. simp (c .relative-position .ensures, c .before .before .if1 .taken) refl
 
--- src/moves.rt:286:5
 absolute-on-requires : tie.Need-absolute-on-requires
 absolute-on-requires c κs = search needs
 
--- src/moves.rt:275:1
 returns-2 : tie.Need-returns-2
-returns-2 c = ?
+unfolding aimed absolutePosition frameOf
+returns-2 c = λ s g e. simp (c .absolute-on .ensures, c .before .before .before .if1 .left, e) refl
 
 pub aimed-spec : {M : Type 1} → statement M
 aimed-spec = tie.close (tie.spec relative-position-requires returns absolute-on-requires returns-2)

@@ -1,57 +1,70 @@
+-- The proof of `move_to`: by its tests; valid parts have a position with a page point.
+use mathlib.Core.Path.{refl, sym, subst, ap, _∙_}
 use borrow.Author.Needs.{needs}
+use Rattle.clip.specs.Reach.{SmallPoint}
+use Rattle.plane.specs.Turn.{turnedBy}
+use Rattle.hpgl.specs.Rules.{inked, moveTo}
+use Rattle.instructions.specs.Hand.{location-in, page-in}
+use Rattle.instructions.specs.Locating.{frame-rows, hand-locatable, hand-near}
 use Rattle.instructions.proofs.moves.move_to.Statement.{statement}
 use Rattle.instructions.proofs.moves.move_to.Tie as tie
-use Rattle.instructions.proofs.moves.move_to.Reads as reads
-use Rattle.instructions.proofs.moves.move_to.Lts as lts
-use Rattle.instructions.proofs.moves.carried_out.Reads as carried-out-reads
-use Rattle.instructions.proofs.moves.moved.Reads as moved-reads
-use Rattle.instructions.proofs.moves.paints.Reads as paints-reads
-use Rattle.instructions.proofs.places.located_on.Reads as located-on-reads
-use Rattle.plane.proofs.turn.turned_by.Reads as turned-by-reads
 
--- src/moves.rt:175:9
 moved-requires : tie.Need-moved-requires
 moved-requires c κs = search needs
 
--- src/moves.rt:178:12
 paints-requires : tie.Need-paints-requires
 paints-requires c κs = search needs
 
--- src/moves.rt:183:37
 located-on-requires : tie.Need-located-on-requires
-located-on-requires c κs = ?
+located-on-requires c κs = let s : tie.Start = search in hand-locatable (s .pre .0)
 
--- src/moves.rt:183:17
 turned-by-requires : tie.Need-turned-by-requires
-turned-by-requires c κs = ?
+turned-by-requires c κs =
+    let s : tie.Start = search in
+    (frame-rows (s .pre .0), subst SmallPoint (sym (c .located-on .ensures)) (hand-near (s .pre .0)))
 
--- src/moves.rt:184:17
 turned-by-requires-2 : tie.Need-turned-by-requires-2
-turned-by-requires-2 c κs = ?
+turned-by-requires-2 c κs = let s : tie.Start = search in (frame-rows (s .pre .0), s .pre .1)
 
--- src/moves.rt:185:13
 carried-out-requires : tie.Need-carried-out-requires
 carried-out-requires c κs = search needs
 
--- src/moves.rt:185:13
 returns : tie.Need-returns
-returns c = ?
+unfolding moveTo inked
+returns c =
+    let l : tie.After-located-on = search in
+    let u : tie.Then2 = search in
+    let t = u .before .before in
+    let m = t .before .before in
+    let k = m .before in
+    let f = k .args .f in
+    let from = k .args .h .position in
+    λ s e q.
+    let start = c .before .before .turned-by .ensures ∙ ap (turnedBy (f .rows)) (l .located-on .ensures ∙ location-in s from e) ∙ page-in s from e in
+    let end = c .before .turned-by2 .ensures ∙ ap (turnedBy (f .rows)) q ∙ page-in s (k .args .p) e in
+    c .carried-out .ensures s
+    ∙ simp (m .moved .ensures, start, end, t .if1 .taken, ← u .before .paints .ensures, u .if2 .taken) refl
 
--- src/moves.rt:187:9
 carried-out-requires-2 : tie.Need-carried-out-requires-2
 carried-out-requires-2 c κs = search needs
 
--- src/moves.rt:187:9
 returns-2 : tie.Need-returns-2
-returns-2 c = ?
+unfolding moveTo inked
+returns-2 c =
+    let m : tie.After-moved = search in
+    let t : tie.Then1 = search in
+    λ s e q.
+    c .carried-out2 .ensures s
+    ∙ simp (m .moved .ensures, t .if1 .taken, ← c .before .before .paints .ensures, c .before .if2 .left) refl
 
--- src/moves.rt:189:5
 carried-out-requires-3 : tie.Need-carried-out-requires-3
 carried-out-requires-3 c κs = search needs
 
--- src/moves.rt:171:1
 returns-3 : tie.Need-returns-3
-returns-3 c = ?
+unfolding moveTo
+returns-3 c =
+    let m : tie.After-moved = search in
+    λ s e q. c .carried-out3 .ensures s ∙ simp (m .moved .ensures, c .before .if1 .left) refl
 
 pub move-to-spec : {M : Type 1} → statement M
 move-to-spec =

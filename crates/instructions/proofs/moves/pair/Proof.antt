@@ -1,50 +1,75 @@
+-- The proof of `pair`: by its tests; what a pair aims at may be located, and a location that was found in range may be turned.
+use mathlib.Core.Path.{refl, sym, _∙_}
 use borrow.Author.Needs.{needs}
+use Rattle.hpgl.specs.Rules.{goTo, pairRule}
+use Rattle.hpgl.specs.ValidFacts.{in-range-small, placed-offset}
+use Rattle.instructions.specs.Hand.{location-in}
+use Rattle.instructions.specs.Locating.{frame-axes, aim-locatable}
 use Rattle.instructions.proofs.moves.pair.Statement.{statement}
 use Rattle.instructions.proofs.moves.pair.Tie as tie
-use Rattle.instructions.proofs.moves.pair.Reads as reads
-use Rattle.instructions.proofs.moves.pair.Lts as lts
-use Rattle.instructions.proofs.moves.aimed.Reads as aimed-reads
-use Rattle.instructions.proofs.moves.move_to.Reads as move-to-reads
-use Rattle.instructions.proofs.moves.refused.Reads as refused-reads
-use Rattle.instructions.proofs.moves.store_point.Reads as store-point-reads
-use Rattle.instructions.proofs.places.located_on.Reads as located-on-reads
-use Rattle.instructions.proofs.places.reachable.Reads as reachable-reads
 
--- src/moves.rt:296:9
 aimed-requires : tie.Need-aimed-requires
-aimed-requires c κs = ?
+aimed-requires c κs =
+    let k : tie.Start = search in
+    let w = k .pre .0 in
+    let a = frame-axes w in
+    ((a .0, a .1, k .pre .1), placed-offset (w .core .settings) (w .core .position))
 
--- src/moves.rt:297:9
 located-on-requires : tie.Need-located-on-requires
-located-on-requires c κs = ?
+located-on-requires c κs =
+    let k : tie.Start = search in
+    let w = k .pre .0 in
+    aim-locatable w (k .pre .1) (c .aimed .ensures (w .settings) (k .args .g) (w .frame))
 
--- src/moves.rt:298:8
 reachable-requires : tie.Need-reachable-requires
 reachable-requires c κs = search needs
 
--- src/moves.rt:300:13
 store-point-requires : tie.Need-store-point-requires
 store-point-requires c κs = search needs
 
--- src/moves.rt:300:13
 returns : tie.Need-returns
-returns c = ?
+unfolding pairRule goTo
+returns c =
+    let k : tie.Start = search in
+    let a : tie.After-aimed = search in
+    let l : tie.After-located-on = search in
+    let t : tie.Then1 = search in
+    λ s e.
+    let to = l .located-on .ensures ∙ location-in s (a .aimed .result) e in
+    c .store-point .ensures s e to
+    ∙ simp (← a .aimed .ensures s (k .args .g) e, ← to, ← t .before .reachable .ensures, t .if1 .taken, c .before .if2 .taken) refl
 
--- src/moves.rt:302:9
 move-to-requires : tie.Need-move-to-requires
-move-to-requires c κs = ?
+move-to-requires c κs =
+    let k : tie.Start = search in
+    let t : tie.Then1 = search in
+    (k .pre .0, in-range-small (sym (t .before .reachable .ensures) ∙ t .if1 .taken))
 
--- src/moves.rt:302:9
 returns-2 : tie.Need-returns-2
-returns-2 c = ?
+unfolding pairRule goTo
+returns-2 c =
+    let k : tie.Start = search in
+    let a : tie.After-aimed = search in
+    let l : tie.After-located-on = search in
+    let t : tie.Then1 = search in
+    λ s e.
+    let to = l .located-on .ensures ∙ location-in s (a .aimed .result) e in
+    c .move-to .ensures s e to
+    ∙ simp (← a .aimed .ensures s (k .args .g) e, ← to, ← t .before .reachable .ensures, t .if1 .taken, c .before .if2 .left) refl
 
--- src/moves.rt:304:5
 refused-requires : tie.Need-refused-requires
 refused-requires c κs = search needs
 
--- src/moves.rt:290:1
 returns-3 : tie.Need-returns-3
-returns-3 c = ?
+unfolding pairRule goTo
+returns-3 c =
+    let k : tie.Start = search in
+    let a : tie.After-aimed = search in
+    let l : tie.After-located-on = search in
+    λ s e.
+    let to = l .located-on .ensures ∙ location-in s (a .aimed .result) e in
+    c .refused .ensures s
+    ∙ simp (← a .aimed .ensures s (k .args .g) e, ← to, ← c .before .before .reachable .ensures, c .before .if1 .left) refl
 
 pub pair-spec : {M : Type 1} → statement M
 pair-spec =

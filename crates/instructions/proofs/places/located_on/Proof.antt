@@ -1,21 +1,23 @@
+-- The proof of `located_on`: axis by axis.
 use borrow.Author.Needs.{needs}
+use mathlib.Core.Path.{_∙_}
+use mir.Syntax.{w64}
+use Rattle.exact.specs.Fit.{got}
 use Rattle.instructions.proofs.places.located_on.Statement.{statement}
 use Rattle.instructions.proofs.places.located_on.Tie as tie
-use Rattle.instructions.proofs.places.located_on.Reads as reads
-use Rattle.instructions.proofs.places.located_on.Lts as lts
-use Rattle.plane.proofs.position.location.Reads as location-reads
 
--- src/places.rt:74:9
 location-requires : tie.Need-location-requires
 location-requires c κs = search needs
 
--- src/places.rt:75:9
 location-requires-2 : tie.Need-location-requires-2
 location-requires-2 c κs = search needs
 
--- src/places.rt:68:1
 returns : tie.Need-returns
-returns c = ?
+returns c =
+    let a : tie.After-location = search in
+    let x = got w64 (a .location .ok) ∙ a .location .ensures in
+    let y = got w64 (c .location2 .ok) ∙ c .location2 .ensures in
+    λ i. record { x = x i; y = y i }
 
 pub located-on-spec : {M : Type 1} → statement M
 located-on-spec = tie.close (tie.spec location-requires location-requires-2 returns)
