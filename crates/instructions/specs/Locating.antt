@@ -1,6 +1,6 @@
 -- Further facts that the code of moves and polygons needs of a valid core: where the carriage and the first point of a polygon are, both may be located.
 -- And what it needs of the parts of one.
-use mathlib.Core.Path.{_≡_, sym, subst, _∙_}
+use mathlib.Core.Path.{_≡_}
 use mathlib.Core.Bool.{true}
 use Rattle.clip.specs.Reach.{SmallPoint}
 use Rattle.reader.specs.declared.Coordinates.{Coordinates}
@@ -8,7 +8,6 @@ use Rattle.reader.specs.declared.Numbers.{Numbers}
 use Rattle.reader.specs.Sizes.{Small, SmallPair}
 use Rattle.plane.specs.Bounds.{AxisBounds, Locatable, UnitRows}
 use Rattle.plane.specs.TurnLaws.{rows-unit}
-use Rattle.hpgl.specs.declared.Settings.{Settings}
 use Rattle.hpgl.specs.declared.Position.{Position}
 use Rattle.hpgl.specs.declared.Polygon.{Polygon}
 use Rattle.hpgl.specs.declared.Core.{Core}

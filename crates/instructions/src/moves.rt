@@ -24,7 +24,7 @@ use super::numbers::UNKNOWN;
 use super::places::Frame;
 use super::places::absolute_on;
 use super::places::located;
-use super::places::located_on;
+use super::places::located_in;
 use super::places::reachable;
 use super::places::relative_position;
 use clip::Point;
@@ -177,10 +177,8 @@ fn move_to(f: Frame, h: Hand, g: Polygon, p: Position, to: Point) -> Paired
     if pen.down {
         if paints(pen) {
             let position = h.position;
-            let x = f.x;
-            let y = f.y;
             let rows = f.rows;
-            let a = turned_by(rows, located_on(x, y, position));
+            let a = turned_by(rows, located_in(f, position));
             let b = turned_by(rows, to);
             return carried_out(there, g, Action::Line(a, b));
         }
@@ -258,9 +256,7 @@ fn store_point(f: Frame, h: Hand, g: Polygon, p: Position, to: Point) -> Paired
             return carried_out(there, more, Action::Keep);
         }
         let position = h.position;
-        let x = f.x;
-        let y = f.y;
-        let from = located_on(x, y, position);
+        let from = located_in(f, position);
         let edge = Edge {
             from: from,
             to: to,
@@ -291,10 +287,8 @@ pub fn pair(f: Frame, h: Hand, g: Polygon, n: Coordinates) -> Paired
     requires { ⌜ ValidParts f h g × SmallPair n ⌝ }
     ensures { λ r. ⌜ ((s : Settings) → f ≡ frameOf s → actedOf s r ≡ R.pairRule (coreOf s h g) n) ⌝ }
 {
-    let x = f.x;
-    let y = f.y;
     let p = aimed(f, h, n);
-    let to = located_on(x, y, p);
+    let to = located_in(f, p);
     if reachable(to) {
         if g.mode {
             return store_point(f, h, g, p, to);

@@ -2,11 +2,11 @@
 ghost use mathlib.Core.Path.{_≡_};
 ghost use Rattle.exact.specs.Fit.{Bd};
 ghost use Rattle.plane.specs.Bounds.{AxisBounds, Locatable, mostNumber, mostProduct};
-ghost use Rattle.plane.specs.Position.{absoluteOf, locationOf};
+ghost use Rattle.plane.specs.Position.{absoluteOf};
 ghost use Rattle.hpgl.specs.Place as P;
 ghost use Rattle.hpgl.specs.Valid.{ValidSettings, LocatablePosition, Placed};
 ghost use Rattle.reader.specs.Sizes.{SmallPair};
-ghost use Rattle.instructions.specs.Hand.{frameOf};
+ghost use Rattle.instructions.specs.Hand.{frameOf, locationIn};
 use super::numbers::ONE;
 use clip::Point;
 use clip::Rect;
@@ -64,16 +64,44 @@ pub fn axis_y(s: Settings) -> Axis
     axis_of(scale.on, p1.y, p2.y, range.min, range.max)
 }
 
-// The location of a position on its axes.
-pub fn located_on(x: Axis, y: Axis, p: Position) -> Point
-    requires { ⌜ Locatable x (p .x) × Locatable y (p .y) ⌝ }
-    ensures { λ r. ⌜ r ≡ P.point (locationOf x (p .x)) (locationOf y (p .y)) ⌝ }
+pub fn limits_of(s: Settings) -> Rect
+    requires { ⌜ ValidSettings s ⌝ }
+    ensures { λ r. ⌜ r ≡ P.limits s ⌝ }
+{
+    let hard = s.hard;
+    let window = s.window;
+    let area = window.area;
+    limits(hard, window.set, area, s.turn)
+}
+
+pub fn frame_of(s: Settings) -> Frame
+    requires { ⌜ ValidSettings s ⌝ }
+    ensures { λ r. ⌜ r ≡ frameOf s ⌝ }
+{
+    let x = axis_x(s);
+    let y = axis_y(s);
+    let rows = rows_of(s.turn);
+    let limits = limits_of(s);
+    Frame {
+        x: x,
+        y: y,
+        rows: rows,
+        limits: limits,
+    }
+}
+
+// The location of a position, by a frame that is at hand.
+pub fn located_in(f: Frame, p: Position) -> Point
+    requires { ⌜ Locatable (f .x) (p .x) × Locatable (f .y) (p .y) ⌝ }
+    ensures { λ r. ⌜ r ≡ locationIn f p ⌝ }
 {
     let px = p.x;
     let py = p.y;
-    let across = location(x, px);
-    let up = location(y, py);
-    Point { x: across, y: up }
+    let across = f.x;
+    let up = f.y;
+    let x = location(across, px);
+    let y = location(up, py);
+    Point { x: x, y: y }
 }
 
 // The location of a position.
@@ -81,7 +109,11 @@ pub fn located(s: Settings, p: Position) -> Point
     requires { ⌜ ValidSettings s × LocatablePosition s p ⌝ }
     ensures { λ r. ⌜ r ≡ P.location s p ⌝ }
 {
-    located_on(axis_x(s), axis_y(s), p)
+    let px = p.x;
+    let py = p.y;
+    let x = location(axis_x(s), px);
+    let y = location(axis_y(s), py);
+    Point { x: x, y: y }
 }
 
 pub fn reachable(p: Point) -> bool
@@ -145,30 +177,4 @@ pub fn page_point(s: Settings, p: Position) -> Point
     ensures { λ r. ⌜ r ≡ P.pagePoint s p ⌝ }
 {
     turned(located(s, p), s.turn)
-}
-
-pub fn limits_of(s: Settings) -> Rect
-    requires { ⌜ ValidSettings s ⌝ }
-    ensures { λ r. ⌜ r ≡ P.limits s ⌝ }
-{
-    let hard = s.hard;
-    let window = s.window;
-    let area = window.area;
-    limits(hard, window.set, area, s.turn)
-}
-
-pub fn frame_of(s: Settings) -> Frame
-    requires { ⌜ ValidSettings s ⌝ }
-    ensures { λ r. ⌜ r ≡ frameOf s ⌝ }
-{
-    let x = axis_x(s);
-    let y = axis_y(s);
-    let rows = rows_of(s.turn);
-    let limits = limits_of(s);
-    Frame {
-        x: x,
-        y: y,
-        rows: rows,
-        limits: limits,
-    }
 }

@@ -15,13 +15,13 @@ moved-requires c κs = search needs
 paints-requires : tie.Need-paints-requires
 paints-requires c κs = search needs
 
-located-on-requires : tie.Need-located-on-requires
-located-on-requires c κs = let s : tie.Start = search in hand-locatable (s .pre .0)
+located-in-requires : tie.Need-located-in-requires
+located-in-requires c κs = let s : tie.Start = search in hand-locatable (s .pre .0)
 
 turned-by-requires : tie.Need-turned-by-requires
 turned-by-requires c κs =
     let s : tie.Start = search in
-    (frame-rows (s .pre .0), subst SmallPoint (sym (c .located-on .ensures)) (hand-near (s .pre .0)))
+    (frame-rows (s .pre .0), subst SmallPoint (sym (c .located-in .ensures)) (hand-near (s .pre .0)))
 
 turned-by-requires-2 : tie.Need-turned-by-requires-2
 turned-by-requires-2 c κs = let s : tie.Start = search in (frame-rows (s .pre .0), s .pre .1)
@@ -32,7 +32,7 @@ carried-out-requires c κs = search needs
 returns : tie.Need-returns
 unfolding moveTo inked
 returns c =
-    let l : tie.After-located-on = search in
+    let l : tie.After-located-in = search in
     let u : tie.Then2 = search in
     let t = u .before .before in
     let m = t .before .before in
@@ -40,7 +40,7 @@ returns c =
     let f = k .args .f in
     let from = k .args .h .position in
     λ s e q.
-    let start = c .before .before .turned-by .ensures ∙ ap (turnedBy (f .rows)) (l .located-on .ensures ∙ location-in s from e) ∙ page-in s from e in
+    let start = c .before .before .turned-by .ensures ∙ ap (turnedBy (f .rows)) (l .located-in .ensures ∙ location-in s from e) ∙ page-in s from e in
     let end = c .before .turned-by2 .ensures ∙ ap (turnedBy (f .rows)) q ∙ page-in s (k .args .p) e in
     c .carried-out .ensures s
     ∙ simp (m .moved .ensures, start, end, t .if1 .taken, ← u .before .paints .ensures, u .if2 .taken) refl
@@ -72,7 +72,7 @@ move-to-spec =
     (tie.spec
     moved-requires
     paints-requires
-    located-on-requires
+    located-in-requires
     turned-by-requires
     turned-by-requires-2
     carried-out-requires

@@ -15,8 +15,8 @@ aimed-requires c κs =
     let a = frame-axes w in
     ((a .0, a .1, k .pre .1), placed-offset (w .core .settings) (w .core .position))
 
-located-on-requires : tie.Need-located-on-requires
-located-on-requires c κs =
+located-in-requires : tie.Need-located-in-requires
+located-in-requires c κs =
     let k : tie.Start = search in
     let w = k .pre .0 in
     aim-locatable w (k .pre .1) (c .aimed .ensures (w .settings) (k .args .g) (w .frame))
@@ -32,10 +32,10 @@ unfolding pairRule goTo
 returns c =
     let k : tie.Start = search in
     let a : tie.After-aimed = search in
-    let l : tie.After-located-on = search in
+    let l : tie.After-located-in = search in
     let t : tie.Then1 = search in
     λ s e.
-    let to = l .located-on .ensures ∙ location-in s (a .aimed .result) e in
+    let to = l .located-in .ensures ∙ location-in s (a .aimed .result) e in
     c .store-point .ensures s e to
     ∙ simp (← a .aimed .ensures s (k .args .g) e, ← to, ← t .before .reachable .ensures, t .if1 .taken, c .before .if2 .taken) refl
 
@@ -50,10 +50,10 @@ unfolding pairRule goTo
 returns-2 c =
     let k : tie.Start = search in
     let a : tie.After-aimed = search in
-    let l : tie.After-located-on = search in
+    let l : tie.After-located-in = search in
     let t : tie.Then1 = search in
     λ s e.
-    let to = l .located-on .ensures ∙ location-in s (a .aimed .result) e in
+    let to = l .located-in .ensures ∙ location-in s (a .aimed .result) e in
     c .move-to .ensures s e to
     ∙ simp (← a .aimed .ensures s (k .args .g) e, ← to, ← t .before .reachable .ensures, t .if1 .taken, c .before .if2 .left) refl
 
@@ -65,9 +65,9 @@ unfolding pairRule goTo
 returns-3 c =
     let k : tie.Start = search in
     let a : tie.After-aimed = search in
-    let l : tie.After-located-on = search in
+    let l : tie.After-located-in = search in
     λ s e.
-    let to = l .located-on .ensures ∙ location-in s (a .aimed .result) e in
+    let to = l .located-in .ensures ∙ location-in s (a .aimed .result) e in
     c .refused .ensures s
     ∙ simp (← a .aimed .ensures s (k .args .g) e, ← to, ← c .before .before .reachable .ensures, c .before .if1 .left) refl
 
@@ -76,7 +76,7 @@ pair-spec =
     tie.close
     (tie.spec
     aimed-requires
-    located-on-requires
+    located-in-requires
     reachable-requires
     store-point-requires
     returns

@@ -53,8 +53,8 @@ returns c =
     )
     refl
 
-located-on-requires : tie.Need-located-on-requires
-located-on-requires c κs = let k : tie.After-point-cost = search in hand-locatable (start k .pre)
+located-in-requires : tie.Need-located-in-requires
+located-in-requires c κs = let k : tie.After-point-cost = search in hand-locatable (start k .pre)
 
 carried-out-requires-2 : tie.Need-carried-out-requires-2
 carried-out-requires-2 c κs = search needs
@@ -68,7 +68,7 @@ returns-2 c =
     let m = l .before in
     let b = m .before in
     λ s e q.
-    let from = c .before .located-on .ensures ∙ location-in s (start k .args .h .position) e in
+    let from = c .before .located-in .ensures ∙ location-in s (start k .args .h .position) e in
     c .carried-out2 .ensures s
     ∙ simp (
       n .if2 .left,
@@ -100,7 +100,7 @@ store-point-spec =
     longer-requires
     carried-out-requires
     returns
-    located-on-requires
+    located-in-requires
     carried-out-requires-2
     returns-2
     refused-requires

@@ -1,10 +1,10 @@
--- The proof of `located_on`: axis by axis.
+-- The proof of `located_in`: axis by axis.
 use borrow.Author.Needs.{needs}
 use mathlib.Core.Path.{_∙_}
 use mir.Syntax.{w64}
 use Rattle.exact.specs.Fit.{got}
-use Rattle.instructions.proofs.places.located_on.Statement.{statement}
-use Rattle.instructions.proofs.places.located_on.Tie as tie
+use Rattle.instructions.proofs.places.located_in.Statement.{statement}
+use Rattle.instructions.proofs.places.located_in.Tie as tie
 
 location-requires : tie.Need-location-requires
 location-requires c κs = search needs
@@ -19,5 +19,5 @@ returns c =
     let y = got w64 (c .location2 .ok) ∙ c .location2 .ensures in
     λ i. record { x = x i; y = y i }
 
-pub located-on-spec : {M : Type 1} → statement M
-located-on-spec = tie.close (tie.spec location-requires location-requires-2 returns)
+pub located-in-spec : {M : Type 1} → statement M
+located-in-spec = tie.close (tie.spec location-requires location-requires-2 returns)
