@@ -1,0 +1,43 @@
+//! Prints the strokes of standard input, as the program strokes does: pen, x0, y0, x1, y1 a line, or
+//! E, number, byte counted from 1.
+
+use std::io::{self, BufWriter, Read, Write};
+use vutaroi::{Machine, Mark};
+
+const BLOCK: usize = 65_536;
+
+fn main() -> io::Result<()> {
+    let mut input = io::stdin().lock();
+    let mut output = BufWriter::new(io::stdout().lock());
+    let (mut machine, _) = Machine::fresh(-10000, -7000, 10000, 7000);
+    let mut block = vec![0; BLOCK];
+    let mut marks = vec![Mark::default(); 4096];
+    let mut before = 0;
+    loop {
+        let got = input.read(&mut block)?;
+        if got == 0 {
+            return output.flush();
+        }
+        let mut at = 0;
+        loop {
+            let fed = machine.plot(&block[at..got], &mut marks);
+            for mark in &marks[..fed.stored] {
+                print(&mut output, mark, before + at)?;
+            }
+            at += fed.taken;
+            if fed.number == 0 {
+                break;
+            }
+        }
+        before += got;
+    }
+}
+
+/// The line of a mark, made by bytes that come after as many as `before`.
+fn print(output: &mut impl Write, mark: &Mark, before: usize) -> io::Result<()> {
+    if let Some(r) = mark.as_refusal() {
+        return writeln!(output, "E {} {}", r.number, before + r.byte);
+    }
+    let [pen, x0, y0, x1, y1] = mark.numbers;
+    writeln!(output, "{pen} {x0} {y0} {x1} {y1}")
+}

@@ -1,0 +1,155 @@
+//! An HP-GL machine for painting rink lines: bytes in, strokes out.
+//!
+//! A safe wrapper of the proved library `libvutaroi.a`. Each method is one call of it; the library's
+//! contracts say what a call does (README.md: what crosses the boundary, and what is not proved
+//! there). Numbers are those of document 01, 0 for none.
+//!
+//! ```no_run
+//! use vutaroi::{Machine, Mark};
+//!
+//! let (mut machine, _) = Machine::fresh(-10000, -7000, 10000, 7000);
+//! let mut marks = [Mark::default(); 64];
+//! let fed = machine.plot(b"IN;SP1;PA0,0;PD100,50;", &mut marks);
+//! for mark in &marks[..fed.stored] {
+//!     println!("{mark:?}");
+//! }
+//! ```
+
+mod calls;
+
+use calls::STATE_NUMBERS;
+
+/// The machine. It comes only from [`Machine::fresh`], and only the calls change it.
+#[derive(Clone)]
+pub struct Machine {
+    state: [i64; STATE_NUMBERS],
+}
+
+/// A stroke: the pen and both ends, in plotter units on the page.
+#[repr(C)]
+#[derive(Clone, Copy, Debug, Default, PartialEq, Eq, Hash)]
+pub struct Stroke {
+    /// The pen, 1 to 8.
+    pub pen: i64,
+    /// Where the stroke begins.
+    pub x0: i64,
+    /// Where the stroke begins.
+    pub y0: i64,
+    /// Where the stroke ends.
+    pub x1: i64,
+    /// Where the stroke ends.
+    pub y1: i64,
+}
+
+/// A refused byte.
+#[derive(Clone, Copy, Debug, PartialEq, Eq, Hash)]
+pub struct Refusal {
+    /// Document 01's number of the cause.
+    pub number: u8,
+    /// The place of the byte among those of the call, counted from 1.
+    pub byte: usize,
+}
+
+/// A record of [`Machine::plot`]: a stroke or a refusal, as five numbers.
+#[repr(C)]
+#[derive(Clone, Copy, Debug, Default, PartialEq, Eq, Hash)]
+pub struct Mark {
+    /// Pen, x0, y0, x1, y1 of a stroke; or 0, number, place, 0, 0 of a refusal, which has no pen.
+    pub numbers: [i64; 5],
+}
+
+/// What [`Machine::draw`] answers.
+#[derive(Clone, Copy, Debug, PartialEq, Eq, Hash)]
+pub enum Drawn {
+    /// No segment waited.
+    Idle,
+    /// A segment was worked off, and nothing of it shows.
+    Hidden,
+    /// A segment was worked off: paint this.
+    Stroke(Stroke),
+}
+
+/// What [`Machine::look`] answers.
+#[derive(Clone, Copy, Debug, PartialEq, Eq, Hash)]
+pub struct Look {
+    /// The location, not turned.
+    pub x: i64,
+    /// The location, not turned.
+    pub y: i64,
+    /// The pen, 0 to 8.
+    pub pen: i64,
+    /// Whether it is down.
+    pub down: bool,
+    /// The bytes of the polygon.
+    pub bytes: i64,
+}
+
+/// How far [`Machine::feed`] or [`Machine::plot`] went.
+#[derive(Clone, Copy, Debug, PartialEq, Eq, Hash)]
+pub struct Fed {
+    /// The bytes that were taken.
+    pub taken: usize,
+    /// The records that were stored, from the first on; the others keep their content.
+    pub stored: usize,
+    /// The number of the last byte, if it was refused; 21 if the list was full; 0 if all was done.
+    pub number: u8,
+}
+
+impl Mark {
+    /// The stroke, if it is one.
+    pub fn as_stroke(&self) -> Option<Stroke> {
+        let [pen, x0, y0, x1, y1] = self.numbers;
+        (pen != 0).then_some(Stroke { pen, x0, y0, x1, y1 })
+    }
+
+    /// The refusal, if it is one.
+    pub fn as_refusal(&self) -> Option<Refusal> {
+        let [pen, number, byte, _, _] = self.numbers;
+        (pen == 0).then_some(Refusal { number: number as u8, byte: byte as usize })
+    }
+}
+
+impl Machine {
+    /// A machine with hard limits, each -32768 to 32767, `left < right`, `bottom < top`. Others give
+    /// the number 10 and a machine with the limits 0, 0, 1, 1.
+    pub fn fresh(left: i64, bottom: i64, right: i64, top: i64) -> (Machine, u8) {
+        let mut state = [0; STATE_NUMBERS];
+        let number = calls::fresh(left, bottom, right, top, &mut state);
+        (Machine { state }, number)
+    }
+
+    /// Takes one byte. While a segment waits the number is 20, and nothing changes.
+    pub fn take(&mut self, byte: u8) -> u8 {
+        calls::take(&mut self.state, byte)
+    }
+
+    /// Works off one waiting segment.
+    pub fn draw(&mut self) -> Drawn {
+        let mut stroke = Stroke::default();
+        match calls::draw(&mut self.state, &mut stroke) {
+            0 => Drawn::Idle,
+            1 => Drawn::Hidden,
+            _ => Drawn::Stroke(stroke),
+        }
+    }
+
+    /// Where the carriage is, and with what. It changes nothing.
+    pub fn look(&self) -> Look {
+        let [x, y, pen, down, bytes] = calls::look(&self.state);
+        Look { x, y, pen, down: down != 0, bytes }
+    }
+
+    /// Bytes in, strokes out: draws while a segment waits and a record is free, else takes the next
+    /// byte. Stops after a byte that is refused, which counts as taken; with 21 where a segment waits
+    /// and no record is free; or with 0 where all bytes are taken and no segment waits.
+    pub fn feed(&mut self, bytes: &[u8], strokes: &mut [Stroke]) -> Fed {
+        calls::feed(&mut self.state, bytes, strokes)
+    }
+
+    /// As [`Machine::feed`], but a refused byte is stored as a mark among the strokes, and the bytes
+    /// after it are taken. A byte is taken only while a record is free, since it may be refused:
+    /// without one the number is 21.
+    pub fn plot(&mut self, bytes: &[u8], marks: &mut [Mark]) -> Fed {
+        calls::plot(&mut self.state, bytes, marks)
+    }
+}
