@@ -19,3 +19,4 @@ pub mod CauseLaws
 pub mod SizeLaws
 pub mod InsideLaws
 pub mod NextLaws
+pub mod Saved

@@ -1,11 +1,12 @@
 -- Every byte keeps the sizes of what the reader holds and hands on.
 use mathlib.Core.Path.{_≡_, refl}
-use mathlib.Core.Bool.{Bool, true, false, cond}
-use Prim.Native.Nat.{ℕ, zero, suc, _+_, _≤_, _<_}
+use mathlib.Core.Bool.{Bool, true, false, cond, _||_}
+use Prim.Native.Nat.{ℕ, zero, suc, _+_, _*_, _-_, _≤_, _<_}
+use Prim.Native.Char.{code}
 use native.Mathlib.Omega.{arith}
-use lib.Dec.{leb, eqb, lit<, lit≤}
+use lib.Dec.{leb, ltb, eqb, lit<, lit≤}
 use lib.IntN.{ℤ, pos}
-use borrow.Author.Tests.{leb-true}
+use borrow.Author.Tests.{leb-true, leb-false, ltb-false}
 use Rattle.exact.specs.Fit.{Bd}
 use Rattle.reader.specs.declared.bytes.Class.{Class}
 use Rattle.reader.specs.declared.bytes.Class.the-variants.{Blank, Semicolon, Letter, Digit, Sign, Point, Other}
@@ -22,14 +23,14 @@ use Rattle.reader.specs.declared.Closed.the-variants.{Kept, Complete, Fa
 use Rattle.reader.specs.declared.Mode.{Mode}
 use Rattle.reader.specs.declared.Mode.the-variants.{Idle, First, Parameters, InNumber, PassOver, Label}
 use Rattle.reader.specs.declared.Reader.{Reader}
-use Rattle.reader.specs.Bytes.{classOf}
-use Rattle.reader.specs.Number.{bottom, pointOf, tenThousandths, signedOf, largestOf, finishOf}
+use Rattle.reader.specs.Bytes.{case, lowClassOf, classOf}
+use Rattle.reader.specs.Inside.{inside}
+use Rattle.reader.specs.Number.{places, bottom, startOf, pointOf, countedOf, digitOf, tenThousandths, signedOf, largestOf, finishOf}
 use Rattle.reader.specs.Table.{rows, namedOf, findFrom, findOf, countFits, takesPairs, hasRoom, isLabel}
-use Rattle.reader.specs.Sizes.{Small, Readable, SmallPair, SoundStep}
+use Rattle.reader.specs.Sizes.{Small, SmallMode, SmallNumber, Readable, SmallPair, SoundStep}
 use Rattle.reader.specs.NumeralLaws.{largest-le}
 use Rattle.reader.specs.Reader.{noneOf, storedOf, pairOf, freshReader, goOnOf, quietOf, refuseOf, beginOf, openOf, withNumbers}
 use Rattle.reader.specs.Step.{foundOf, nameOf, keptOf, judgedOf, closedOf, endOf, completeOf, passedMode, endingOf, afterNumberOf, closeWith, closeOf, idleOf, firstOf, parametersOf, inNumberOf, passOverOf, labelOf, byMode, stepOf, passedOver}
-use Rattle.reader.specs.Inside.{inside}
 
 -- A number that has ended.
 signed-small : (s : Bool) (m : ℕ) → m ≤ bottom → Bd (signedOf s m) bottom
@@ -92,50 +93,59 @@ module _ (r : Reader) (h : Readable r) where
       go (Good v) b = kept-sound v b
       go Bad b = tt
 
-  quiet-sound : (m : Mode) → SoundStep (quietOf r m)
+  quiet-sound : (m : Mode) → SmallMode m → SoundStep (quietOf r m)
   unfolding quietOf goOnOf
-  quiet-sound m = record { reader = record { op = h .op; numbers = h .numbers }; event = tt }
+  quiet-sound m k = record { reader = record { mode = k; op = h .op; numbers = h .numbers; number = h .number }; event = tt }
 
-  refuse-sound : (m : Mode) (n : ℕ) → SoundStep (refuseOf r m n)
+  refuse-sound : (m : Mode) → SmallMode m → (n : ℕ) → SoundStep (refuseOf r m n)
   unfolding refuseOf goOnOf
-  refuse-sound m n = record { reader = record { op = h .op; numbers = h .numbers }; event = tt }
+  refuse-sound m k n = record { reader = record { mode = k; op = h .op; numbers = h .numbers; number = h .number }; event = tt }
 
-  open-sound : (n : Number) → SoundStep (openOf r n)
+  open-sound : (n : Number) → SmallNumber n → SoundStep (openOf r n)
   unfolding openOf
-  open-sound n = record { reader = record { op = h .op; numbers = h .numbers }; event = tt }
+  open-sound n k = record { reader = record { mode = tt; op = h .op; numbers = h .numbers; number = k }; event = tt }
 
-  pair-sound : (m : Mode) (p : Coordinates) → SmallPair p → SoundStep (completeOf r m p)
+  pair-sound : (m : Mode) → SmallMode m → (p : Coordinates) → SmallPair p → SoundStep (completeOf r m p)
   unfolding completeOf goOnOf withNumbers
-  pair-sound m p s = record { reader = record { op = h .op; numbers = none-small }; event = s }
+  pair-sound m k p s = record { reader = record { mode = k; op = h .op; numbers = none-small; number = h .number }; event = s }
 
-end-sound : (r : Reader) → Readable r → (m : Mode) → SoundStep (endOf r m)
+end-sound : (r : Reader) → Readable r → (m : Mode) → SmallMode m → SoundStep (endOf r m)
 unfolding endOf goOnOf
-end-sound r h m = go (countFits (r .op) (r .numbers .count)) refl
+end-sound r h m k = go (countFits (r .op) (r .numbers .count)) refl
   where
     go : (t : Bool) → countFits (r .op) (r .numbers .count) ≡ t → SoundStep (cond t (goOnOf r m (Ended (r .op) (r .numbers))) (refuseOf r m 2))
-    go true e = record { reader = record { op = h .op; numbers = h .numbers }; event = record { listed = h .op; count = e; numbers = h .numbers } }
-    go false e = refuse-sound r h m 2
+    go true e = record { reader = record { mode = k; op = h .op; numbers = h .numbers; number = h .number }; event = record { listed = h .op; count = e; numbers = h .numbers } }
+    go false e = refuse-sound r h m k 2
 
 with-readable : (r : Reader) → Readable r → (ns : Numbers) → Small ns → Readable (withNumbers r ns)
 unfolding withNumbers
-with-readable r h ns s = record { op = h .op; numbers = s }
+with-readable r h ns s = record { mode = h .mode; op = h .op; numbers = s; number = h .number }
 
-after-number-sound : (r : Reader) → Readable r → (m : Mode) → SoundStep (afterNumberOf r m)
+passed-small : (m : Mode) → SmallMode m → SmallMode (passedMode m)
+unfolding passedMode inside
+passed-small Idle h = tt
+passed-small (First a) h = h
+passed-small Parameters h = tt
+passed-small InNumber h = tt
+passed-small PassOver h = tt
+passed-small Label h = tt
+
+after-number-sound : (r : Reader) → Readable r → (m : Mode) → SmallMode m → SoundStep (afterNumberOf r m)
 unfolding afterNumberOf
-after-number-sound r h m = go (inside m)
+after-number-sound r h m k = go (inside m)
   where
     go : (t : Bool) → SoundStep (cond t (quietOf r m) (endOf r m))
-    go true = quiet-sound r h m
-    go false = end-sound r h m
+    go true = quiet-sound r h m k
+    go false = end-sound r h m k
 
-close-sound : (r : Reader) → Readable r → (m : Mode) → SoundStep (closeOf r m)
+close-sound : (r : Reader) → Readable r → (m : Mode) → SmallMode m → SoundStep (closeOf r m)
 unfolding closeOf closeWith SoundClosed
-close-sound r h m = go (closedOf r) (closed-sound r h)
+close-sound r h m k = go (closedOf r) (closed-sound r h)
   where
     go : (c : Closed) → SoundClosed c → SoundStep (closeWith r m c)
-    go (Kept ns) s = after-number-sound (withNumbers r ns) (with-readable r h ns s) m
-    go (Complete p) s = pair-sound r h m p s
-    go (Faulty n) s = refuse-sound r h (passedMode m) n
+    go (Kept ns) s = after-number-sound (withNumbers r ns) (with-readable r h ns s) m k
+    go (Complete p) s = pair-sound r h m k p s
+    go (Faulty n) s = refuse-sound r h (passedMode m) (passed-small m k) n
 
 -- What is found stands in the table.
 Placed : ℕ → Found → Type 0
@@ -160,79 +170,138 @@ unfolding nameOf findOf foundOf beginOf Placed
 name-sound r h a b = go (isLabel a b) (findOf a b) (find-placed a b 0 rows)
   where
     go : (t : Bool) (f : Found) → Placed rows f → SoundStep (cond t (refuseOf r Label 1) (foundOf r f))
-    go true f p = refuse-sound r h Label 1
-    go false (At op) p = record { reader = record { op = p; numbers = none-small }; event = p }
-    go false Nowhere p = refuse-sound r h PassOver 1
+    go true f p = refuse-sound r h Label tt 1
+    go false (At op) p = record { reader = record { mode = tt; op = p; numbers = none-small; number = h .number }; event = p }
+    go false Nowhere p = refuse-sound r h PassOver tt 1
+
+-- A letter is a byte, and a digit below ten, whatever the byte.
+abbrev SmallClass : Class → Type 0
+SmallClass Blank = Unit {0}
+SmallClass Semicolon = Unit {0}
+SmallClass (Letter l) = l ≤ 255
+SmallClass (Digit d) = d ≤ 9
+SmallClass (Sign s) = Unit {0}
+SmallClass Point = Unit {0}
+SmallClass Other = Unit {0}
+
+low-small : (b : ℕ) → SmallClass (lowClassOf b)
+unfolding lowClassOf
+low-small b = go (eqb b 9 || eqb b 10 || eqb b 13 || eqb b 32 || eqb b (code ",")) (eqb b (code "+")) (eqb b (code "-")) (eqb b (code "."))
+  where
+    go : (s t u v : Bool) → SmallClass (cond s Blank (cond t (Sign false) (cond u (Sign true) (cond v Point Other))))
+    go true t u v = tt
+    go false true u v = tt
+    go false false true v = tt
+    go false false false true = tt
+    go false false false false = tt
+
+class-small : (b : ℕ) → SmallClass (classOf b)
+unfolding classOf
+class-small b = go (ltb b (code "0")) (leb b (code "9")) (eqb b (code ";")) (ltb b (code "A")) (leb b (code "Z")) (ltb b (code "a")) (leb b (code "z")) refl refl refl
+  where
+    go : (s t u v w x y : Bool) → leb b (code "9") ≡ t → leb b (code "Z") ≡ w → leb b (code "z") ≡ y →
+        SmallClass (cond s (lowClassOf b) (cond t (Digit (b - code "0")) (cond u Semicolon (cond v Other (cond w (Letter b) (cond x Other (cond y (Letter (b - case)) Other)))))))
+    go true t u v w x y d k l = low-small b
+    go false true u v w x y d k l = omega (arith, leb-true b (code "9") d)
+    go false false true v w x y d k l = tt
+    go false false false true w x y d k l = tt
+    go false false false false true x y d k l = omega (arith, leb-true b (code "Z") k)
+    go false false false false false true y d k l = tt
+    go false false false false false false true d k l = omega (arith, leb-true b (code "z") l)
+    go false false false false false false false d k l = tt
+
+-- A number as it is read.
+start-small : (s : Bool) → SmallNumber (startOf s)
+unfolding startOf
+start-small s = record { decimals = lit≤ tt; magnitude = lit≤ tt }
+
+point-small : (n : Number) → SmallNumber n → SmallNumber (pointOf n)
+unfolding pointOf
+point-small n h = record { decimals = h .decimals; magnitude = h .magnitude }
+
+digit-small : (n : Number) (d : ℕ) → SmallNumber n → d ≤ 9 → SmallNumber (digitOf n d)
+unfolding digitOf countedOf
+digit-small n d h k = go (leb places (n .decimals)) (ltb bottom (n .magnitude)) (n .pointed) refl refl
+  where
+    as-it-was : SmallNumber (countedOf n (n .decimals) (n .magnitude))
+    as-it-was = record { decimals = h .decimals; magnitude = h .magnitude }
+
+    go : (s t u : Bool) → leb places (n .decimals) ≡ s → ltb bottom (n .magnitude) ≡ t →
+        SmallNumber (cond s (countedOf n (n .decimals) (n .magnitude)) (cond t (countedOf n (n .decimals) (n .magnitude)) (cond u (countedOf n (n .decimals + 1) (n .magnitude * 10 + d)) (countedOf n (n .decimals) (n .magnitude * 10 + d)))))
+    go true t u e f = as-it-was
+    go false true u e f = as-it-was
+    go false false true e f = record { decimals = omega (arith, leb-false places (n .decimals) e); magnitude = omega (arith, ltb-false bottom (n .magnitude) f) }
+    go false false false e f = record { decimals = h .decimals; magnitude = omega (arith, ltb-false bottom (n .magnitude) f) }
 
 -- The rows of the table.
 module _ (r : Reader) (h : Readable r) where
-  abbrev quiet : (m : Mode) → SoundStep (quietOf r m)
-  quiet m = quiet-sound r h m
+  abbrev quiet : (m : Mode) → SmallMode m → SoundStep (quietOf r m)
+  quiet m k = quiet-sound r h m k
 
-  abbrev refuse : (m : Mode) (n : ℕ) → SoundStep (refuseOf r m n)
-  refuse m n = refuse-sound r h m n
+  abbrev refuse : (m : Mode) → SmallMode m → (n : ℕ) → SoundStep (refuseOf r m n)
+  refuse m k n = refuse-sound r h m k n
 
-  idle-sound : (c : Class) → SoundStep (idleOf r c)
+  idle-sound : (c : Class) → SmallClass c → SoundStep (idleOf r c)
   unfolding idleOf
-  idle-sound Blank = quiet Idle
-  idle-sound Semicolon = quiet Idle
-  idle-sound (Letter l) = quiet (First l)
-  idle-sound (Digit d) = refuse PassOver 1
-  idle-sound (Sign s) = refuse PassOver 1
-  idle-sound Point = refuse PassOver 1
-  idle-sound Other = refuse PassOver 1
+  idle-sound Blank k = quiet Idle tt
+  idle-sound Semicolon k = quiet Idle tt
+  idle-sound (Letter l) k = quiet (First l) k
+  idle-sound (Digit d) k = refuse PassOver tt 1
+  idle-sound (Sign s) k = refuse PassOver tt 1
+  idle-sound Point k = refuse PassOver tt 1
+  idle-sound Other k = refuse PassOver tt 1
 
-  first-sound : (a : ℕ) (c : Class) → SoundStep (firstOf r a c)
+  first-sound : (a : ℕ) (c : Class) → SmallClass c → SoundStep (firstOf r a c)
   unfolding firstOf
-  first-sound a Blank = refuse PassOver 1
-  first-sound a Semicolon = refuse Idle 1
-  first-sound a (Letter b) = name-sound r h a b
-  first-sound a (Digit d) = refuse PassOver 1
-  first-sound a (Sign s) = refuse PassOver 1
-  first-sound a Point = refuse PassOver 1
-  first-sound a Other = refuse PassOver 1
+  first-sound a Blank k = refuse PassOver tt 1
+  first-sound a Semicolon k = refuse Idle tt 1
+  first-sound a (Letter b) k = name-sound r h a b
+  first-sound a (Digit d) k = refuse PassOver tt 1
+  first-sound a (Sign s) k = refuse PassOver tt 1
+  first-sound a Point k = refuse PassOver tt 1
+  first-sound a Other k = refuse PassOver tt 1
 
-  parameters-sound : (c : Class) → SoundStep (parametersOf r c)
+  parameters-sound : (c : Class) → SmallClass c → SoundStep (parametersOf r c)
   unfolding parametersOf
-  parameters-sound Blank = quiet Parameters
-  parameters-sound Semicolon = end-sound r h Idle
-  parameters-sound (Letter l) = end-sound r h (First l)
-  parameters-sound (Digit d) = open-sound r h _
-  parameters-sound (Sign s) = open-sound r h _
-  parameters-sound Point = open-sound r h _
-  parameters-sound Other = refuse PassOver 1
+  parameters-sound Blank k = quiet Parameters tt
+  parameters-sound Semicolon k = end-sound r h Idle tt
+  parameters-sound (Letter l) k = end-sound r h (First l) k
+  parameters-sound (Digit d) k = open-sound r h _ (digit-small _ d (start-small false) k)
+  parameters-sound (Sign s) k = open-sound r h _ (start-small s)
+  parameters-sound Point k = open-sound r h _ (point-small _ (start-small false))
+  parameters-sound Other k = refuse PassOver tt 1
 
-  in-number-sound : (c : Class) → SoundStep (inNumberOf r c)
-  unfolding inNumberOf
-  in-number-sound Blank = close-sound r h (endingOf Blank)
-  in-number-sound Semicolon = close-sound r h (endingOf Semicolon)
-  in-number-sound (Letter l) = close-sound r h (endingOf (Letter l))
-  in-number-sound (Digit d) = open-sound r h _
-  in-number-sound (Sign s) = refuse PassOver 3
-  in-number-sound Point = go (r .number .pointed)
+  in-number-sound : (c : Class) → SmallClass c → SoundStep (inNumberOf r c)
+  unfolding inNumberOf endingOf
+  in-number-sound Blank k = close-sound r h (endingOf Blank) tt
+  in-number-sound Semicolon k = close-sound r h (endingOf Semicolon) tt
+  in-number-sound (Letter l) k = close-sound r h (endingOf (Letter l)) k
+  in-number-sound (Digit d) k = open-sound r h _ (digit-small _ d (h .number) k)
+  in-number-sound (Sign s) k = refuse PassOver tt 3
+  in-number-sound Point k = go (r .number .pointed)
     where
       go : (t : Bool) → SoundStep (cond t (refuseOf r PassOver 3) (openOf r (pointOf (r .number))))
-      go true = refuse PassOver 3
-      go false = open-sound r h _
-  in-number-sound Other = refuse PassOver 1
+      go true = refuse PassOver tt 3
+      go false = open-sound r h _ (point-small _ (h .number))
+  in-number-sound Other k = refuse PassOver tt 1
 
-  pass-over-sound : (c : Class) → SoundStep (passOverOf r c)
+  pass-over-sound : (c : Class) → SmallClass c → SoundStep (passOverOf r c)
   unfolding passOverOf
-  pass-over-sound Blank = quiet PassOver
-  pass-over-sound Semicolon = quiet Idle
-  pass-over-sound (Letter l) = quiet (First l)
-  pass-over-sound (Digit d) = quiet PassOver
-  pass-over-sound (Sign s) = quiet PassOver
-  pass-over-sound Point = quiet PassOver
-  pass-over-sound Other = quiet PassOver
+  pass-over-sound Blank k = quiet PassOver tt
+  pass-over-sound Semicolon k = quiet Idle tt
+  pass-over-sound (Letter l) k = quiet (First l) k
+  pass-over-sound (Digit d) k = quiet PassOver tt
+  pass-over-sound (Sign s) k = quiet PassOver tt
+  pass-over-sound Point k = quiet PassOver tt
+  pass-over-sound Other k = quiet PassOver tt
 
   label-sound : (b : ℕ) → SoundStep (labelOf r b)
   unfolding labelOf
   label-sound b = go (eqb b 3)
     where
       go : (t : Bool) → SoundStep (cond t (quietOf r Idle) (quietOf r Label))
-      go true = quiet Idle
-      go false = quiet Label
+      go true = quiet Idle tt
+      go false = quiet Label tt
 
   -- Every byte leaves a readable reader readable, and what it means is sound.
   pub step-sound : (b : ℕ) → SoundStep (stepOf r b)
@@ -240,17 +309,17 @@ module _ (r : Reader) (h : Readable r) where
   step-sound b = go (r .mode)
     where
       go : (m : Mode) → SoundStep (byMode r b m)
-      go Idle = idle-sound (classOf b)
-      go (First a) = first-sound a (classOf b)
-      go Parameters = parameters-sound (classOf b)
-      go InNumber = in-number-sound (classOf b)
-      go PassOver = pass-over-sound (classOf b)
+      go Idle = idle-sound (classOf b) (class-small b)
+      go (First a) = first-sound a (classOf b) (class-small b)
+      go Parameters = parameters-sound (classOf b) (class-small b)
+      go InNumber = in-number-sound (classOf b) (class-small b)
+      go PassOver = pass-over-sound (classOf b) (class-small b)
       go Label = label-sound b
 
   pub passed-over-readable : Readable (passedOver r)
   unfolding passedOver
-  passed-over-readable = record { op = h .op; numbers = h .numbers }
+  passed-over-readable = record { mode = passed-small (r .mode) (h .mode); op = h .op; numbers = h .numbers; number = h .number }
 
 pub fresh-readable : Readable freshReader
 unfolding freshReader
-fresh-readable = record { op = lit< tt; numbers = none-small }
+fresh-readable = record { mode = tt; op = lit< tt; numbers = none-small; number = start-small false }

@@ -1,16 +1,19 @@
 -- What holds of a reader that its calls have left, and of every event. That it holds stands in Laws.
 use mathlib.Core.Path.{_≡_}
 use mathlib.Core.Bool.{Bool, true, _&&_}
-use Prim.Native.Nat.{ℕ, _≤_, _<_}
+use Prim.Native.Nat.{ℕ, _+_, _*_, _≤_, _<_}
 use lib.Dec.{T, leb}
 use Rattle.exact.specs.Fit.{Bd}
 use Rattle.reader.specs.declared.Coordinates.{Coordinates}
 use Rattle.reader.specs.declared.Numbers.{Numbers}
 use Rattle.reader.specs.declared.Event.{Event}
 use Rattle.reader.specs.declared.Event.the-variants.{Nothing, Named, Pair, Ended, Refused}
+use Rattle.reader.specs.declared.Mode.{Mode}
+use Rattle.reader.specs.declared.Mode.the-variants.{Idle, First, Parameters, InNumber, PassOver, Label}
+use Rattle.reader.specs.declared.number.Number.{Number}
 use Rattle.reader.specs.declared.Reader.{Reader}
 use Rattle.reader.specs.declared.Step.{Step}
-use Rattle.reader.specs.Number.{bottom}
+use Rattle.reader.specs.Number.{places, bottom}
 use Rattle.reader.specs.Reader.{unknown, range}
 use Rattle.reader.specs.Table.{rows, countFits}
 
@@ -33,10 +36,26 @@ pub record Small (ns : Numbers) : Type 0 where
   pub third : Bd (ns .third) bottom
   pub fourth : Bd (ns .fourth) bottom
 
+-- A first letter is a byte.
+abbrev pub SmallMode : Mode → Type 0
+SmallMode Idle = Unit {0}
+SmallMode (First a) = a ≤ 255
+SmallMode Parameters = Unit {0}
+SmallMode InNumber = Unit {0}
+SmallMode PassOver = Unit {0}
+SmallMode Label = Unit {0}
+
+-- A number as it is read: all its digits but the last are in range.
+pub record SmallNumber (n : Number) : Type 0 where
+  pub decimals : n .decimals ≤ places
+  pub magnitude : n .magnitude ≤ bottom * 10 + 9
+
 -- A reader as its calls leave it.
 pub record Readable (r : Reader) : Type 0 where
+  pub mode : SmallMode (r .mode)
   pub op : r .op < rows
   pub numbers : Small (r .numbers)
+  pub number : SmallNumber (r .number)
 
 pub record SmallPair (p : Coordinates) : Type 0 where
   pub x : Bd (p .x) bottom

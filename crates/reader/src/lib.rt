@@ -8,6 +8,7 @@ ghost use Rattle.reader.specs.Step.{nameOf, keptOf, closedOf, endOf, com
 
 mod bytes;
 mod number;
+mod saved;
 mod table;
 
 use bytes::Class;
@@ -15,6 +16,8 @@ use bytes::class_of;
 use bytes::is_digit;
 use number::Number;
 use number::Value;
+pub use saved::put_reader;
+pub use saved::reader_at;
 pub use table::CI;
 pub use table::DF;
 pub use table::EA;

@@ -2,6 +2,13 @@
 ghost use mathlib.Core.Path.{_≡_};
 ghost use Prim.Native.Nat.{_≤_};
 ghost use Rattle.reader.specs.Number.{bottom, startOf, pointOf, countedOf, digitOf, unitOf, tenThousandths, signedOf, largestOf, finishOf};
+ghost use Rattle.reader.specs.Saved.{numberRow, numberOf};
+use rows::Row;
+use rows::byte_of;
+use rows::flag_number;
+use rows::flag_of;
+use rows::whole;
+use rows::word_of;
 
 // Decimals that are kept.
 const PLACES: u8 = 4;
@@ -157,5 +164,30 @@ impl Number {
             return Value::Bad;
         }
         Value::Bad
+    }
+
+    // The number as a row, and back.
+    pub fn row(self) -> Row
+        ensures { λ r. ⌜ r ≡ numberRow self ⌝ }
+    {
+        Row {
+            a: flag_number(self.negative),
+            b: flag_number(self.filled),
+            c: flag_number(self.pointed),
+            d: whole(self.decimals as u32),
+            e: whole(self.magnitude),
+        }
+    }
+
+    pub fn of(row: Row) -> Number
+        ensures { λ r. ⌜ r ≡ numberOf row ⌝ }
+    {
+        Number {
+            negative: flag_of(row.a),
+            filled: flag_of(row.b),
+            pointed: flag_of(row.c),
+            decimals: byte_of(row.d),
+            magnitude: word_of(row.e),
+        }
     }
 }
