@@ -6,6 +6,7 @@ ghost use Rattle.hpgl.specs.Machine as M;
 ghost use Rattle.hpgl.specs.Feed.{feedFrom, laidNumbers};
 ghost use Rattle.hpgl.specs.Plot.{plotFrom, laidMarks};
 ghost use Rattle.hpgl.specs.Made.{Made};
+ghost use Rattle.saving.specs.Saved.{stateNumbers, savedOf, loadedOf};
 ghost use Rattle.machine.specs.Calls.{startedOf, takenOf, workedOf};
 ghost use Rattle.machine.specs.Run.{runOf};
 ghost use Rattle.machine.specs.Gather.{gatheredOf, plottedOf};
@@ -30,6 +31,8 @@ use instructions::settings::good_limits;
 use instructions::storing::applied;
 use instructions::storing::fresh_state;
 use instructions::storing::waiting;
+use saving::load;
+use saving::save;
 use sines::table;
 
 // A machine comes only from the calls below.
@@ -208,5 +211,24 @@ impl Machine {
     {
         let m = self.state;
         gather(m, bytes, from, numbers, true)
+    }
+
+    // Writes the machine over a lent list of numbers, as a caller in another language keeps it.
+    pub fn save(self, numbers: &mut [i64])
+        requires { ⌜ Made (self .state) × (length (now numbers) ≡ stateNumbers) ⌝ }
+        ensures { λ _. ⌜ now (numbers .exit) ≡ savedOf (self .state) ⌝ }
+    {
+        let m = self.state;
+        save(m, numbers);
+    }
+
+    // The machine that a list of numbers holds.
+    pub fn load(numbers: &[i64]) -> Machine
+        requires { ⌜ length (now numbers) ≡ stateNumbers ⌝ }
+        ensures { λ r. ⌜ r .state ≡ loadedOf (now (numbers .entry)) ⌝ }
+    {
+        Machine {
+            state: load(numbers),
+        }
     }
 }

@@ -1,0 +1,70 @@
+-- The proof of `work_across`: by its arms.
+use borrow.Author.Needs.{needs}
+use Rattle.saving.specs.Saved.{workAcross}
+use Rattle.saving.proofs.work.work_across.Statement.{statement}
+use Rattle.saving.proofs.work.work_across.Tie as tie
+
+enum-told : tie.Need-enum-told
+enum-told c = search needs
+
+blank-row-requires : tie.Need-blank-row-requires
+blank-row-requires c κs = search needs
+
+enum-told-2 : tie.Need-enum-told-2
+enum-told-2 c = search needs
+
+blank-row-requires-2 : tie.Need-blank-row-requires-2
+blank-row-requires-2 c κs = search needs
+
+enum-known-w : tie.Need-enum-known-w
+enum-known-w c = search needs
+
+across-row-requires : tie.Need-across-row-requires
+across-row-requires c κs = search needs
+
+enum-told-3 : tie.Need-enum-told-3
+enum-told-3 c = search needs
+
+blank-row-requires-3 : tie.Need-blank-row-requires-3
+blank-row-requires-3 c κs = search needs
+
+returns : tie.Need-returns
+unfolding workAcross
+returns c =
+    let e : tie.After-enum-told = search in
+    rw (e .enum-told .given .1) (c .blank-row .ensures)
+
+returns-2 : tie.Need-returns-2
+unfolding workAcross
+returns-2 c =
+    let e : tie.After-enum-told2 = search in
+    rw (e .enum-told2 .given .1) (c .blank-row2 .ensures)
+
+returns-3 : tie.Need-returns-3
+unfolding workAcross
+returns-3 c =
+    let e : tie.After-w = search in
+    rw (e .w .given .1) (c .across-row .ensures)
+
+returns-4 : tie.Need-returns-4
+unfolding workAcross
+returns-4 c =
+    let e : tie.After-enum-told3 = search in
+    rw (e .enum-told3 .given .1) (c .blank-row3 .ensures)
+
+pub work-across-spec : {M : Type 1} → statement M
+work-across-spec =
+    tie.close
+    (tie.spec
+    enum-told
+    blank-row-requires
+    enum-told-2
+    blank-row-requires-2
+    enum-known-w
+    across-row-requires
+    enum-told-3
+    blank-row-requires-3
+    returns
+    returns-2
+    returns-3
+    returns-4)

@@ -1,0 +1,241 @@
+-- Which number of a list stands for which part of a machine: rows of five, each with its place.
+use Prim.Native.Nat.{ℕ, zero, suc, _+_}
+use mathlib.Core.Bool.{Bool, cond}
+use mathlib.Core.List.{List, [], _∷_}
+use lib.Dec.{eqb}
+use lib.IntN.{ℤ, pos}
+use Rattle.rows.specs.declared.Row.{Row}
+use Rattle.rows.specs.Rows.{row, lay, rowAt, flagNumber, flagOf, placeNumber, smallOf, mostByte, mostShort}
+use Rattle.clip.specs.declared.Point.{Point}
+use Rattle.clip.specs.declared.Rect.{Rect}
+use Rattle.plane.specs.declared.circle.Centre.{Centre}
+use Rattle.plane.specs.declared.circle.Way.{Way}
+use Rattle.reader.specs.Saved.{readerThen, readerAt}
+use Rattle.hpgl.specs.declared.Position.{Position}
+use Rattle.hpgl.specs.declared.Range.{Range}
+use Rattle.hpgl.specs.declared.Scale.{Scale}
+use Rattle.hpgl.specs.declared.Window.{Window}
+use Rattle.hpgl.specs.declared.Settings.{Settings}
+use Rattle.hpgl.specs.declared.Pen.{Pen}
+use Rattle.hpgl.specs.declared.Saved.{Saved}
+use Rattle.hpgl.specs.declared.Polygon.{Polygon}
+use Rattle.hpgl.specs.declared.Carriage.{Carriage}
+use Rattle.hpgl.specs.declared.Edge.{Edge}
+use Rattle.hpgl.specs.declared.Circle.{Circle}
+use Rattle.hpgl.specs.declared.Store.{Store}
+use Rattle.hpgl.specs.declared.Work.{Work}
+use Rattle.hpgl.specs.declared.Work.the-variants.{Nothing, Line, Chords, Edges}
+use Rattle.hpgl.specs.declared.State.{State}
+use Rattle.hpgl.specs.Numbers.{mostEdges}
+
+-- 15 rows, and one for each edge
+abbrev pub stateNumbers : ℕ
+stateNumbers = 635
+
+-- ---- what a row may end with
+
+unfoldable pub flagIn : Row → Bool
+flagIn r = flagOf (r .e)
+
+unfoldable pub smallIn : Row → ℕ
+smallIn r = smallOf mostByte (r .e)
+
+-- ---- the settings, from 15 on
+
+unfoldable pub limitsRow : Rect → ℕ → Row
+limitsRow r turn = row (r .left) (r .bottom) (r .right) (r .top) (placeNumber turn)
+
+unfoldable pub cornersRow : Point → Point → Row
+cornersRow p q = row (p .x) (p .y) (q .x) (q .y) (pos 0)
+
+unfoldable pub scaleRow : Scale → Row
+scaleRow s = row (s .x .min) (s .x .max) (s .y .min) (s .y .max) (flagNumber (s .on))
+
+unfoldable pub windowRow : Window → Row
+windowRow w = row (w .area .left) (w .area .bottom) (w .area .right) (w .area .top) (flagNumber (w .set))
+
+unfoldable pub boxOf : Row → Rect
+boxOf r = record { left = r .a; bottom = r .b; right = r .c; top = r .d }
+
+unfoldable pub fromOf : Row → Point
+fromOf r = record { x = r .a; y = r .b }
+
+unfoldable pub toOf : Row → Point
+toOf r = record { x = r .c; y = r .d }
+
+unfoldable pub rangeX : Row → Range
+rangeX r = record { min = r .a; max = r .b }
+
+unfoldable pub rangeY : Row → Range
+rangeY r = record { min = r .c; max = r .d }
+
+abbrev pub settingsThen : Settings → List ℤ → List ℤ
+settingsThen s zs = lay (limitsRow (s .hard) (s .turn)) (lay (cornersRow (s .p1) (s .p2)) (lay (scaleRow (s .scale)) (lay (windowRow (s .window)) zs)))
+
+unfoldable pub settingsNumbers : Settings → List ℤ
+settingsNumbers s = settingsThen s []
+
+unfoldable pub settingsOf : Row → Row → Row → Row → Settings
+settingsOf limits corners scale window = record {
+  hard = boxOf limits;
+  p1 = fromOf corners;
+  p2 = toOf corners;
+  scale = record { on = flagIn scale; x = rangeX scale; y = rangeY scale };
+  turn = smallIn limits;
+  window = record { set = flagIn window; area = boxOf window };
+}
+
+unfoldable pub settingsAt : List ℤ → Settings
+settingsAt zs = settingsOf (rowAt zs 15) (rowAt zs 20) (rowAt zs 25) (rowAt zs 30)
+
+-- ---- the carriage, from 35 on
+
+unfoldable pub positionRow : Position → Bool → Row
+positionRow p on = row (p .x .base) (p .x .offset) (p .y .base) (p .y .offset) (flagNumber on)
+
+unfoldable pub penRow : Pen → Row
+penRow p = row (pos (p .number)) (flagNumber (p .down)) (flagNumber (p .changed)) (pos 0) (pos 0)
+
+unfoldable pub polygonRow : Polygon → Row
+polygonRow g = row (flagNumber (g .mode)) (pos (g .bytes)) (pos (g .edges)) (flagNumber (g .saved .down)) (pos 0)
+
+unfoldable pub positionOf : Row → Position
+positionOf r = record { x = record { base = r .a; offset = r .b }; y = record { base = r .c; offset = r .d } }
+
+unfoldable pub penOf : Row → Pen
+penOf r = record { number = smallOf mostByte (r .a); down = flagOf (r .b); changed = flagOf (r .c) }
+
+unfoldable pub pm0Of : Row → Row → Saved
+pm0Of r position = record { position = positionOf position; relative = flagIn position; down = flagOf (r .d) }
+
+unfoldable pub polygonOf : Row → Row → Row → Polygon
+polygonOf r first saved = record {
+  mode = flagOf (r .a);
+  bytes = smallOf mostShort (r .b);
+  edges = smallOf mostByte (r .c);
+  empty = flagIn first;
+  first = positionOf first;
+  saved = pm0Of r saved;
+}
+
+abbrev pub carriageThen : Carriage → List ℤ → List ℤ
+carriageThen c zs =
+    lay (positionRow (c .position) (c .relative))
+    (lay (penRow (c .pen))
+    (lay (polygonRow (c .polygon))
+    (lay (positionRow (c .polygon .first) (c .polygon .empty))
+    (lay (positionRow (c .polygon .saved .position) (c .polygon .saved .relative))
+    zs))))
+
+unfoldable pub carriageNumbers : Carriage → List ℤ
+carriageNumbers c = carriageThen c []
+
+unfoldable pub carriageOf : Row → Row → Row → Row → Row → Carriage
+carriageOf place pen polygon first saved = record {
+  position = positionOf place;
+  pen = penOf pen;
+  relative = flagIn place;
+  polygon = polygonOf polygon first saved;
+}
+
+unfoldable pub carriageAt : List ℤ → Carriage
+carriageAt zs = carriageOf (rowAt zs 35) (rowAt zs 40) (rowAt zs 45) (rowAt zs 50) (rowAt zs 55)
+
+-- ---- the work, from 60 on: a row that ends with what it is, and the circle on each axis
+
+unfoldable pub blankRow : Row
+blankRow = row (pos 0) (pos 0) (pos 0) (pos 0) (pos 0)
+
+unfoldable pub lineRow : Point → Point → Row
+lineRow p q = row (p .x) (p .y) (q .x) (q .y) (pos 1)
+
+unfoldable pub chordsRow : Circle → ℕ → ℕ → Row
+chordsRow o i n = row (pos i) (pos n) (pos (o .angle)) (pos 0) (pos 2)
+
+unfoldable pub edgesRow : ℕ → ℕ → Row
+edgesRow i n = row (pos i) (pos n) (pos 0) (pos 0) (pos 3)
+
+unfoldable pub acrossRow : Circle → Row
+acrossRow o = row (o .x .base) (o .x .part) (o .x .span) (o .x .width) (o .radius .u)
+
+unfoldable pub alongRow : Circle → Row
+alongRow o = row (o .y .base) (o .y .part) (o .y .span) (o .y .width) (o .radius .v)
+
+unfoldable pub workRow : Work → Row
+workRow Nothing = blankRow
+workRow (Line p q) = lineRow p q
+workRow (Chords o i n) = chordsRow o i n
+workRow (Edges i n) = edgesRow i n
+
+unfoldable pub workAcross : Work → Row
+workAcross Nothing = blankRow
+workAcross (Line p q) = blankRow
+workAcross (Chords o i n) = acrossRow o
+workAcross (Edges i n) = blankRow
+
+unfoldable pub workAlong : Work → Row
+workAlong Nothing = blankRow
+workAlong (Line p q) = blankRow
+workAlong (Chords o i n) = alongRow o
+workAlong (Edges i n) = blankRow
+
+abbrev pub workThen : Work → List ℤ → List ℤ
+workThen w zs = lay (workRow w) (lay (workAcross w) (lay (workAlong w) zs))
+
+unfoldable pub workNumbers : Work → List ℤ
+workNumbers w = workThen w []
+
+unfoldable pub centreOf : Row → Centre
+centreOf r = record { base = r .a; part = r .b; span = r .c; width = r .d }
+
+unfoldable pub wayOf : Row → Row → Way
+wayOf across along = record { u = across .e; v = along .e }
+
+unfoldable pub angleIn : Row → ℕ
+angleIn r = smallOf mostShort (r .c)
+
+unfoldable pub circleOf : Row → Row → Row → Circle
+circleOf r across along = record { x = centreOf across; y = centreOf along; radius = wayOf across along; angle = angleIn r }
+
+unfoldable pub workOf : Row → Row → Row → Work
+workOf r across along =
+    cond (eqb (smallIn r) 1) (Line (fromOf r) (toOf r))
+    (cond (eqb (smallIn r) 2) (Chords (circleOf r across along) (smallOf mostShort (r .a)) (smallOf mostShort (r .b)))
+    (cond (eqb (smallIn r) 3) (Edges (smallOf mostByte (r .a)) (smallOf mostByte (r .b)))
+    Nothing))
+
+unfoldable pub workAt : List ℤ → Work
+workAt zs = workOf (rowAt zs 60) (rowAt zs 65) (rowAt zs 70)
+
+-- ---- the edges, from 75 on
+
+unfoldable pub edgeRow : Edge → Row
+edgeRow e = row (e .from .x) (e .from .y) (e .to .x) (e .to .y) (flagNumber (e .down))
+
+unfoldable pub edgesNumbers : List Edge → List ℤ
+edgesNumbers [] = []
+edgesNumbers (e ∷ es) = lay (edgeRow e) (edgesNumbers es)
+
+unfoldable pub edgeOf : Row → Edge
+edgeOf r = record { from = fromOf r; to = toOf r; down = flagIn r }
+
+-- n edges, from the place i on
+unfoldable pub edgesFrom : List ℤ → ℕ → ℕ → List Edge
+edgesFrom zs i zero = []
+edgesFrom zs i (suc n) = edgeOf (rowAt zs i) ∷ edgesFrom zs (i + 5) n
+
+unfoldable pub storeAt : List ℤ → Store
+storeAt zs = record { edges = edgesFrom zs 75 mostEdges }
+
+-- ---- the machine
+
+unfoldable pub savedOf : State → List ℤ
+savedOf m = readerThen (m .reader) (settingsThen (m .core .settings) (carriageThen (m .core .carriage) (workThen (m .work) (edgesNumbers (m .store .edges)))))
+
+unfoldable pub loadedOf : List ℤ → State
+loadedOf zs = record {
+  reader = readerAt zs;
+  core = record { settings = settingsAt zs; carriage = carriageAt zs };
+  store = storeAt zs;
+  work = workAt zs;
+}

@@ -1,0 +1,39 @@
+-- What the calls store in lists that a program in another language lends.
+use Prim.Native.Nat.{ℕ}
+use mathlib.Core.List.{List, [], _∷_}
+use lib.IntN.{ℤ, pos}
+use lib.ListN.{length}
+use Rattle.rows.specs.declared.Row.{Row}
+use Rattle.rows.specs.Rows.{row, lay, flagNumber}
+use Rattle.hpgl.specs.declared.Stroke.{Stroke}
+use Rattle.hpgl.specs.declared.Drawn.{Drawn}
+use Rattle.hpgl.specs.declared.Drawn.the-variants as drawn
+use Rattle.hpgl.specs.declared.Look.{Look}
+use Rattle.hpgl.specs.Feed.{Feed}
+
+-- a draw, by number
+unfoldable pub drawnKind : Drawn → ℕ
+drawnKind drawn.Idle = 0
+drawnKind drawn.Hidden = 1
+drawnKind (drawn.Stroke s) = 2
+
+-- pen, x0, y0, x1, y1
+unfoldable pub strokeRow : Stroke → Row
+strokeRow s = row (pos (s .pen)) (s .x0) (s .y0) (s .x1) (s .y1)
+
+-- only a stroke is stored
+unfoldable pub drawnNumbers : Drawn → List ℤ
+drawnNumbers drawn.Idle = []
+drawnNumbers drawn.Hidden = []
+drawnNumbers (drawn.Stroke s) = lay (strokeRow s) []
+
+-- x, y, pen, down, bytes
+unfoldable pub lookRow : Look → Row
+lookRow l = row (l .location .x) (l .location .y) (pos (l .pen)) (flagNumber (l .down)) (pos (l .bytes))
+
+unfoldable pub lookNumbers : Look → List ℤ
+lookNumbers l = lay (lookRow l) []
+
+-- bytes taken, strokes stored
+unfoldable pub countsOf : Feed → List ℕ
+countsOf f = f .taken ∷ length (f .strokes) ∷ []

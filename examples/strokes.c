@@ -1,0 +1,48 @@
+/* Prints the strokes of standard input, as the program strokes does: pen, x0, y0, x1, y1 a line, or E, number, byte counted from 1.
+ *
+ *     rt staticlib vutaroi
+ *     gcc -Wall -Wextra -O2 -Iinclude examples/strokes.c target/staticlib/libvutaroi.a -o strokes
+ *     ./strokes < drawing.hpgl
+ */
+#include <inttypes.h>
+#include <stdio.h>
+
+#include "vutaroi.h"
+
+enum { BLOCK = 65536, ROOM = 4096 };
+
+static int64_t state[VUTAROI_STATE];
+static uint8_t block[BLOCK];
+static int64_t records[ROOM * VUTAROI_RECORD];
+
+/* Prints what a call stored; `before` bytes came before those of the call. */
+static void print_records(uint64_t stored, uint64_t before)
+{
+    for (uint64_t i = 0; i < stored; i++) {
+        const int64_t *r = records + i * VUTAROI_RECORD;
+        if (r[0] == 0)
+            printf("E %" PRId64 " %" PRIu64 "\n", r[1], before + (uint64_t)r[2]);
+        else
+            printf("%" PRId64 " %" PRId64 " %" PRId64 " %" PRId64 " %" PRId64 "\n", r[0], r[1], r[2], r[3], r[4]);
+    }
+}
+
+int main(void)
+{
+    uint64_t before = 0;
+    size_t got;
+
+    vutaroi_fresh(-10000, -7000, 10000, 7000, state, VUTAROI_STATE);
+    while ((got = fread(block, 1, BLOCK, stdin)) > 0) {
+        size_t at = 0;
+        uint8_t number;
+        do {
+            uint64_t answer[2];
+            number = vutaroi_plot(state, VUTAROI_STATE, block + at, got - at, records, ROOM * VUTAROI_RECORD, answer, 2);
+            print_records(answer[1], before + at);
+            at += answer[0];
+        } while (number != 0);
+        before += got;
+    }
+    return ferror(stdin) || fflush(stdout) != 0;
+}
