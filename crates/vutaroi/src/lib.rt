@@ -100,9 +100,10 @@ pub extern "C" fn vutaroi_take(state: &mut [i64], byte: u8) -> u8
     ensures { λ r. ⌜ r ≡ takeNumber (loadedOf (now (state .entry))) byte ⌝ }
     ensures { λ _. ⌜ now (state .exit) ≡ savedOf (takeState (loadedOf (now (state .entry))) byte) ⌝ }
 {
-    let taken = Machine::load(state).take(byte);
-    let machine = taken.machine;
-    machine.save(state);
+    let before = Machine::load(state);
+    let taken = before.take(byte);
+    let after = taken.machine;
+    after.save(state);
     taken.number
 }
 
@@ -113,10 +114,11 @@ pub extern "C" fn vutaroi_draw(state: &mut [i64], stroke: &mut [i64]) -> u8
     ensures { λ _. ⌜ now (state .exit) ≡ savedOf (drawState (loadedOf (now (state .entry)))) ⌝ }
     ensures { λ _. ⌜ now (stroke .exit) ≡ over (now (stroke .entry)) 0 (drawnNumbers (drawAnswer (loadedOf (now (state .entry))))) ⌝ }
 {
-    let worked = Machine::load(state).draw();
-    let machine = worked.machine;
+    let before = Machine::load(state);
+    let worked = before.draw();
+    let after = worked.machine;
     let drawn = worked.drawn;
-    machine.save(state);
+    after.save(state);
     put_drawn(drawn, stroke)
 }
 
@@ -125,7 +127,8 @@ pub extern "C" fn vutaroi_look(state: &[i64], seen: &mut [i64])
     requires { ⌜ Held (now state) × (5 ≤ length (now seen)) ⌝ }
     ensures { λ _. ⌜ now (seen .exit) ≡ over (now (seen .entry)) 0 (lookNumbers (lookAt (loadedOf (now (state .entry))))) ⌝ }
 {
-    let look = Machine::load(state).look();
+    let machine = Machine::load(state);
+    let look = machine.look();
     put_row(seen, 0, look_row(look));
 }
 
@@ -142,9 +145,10 @@ pub extern "C" fn vutaroi_feed(
     ensures { λ _. ⌜ now (records .exit) ≡ laidNumbers (feedOf (loadedOf (now (state .entry))) (now (bytes .entry)) (length (now (records .entry)) / 5) .strokes) (now (records .entry)) ⌝ }
     ensures { λ _. ⌜ now (answer .exit) ≡ over (now (answer .entry)) 0 (countsOf (feedOf (loadedOf (now (state .entry))) (now (bytes .entry)) (length (now (records .entry)) / 5))) ⌝ }
 {
-    let gathered = Machine::load(state).gather(bytes, 0, records);
-    let machine = gathered.machine;
-    machine.save(state);
+    let before = Machine::load(state);
+    let gathered = before.gather(bytes, 0, records);
+    let after = gathered.machine;
+    after.save(state);
     put_counts(gathered.at, gathered.stored, answer);
     gathered.number
 }

@@ -1,0 +1,74 @@
+-- The proof of `vutaroi_draw`.
+use borrow.Author.Needs.{needs}
+use mathlib.Core.Path.{_≡_, sym, ap, _∙_, subst}
+use Rattle.rows.specs.Rows.{over}
+use Rattle.hpgl.specs.Made.{Made, draw}
+use Rattle.machine.specs.declared.Worked.{Worked}
+use Rattle.machine.specs.Calls.{workedOf}
+use Rattle.saving.specs.Saved.{savedOf, loadedOf}
+use Rattle.saving.specs.SavedLaws.{held-length, held-made}
+use Rattle.vutaroi.specs.Calls.{drawnKind, drawnNumbers}
+use Rattle.vutaroi.proofs.vutaroi_draw.Statement.{statement}
+use Rattle.vutaroi.proofs.vutaroi_draw.Tie as tie
+
+abbrev start : tie.After-load → tie.Start
+start l = l .before .before
+
+-- the machine that the list holds
+made : (l : tie.After-load) → Made (l .load .result .state)
+made l = subst Made (sym (l .load .ensures)) (held-made _ (start l .pre .0))
+
+worked : (w : tie.After-draw) → w .draw .result ≡ workedOf (loadedOf (start (w .before) .args .state .now))
+worked w = w .draw .ensures ∙ ap workedOf (w .before .load .ensures)
+
+worked-made : (w : tie.After-draw) → Made (w .draw .result .machine .state)
+unfolding workedOf
+worked-made w = subst (λ (r : Worked). Made (r .machine .state)) (sym (worked w)) (draw (held-made _ (start (w .before) .pre .0)))
+
+load-requires : tie.Need-load-requires
+load-requires c κs = let s : tie.Start = search in held-length _ (s .pre .0)
+
+draw-requires : tie.Need-draw-requires
+draw-requires c κs = made c
+
+save-requires : tie.Need-save-requires
+save-requires c κs =
+    let s : tie.Start = search in
+    let l : tie.After-load = search in
+    let w : tie.After-draw = search in
+    (search (made l, worked-made w), held-length _ (s .pre .0))
+
+put-drawn-requires : tie.Need-put-drawn-requires
+put-drawn-requires c κs = search needs
+
+same-length : tie.Need-same-length
+same-length c = search needs
+
+same-length-2 : tie.Need-same-length-2
+same-length-2 c = search needs
+
+returns : tie.Need-returns
+unfolding workedOf
+returns c =
+    let w : tie.After-draw = search in
+    let v : tie.After-save = search in
+    let p : tie.After-put-drawn = search in
+    let s = start (w .before) in (
+      p .put-drawn .ensures .0 ∙ ap (λ (r : Worked). drawnKind (r .drawn)) (worked w),
+      (
+        v .save .ensures ∙ ap (λ (r : Worked). savedOf (r .machine .state)) (worked w),
+        p .put-drawn .ensures .1 ∙ ap (λ (r : Worked). over (s .args .stroke .now) 0 (drawnNumbers (r .drawn))) (worked w),
+      ),
+    )
+
+pub vutaroi-draw-spec : {M : Type 1} → statement M
+vutaroi-draw-spec =
+    tie.close
+    (tie.spec
+    load-requires
+    draw-requires
+    save-requires
+    put-drawn-requires
+    same-length
+    same-length-2
+    returns)
