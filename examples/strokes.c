@@ -15,21 +15,17 @@ static int64_t state[VUTAROI_STATE];
 static uint8_t block[BLOCK];
 static int64_t records[ROOM * VUTAROI_RECORD];
 
-/* Prints what a call stored; `before` bytes came before those of the call. */
-static void print_records(uint64_t stored, uint64_t before)
+static void print_strokes(uint64_t stored)
 {
     for (uint64_t i = 0; i < stored; i++) {
         const int64_t *r = records + i * VUTAROI_RECORD;
-        if (r[0] == 0)
-            printf("E %" PRId64 " %" PRIu64 "\n", r[1], before + (uint64_t)r[2]);
-        else
-            printf("%" PRId64 " %" PRId64 " %" PRId64 " %" PRId64 " %" PRId64 "\n", r[0], r[1], r[2], r[3], r[4]);
+        printf("%" PRId64 " %" PRId64 " %" PRId64 " %" PRId64 " %" PRId64 "\n", r[0], r[1], r[2], r[3], r[4]);
     }
 }
 
 int main(void)
 {
-    uint64_t before = 0;
+    uint64_t taken = 0; /* bytes of all the input */
     size_t got;
 
     vutaroi_fresh(-10000, -7000, 10000, 7000, state, VUTAROI_STATE);
@@ -38,11 +34,13 @@ int main(void)
         uint8_t number;
         do {
             uint64_t answer[2];
-            number = vutaroi_plot(state, VUTAROI_STATE, block + at, got - at, records, ROOM * VUTAROI_RECORD, answer, 2);
-            print_records(answer[1], before + at);
+            number = vutaroi_feed(state, VUTAROI_STATE, block + at, got - at, records, ROOM * VUTAROI_RECORD, answer, 2);
             at += answer[0];
+            taken += answer[0];
+            print_strokes(answer[1]);
+            if (number != 0 && number != VUTAROI_FULL)
+                printf("E %d %" PRIu64 "\n", number, taken);
         } while (number != 0);
-        before += got;
     }
     return ferror(stdin) || fflush(stdout) != 0;
 }

@@ -42,6 +42,9 @@ extern "C" {
 #define VUTAROI_HIDDEN 1
 #define VUTAROI_STROKE 2
 
+/* The number of a call that stopped because no record was free; hand it the bytes after those it took, and a free list. */
+#define VUTAROI_FULL 21
+
 /* Writes a machine with these hard limits over `state`, whatever stood there. Each limit is -32768 to 32767, left < right, bottom < top; others
  * give 10 and a machine with the limits 0, 0, 1, 1. */
 uint8_t vutaroi_fresh(int64_t left, int64_t bottom, int64_t right, int64_t top, int64_t *state, size_t state_count);
