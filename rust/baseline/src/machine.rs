@@ -218,7 +218,7 @@ impl Machine {
 
     /// Whether a segment waits.
     #[inline]
-    pub(crate) fn waits(&self) -> bool {
+    pub fn waits(&self) -> bool {
         !matches!(self.work, Work::None)
     }
 

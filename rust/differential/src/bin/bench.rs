@@ -1,0 +1,218 @@
+//! The proved library and the baseline on the same bytes.
+//!
+//! `bench [--markdown] [NAME..]` prints a table of all loads, or of the named ones.
+//! `bench --write NAME` writes the bytes of a load.
+//!
+//! Both sides do the same job: all strokes, and refusals with the places of their bytes, into a
+//! lent list, block by block. They run in turns, and the best of several runs counts. Before that
+//! a checksum over every mark of both sides is compared.
+
+use baseline::{number, Stroke};
+use differential::loads::{Load, LIMITS, LOADS};
+use std::hint::black_box;
+use std::io::Write;
+use std::process::ExitCode;
+use std::time::{Duration, Instant};
+
+const BLOCK: usize = 1 << 16;
+const ROOM: usize = 4096;
+const ROUNDS: usize = 7;
+
+/// The columns; a mark is a stroke or a refusal.
+const HEADS: [&str; 9] =
+    ["load", "bytes", "strokes", "refusals", "ns/byte", "baseline", "ns/mark", "baseline", "ratio"];
+
+/// What came out: marks by kind, and a sum over all numbers of all of them in order.
+#[derive(Clone, Copy, PartialEq, Eq, Debug, Default)]
+struct Outcome {
+    strokes: u64,
+    refusals: u64,
+    sum: u64,
+}
+
+impl Outcome {
+    /// Adds a mark of a call whose bytes begin after `base` bytes of the load.
+    fn add(&mut self, base: usize, [pen, a, b, c, d]: [i64; 5]) {
+        let b = if pen == 0 { b + base as i64 } else { b };
+        self.refusals += u64::from(pen == 0);
+        self.strokes += u64::from(pen != 0);
+        for value in [pen, a, b, c, d] {
+            self.sum = (self.sum ^ value as u64).wrapping_mul(0x0100_0000_01b3).rotate_left(23);
+        }
+    }
+}
+
+/// The proved library; `seen` gets the marks of each call and the bytes before it.
+fn proved(bytes: &[u8], mut seen: impl FnMut(usize, &[vutaroi::Mark])) {
+    let [left, bottom, right, top] = LIMITS;
+    let (mut machine, _) = vutaroi::Machine::fresh(left, bottom, right, top);
+    let mut list = vec![vutaroi::Mark::default(); ROOM];
+    let mut at = 0;
+    for block in bytes.chunks(BLOCK) {
+        let mut rest = block;
+        loop {
+            let fed = machine.plot(rest, &mut list);
+            seen(at, &list[..fed.stored]);
+            rest = &rest[fed.taken..];
+            at += fed.taken;
+            if fed.number == number::NONE {
+                break;
+            }
+        }
+    }
+}
+
+/// The baseline, likewise; a refusal is a record without a pen.
+fn baseline(bytes: &[u8], mut seen: impl FnMut(usize, &[Stroke])) {
+    let [left, bottom, right, top] = LIMITS;
+    let (mut machine, _) = baseline::Machine::fresh(left, bottom, right, top);
+    let mut list = vec![Stroke::default(); ROOM];
+    let mut at = 0;
+    for block in bytes.chunks(BLOCK) {
+        let mut rest = block;
+        loop {
+            let fed = plot(&mut machine, rest, &mut list);
+            seen(at, &list[..fed.stored]);
+            rest = &rest[fed.taken..];
+            at += fed.taken;
+            if fed.number == number::NONE {
+                break;
+            }
+        }
+    }
+}
+
+/// Feed that goes on after refusals. The last record is kept free for one.
+fn plot(machine: &mut baseline::Machine, bytes: &[u8], list: &mut [Stroke]) -> baseline::Fed {
+    let room = list.len() - 1;
+    let mut all = baseline::Fed::default();
+    while all.stored <= room {
+        let fed = machine.feed(&bytes[all.taken..], &mut list[all.stored..room]);
+        all.taken += fed.taken;
+        all.stored += fed.stored;
+        if fed.number == number::NONE || fed.number == number::FULL {
+            return baseline::Fed { number: fed.number, ..all };
+        }
+        list[all.stored] =
+            Stroke { pen: 0, x0: i64::from(fed.number), y0: all.taken as i64, x1: 0, y1: 0 };
+        all.stored += 1;
+    }
+    baseline::Fed { number: number::FULL, ..all }
+}
+
+/// The outcomes of both sides, if they are the same.
+fn outcome(bytes: &[u8]) -> Result<Outcome, String> {
+    let (mut ours, mut theirs) = (Outcome::default(), Outcome::default());
+    proved(bytes, |base, marks| marks.iter().for_each(|mark| ours.add(base, mark.numbers)));
+    baseline(bytes, |base, marks| {
+        marks.iter().for_each(|s| theirs.add(base, [i64::from(s.pen), s.x0, s.y0, s.x1, s.y1]));
+    });
+    if ours == theirs {
+        Ok(ours)
+    } else {
+        Err(format!("the outcomes differ: {ours:?}, {theirs:?}"))
+    }
+}
+
+/// Time used on a processor if the system tells it, which other programs do not disturb, else
+/// the time of day.
+fn now(start: Instant) -> Duration {
+    std::fs::read_to_string("/proc/thread-self/schedstat")
+        .ok()
+        .and_then(|text| text.split(' ').next()?.parse().ok())
+        .map_or_else(|| start.elapsed(), Duration::from_nanos)
+}
+
+/// Nanoseconds of a run.
+fn timed(run: impl FnOnce()) -> f64 {
+    let origin = Instant::now();
+    let start = now(origin);
+    run();
+    (now(origin) - start).as_secs_f64() * 1e9
+}
+
+/// The least nanoseconds of each side, in turns.
+fn measure(bytes: &[u8]) -> [f64; 2] {
+    let mut best = [f64::INFINITY; 2];
+    for _ in 0..ROUNDS {
+        let ours = timed(|| proved(black_box(bytes), |_, marks| _ = black_box(marks)));
+        let theirs = timed(|| baseline(black_box(bytes), |_, marks| _ = black_box(marks)));
+        best = [best[0].min(ours), best[1].min(theirs)];
+    }
+    best
+}
+
+fn row(load: &Load, markdown: bool) -> Result<String, String> {
+    let bytes = load.bytes();
+    let seen = outcome(&bytes).map_err(|error| format!("{}: {error}", load.name))?;
+    let [ours, theirs] = measure(&bytes);
+    let marks = seen.strokes + seen.refusals;
+    let each = |time: f64| match marks {
+        0 => "–".to_string(),
+        _ => format!("{:.1}", time / marks as f64),
+    };
+    let cells = [
+        load.about.to_string(),
+        bytes.len().to_string(),
+        seen.strokes.to_string(),
+        seen.refusals.to_string(),
+        format!("{:.2}", ours / bytes.len() as f64),
+        format!("{:.2}", theirs / bytes.len() as f64),
+        each(ours),
+        each(theirs),
+        format!("{:.2}", ours / theirs),
+    ];
+    Ok(line(&cells, markdown))
+}
+
+fn line(cells: &[String; 9], markdown: bool) -> String {
+    if markdown {
+        return format!("| {} |", cells.join(" | "));
+    }
+    let widths = [27, 9, 9, 9, 8, 8, 8, 8, 6];
+    let mut text = format!("{:27}", cells[0]);
+    for (cell, width) in cells.iter().zip(widths).skip(1) {
+        text += &format!(" {cell:>width$}");
+    }
+    text
+}
+
+fn table(names: &[String], markdown: bool) -> Result<(), String> {
+    println!("{}", line(&HEADS.map(str::to_string), markdown));
+    if markdown {
+        println!("|---|{}", "---:|".repeat(8));
+    }
+    for load in LOADS.iter().filter(|load| names.is_empty() || names.iter().any(|n| n == load.name))
+    {
+        println!("{}", row(load, markdown)?);
+    }
+    Ok(())
+}
+
+fn run(mut arguments: Vec<String>) -> Result<(), String> {
+    let markdown = arguments.iter().any(|word| word == "--markdown");
+    let write = arguments.iter().any(|word| word == "--write");
+    arguments.retain(|word| word != "--markdown" && word != "--write");
+    if let Some(word) = arguments.iter().find(|word| !LOADS.iter().any(|load| load.name == **word))
+    {
+        return Err(format!("no load {word}: {}", LOADS.map(|load| load.name).join(", ")));
+    }
+    match &arguments[..] {
+        [name] if write => {
+            let load = LOADS.into_iter().find(|load| load.name == name).expect("a load");
+            std::io::stdout().write_all(&load.bytes()).map_err(|error| error.to_string())
+        }
+        _ if write => Err("--write asks for one load".to_string()),
+        names => table(names, markdown),
+    }
+}
+
+fn main() -> ExitCode {
+    match run(std::env::args().skip(1).collect()) {
+        Ok(()) => ExitCode::SUCCESS,
+        Err(error) => {
+            eprintln!("bench: {error}");
+            ExitCode::FAILURE
+        }
+    }
+}

@@ -1,0 +1,22 @@
+//! The proved library beside the independent implementation.
+//!
+//! * [`dice`] and [`streams`]: generated HP-GL, by seed.
+//! * [`partner`]: the calls of document 01, as the proved library answers them.
+//! * [`due`]: the answers that the baseline gives, and the exact checker of condition 3.
+//! * [`ways`]: how a stream is put through the calls, and every answer compared.
+//! * [`shrink`]: the shortest input with a difference.
+//! * [`hunt`]: a budget of streams, each in every way; a [`hunt::Finding`] reproduces a difference.
+//! * [`loads`]: the loads of the benchmark.
+//!
+//! The tests are `cargo test`, the benchmark `cargo run --release`.
+
+#![forbid(unsafe_code)]
+
+pub mod dice;
+pub mod due;
+pub mod hunt;
+pub mod loads;
+pub mod partner;
+pub mod shrink;
+pub mod streams;
+pub mod ways;

@@ -1,0 +1,113 @@
+//! The loads of the benchmark.
+
+use crate::dice::Dice;
+
+/// The hard limits of all loads: the widest.
+pub const LIMITS: [i64; 4] = [-32_768, -32_768, 32_767, 32_767];
+
+/// Bytes of a load of moves.
+const MOVES: usize = 20_000_000;
+
+/// Bytes of circles; each 20 of them give 720 strokes.
+const CIRCLES: usize = 300_000;
+
+/// A rink that Inkscape wrote.
+const RINK: &[u8] = include_bytes!("../../../crates/drawings/data/inkscape_rink.hpgl");
+
+/// A load: its name, what it is, and its bytes.
+pub struct Load {
+    /// A short name.
+    pub name: &'static str,
+    /// What it is.
+    pub about: &'static str,
+    /// Begins the load.
+    setup: &'static str,
+    size: usize,
+    part: fn(&mut Dice) -> String,
+}
+
+/// Every load.
+pub const LOADS: [Load; 7] = [
+    Load { name: "pd", about: "PD moves", setup: "IN;SP1;", size: MOVES, part: pen_down },
+    Load { name: "pu", about: "PU moves", setup: "IN;SP1;", size: MOVES, part: pen_up },
+    Load {
+        name: "relative",
+        about: "relative chains under SC",
+        setup: "IN;SP1;SC0,300,0,200;PD;",
+        size: MOVES,
+        part: chain,
+    },
+    Load {
+        name: "circles",
+        about: "circles of 720 chords",
+        setup: "IN;SP1;",
+        size: CIRCLES,
+        part: circle,
+    },
+    Load {
+        name: "polygons",
+        about: "polygons with EP",
+        setup: "IN;SP1;",
+        size: MOVES,
+        part: polygon,
+    },
+    Load {
+        name: "rink",
+        about: "a rink that Inkscape wrote",
+        setup: "",
+        size: MOVES,
+        part: written,
+    },
+    Load { name: "refusals", about: "refusals only", setup: "IN;SP1;", size: MOVES, part: unknown },
+];
+
+impl Load {
+    /// The bytes, the same each time.
+    pub fn bytes(&self) -> Vec<u8> {
+        let mut dice = Dice::new(1);
+        let mut text = self.setup.as_bytes().to_vec();
+        while text.len() < self.size {
+            text.extend((self.part)(&mut dice).bytes());
+        }
+        text
+    }
+}
+
+fn pair(dice: &mut Dice) -> String {
+    format!("{},{}", dice.within(-9_999, 9_999), dice.within(-6_999, 6_999))
+}
+
+fn pen_down(dice: &mut Dice) -> String {
+    format!("PD{};", pair(dice))
+}
+
+fn pen_up(dice: &mut Dice) -> String {
+    format!("PU{};", pair(dice))
+}
+
+/// Eight small moves from a place within the scale.
+fn chain(dice: &mut Dice) -> String {
+    let links: Vec<String> =
+        (0..16).map(|_| format!("{}.{}", dice.within(-3, 3), dice.below(100))).collect();
+    let (x, y) = (dice.within(50, 250), dice.within(50, 150));
+    format!("PA{x},{y};PR{};", links.join(","))
+}
+
+fn circle(dice: &mut Dice) -> String {
+    format!("PA{};CI{},.5;", pair(dice), dice.within(10, 3_000))
+}
+
+/// A polygon of eight corners and its edges.
+fn polygon(dice: &mut Dice) -> String {
+    let corners: Vec<String> = (0..8).map(|_| pair(dice)).collect();
+    format!("PM0;PD{};PM2;EP;", corners.join(","))
+}
+
+fn written(_: &mut Dice) -> String {
+    String::from_utf8_lossy(RINK).into_owned()
+}
+
+/// Names that are not known.
+fn unknown(dice: &mut Dice) -> String {
+    format!("{};", dice.pick(&["VS", "LT", "AA", "XX", "TL"]))
+}

@@ -1,0 +1,80 @@
+//! The calls of document 01, with plain numbers as answers.
+
+use baseline::{Drawn, Fed, Look, Stroke};
+
+/// Five numbers: a stroke (pen, x0, y0, x1, y1), or a refusal (0, number, byte, 0, 0).
+pub type Record = [i64; 5];
+
+/// A machine whose answers are compared.
+pub trait Partner: Sized {
+    /// A machine with these hard limits (left, bottom, right, top), and 0 or 10.
+    fn fresh(limits: [i64; 4]) -> (Self, u8);
+    /// Takes a byte; the number.
+    fn take(&mut self, byte: u8) -> u8;
+    /// Works off a segment.
+    fn draw(&mut self) -> Drawn;
+    /// Location, pen, polygon bytes.
+    fn look(&self) -> Look;
+    /// Bytes in, strokes out, up to a refusal.
+    fn feed(&mut self, bytes: &[u8], records: &mut [Record]) -> Fed;
+    /// Bytes in, strokes and refusals out.
+    fn plot(&mut self, bytes: &[u8], records: &mut [Record]) -> Fed;
+}
+
+/// A stroke of the proved library; a pen that no machine has becomes 255.
+fn stroke(s: vutaroi::Stroke) -> Stroke {
+    Stroke { pen: u8::try_from(s.pen).unwrap_or(u8::MAX), x0: s.x0, y0: s.y0, x1: s.x1, y1: s.y1 }
+}
+
+fn fed(f: vutaroi::Fed) -> Fed {
+    Fed { taken: f.taken, stored: f.stored, number: f.number }
+}
+
+impl Partner for vutaroi::Machine {
+    fn fresh([left, bottom, right, top]: [i64; 4]) -> (Self, u8) {
+        vutaroi::Machine::fresh(left, bottom, right, top)
+    }
+
+    fn take(&mut self, byte: u8) -> u8 {
+        vutaroi::Machine::take(self, byte)
+    }
+
+    fn draw(&mut self) -> Drawn {
+        match vutaroi::Machine::draw(self) {
+            vutaroi::Drawn::Idle => Drawn::Idle,
+            vutaroi::Drawn::Hidden => Drawn::Hidden,
+            vutaroi::Drawn::Stroke(s) => Drawn::Stroke(stroke(s)),
+        }
+    }
+
+    fn look(&self) -> Look {
+        let seen = vutaroi::Machine::look(self);
+        Look {
+            x: seen.x,
+            y: seen.y,
+            pen: u8::try_from(seen.pen).unwrap_or(u8::MAX),
+            down: seen.down,
+            bytes: usize::try_from(seen.bytes).unwrap_or(usize::MAX),
+        }
+    }
+
+    fn feed(&mut self, bytes: &[u8], records: &mut [Record]) -> Fed {
+        let lent = |&[pen, x0, y0, x1, y1]: &Record| vutaroi::Stroke { pen, x0, y0, x1, y1 };
+        let mut list: Vec<vutaroi::Stroke> = records.iter().map(lent).collect();
+        let answer = vutaroi::Machine::feed(self, bytes, &mut list);
+        for (record, s) in records.iter_mut().zip(&list) {
+            *record = [s.pen, s.x0, s.y0, s.x1, s.y1];
+        }
+        fed(answer)
+    }
+
+    fn plot(&mut self, bytes: &[u8], records: &mut [Record]) -> Fed {
+        let lent = |&numbers: &Record| vutaroi::Mark { numbers };
+        let mut list: Vec<vutaroi::Mark> = records.iter().map(lent).collect();
+        let answer = vutaroi::Machine::plot(self, bytes, &mut list);
+        for (record, mark) in records.iter_mut().zip(&list) {
+            *record = mark.numbers;
+        }
+        fed(answer)
+    }
+}

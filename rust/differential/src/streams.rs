@@ -1,0 +1,357 @@
+//! Generated streams of HP-GL.
+
+use crate::dice::Dice;
+
+/// A kind of stream.
+#[derive(Clone, Copy, PartialEq, Eq, Debug)]
+pub enum Family {
+    /// Drawings that obey the grammar: scales, windows, turns, relative chains, all figures.
+    Drawings,
+    /// Such drawings, and real writers' ones, with bytes changed, doubled, moved and left out.
+    Mutations,
+    /// Random bytes, of all 256 or of those that HP-GL is made of.
+    Bytes,
+    /// Polygons up to and beyond 1024 bytes.
+    Brims,
+    /// Circles at extreme scales.
+    Circles,
+    /// Numbers of thousands of digits.
+    Digits,
+}
+
+/// Drawings of real writers (`crates/drawings/data`), to be changed.
+const WRITTEN: [&[u8]; 6] = [
+    include_bytes!("../../../crates/drawings/data/dia_rink.plt"),
+    include_bytes!("../../../crates/drawings/data/gnuplot_curling.hpgl"),
+    include_bytes!("../../../crates/drawings/data/inkscape_rink.hpgl"),
+    include_bytes!("../../../crates/drawings/data/kicad_rink.plt"),
+    include_bytes!("../../../crates/drawings/data/manual_window_houses.hpgl"),
+    include_bytes!("../../../crates/drawings/data/pstoedit_curling.hpgl"),
+];
+
+/// What HP-GL is made of, and a few bytes that it knows not.
+const ALPHABET: &[u8] = b"PDUARMSICEWNLBFOpdu0123456789.-+,; \n\t\r\x03\x1b@~\xc3";
+
+/// Scales from one end of what the numbers allow to the other.
+const SCALES: [&str; 7] = [
+    "IP-32768,-32768,32767,32767;SC-32768,32767.9999,-32768,32767.9999;",
+    "IP32767,32767,-32768,-32768;SC32767.9999,-32768,-32768,32767.9999;",
+    "IP0,0,1,1;SC-32768,32767.9999,32767.9999,-32768;",
+    "IP-32768,-32768,32767,32767;SC0,.0001,.0001,0;",
+    "IP0,0,32767,32767;SC0,1,0,1;",
+    "IP0,0,1000,-1000;SC0,3,3,0;",
+    "IP;SC;",
+];
+
+impl Family {
+    /// Every family.
+    pub const ALL: [Family; 6] = [
+        Family::Drawings,
+        Family::Mutations,
+        Family::Bytes,
+        Family::Brims,
+        Family::Circles,
+        Family::Digits,
+    ];
+
+    /// How many of a hundred bytes are of this family.
+    pub fn share(self) -> usize {
+        match self {
+            Family::Drawings => 40,
+            Family::Mutations => 20,
+            Family::Bytes => 14,
+            Family::Brims => 14,
+            Family::Circles => 2,
+            Family::Digits => 10,
+        }
+    }
+
+    /// A stream of a few hundred to a few thousand bytes.
+    pub fn stream(self, dice: &mut Dice) -> Vec<u8> {
+        match self {
+            Family::Drawings => drawing(dice).into_bytes(),
+            Family::Mutations => mutation(dice),
+            Family::Bytes => bytes(dice),
+            Family::Brims => brim(dice).into_bytes(),
+            Family::Circles => circles(dice).into_bytes(),
+            Family::Digits => digits(dice),
+        }
+    }
+}
+
+/// Hard limits: the usual ones, the widest, tiny ones, and some that are refused with 10.
+pub fn limits(dice: &mut Dice) -> [i64; 4] {
+    match dice.below(12) {
+        0 => [0, 0, 10, 10],
+        1 | 2 => [-32_768, -32_768, 32_767, 32_767],
+        3 => [-3, -4, 300, 200],
+        4 => [0, 0, 1, 1],
+        5 => {
+            dice.pick(&[[5, 5, 5, 9], [0, 0, 32_768, 1], [9, 0, -9, 1], [i64::MIN, 0, i64::MAX, 1]])
+        }
+        6 | 7 => {
+            let (left, bottom) = (dice.within(-9_000, 9_000), dice.within(-9_000, 9_000));
+            [left, bottom, left + dice.within(1, 9_000), bottom + dice.within(1, 9_000)]
+        }
+        _ => crate::hunt::USUAL,
+    }
+}
+
+/// The text of a number from −`reach` to `reach`, in one of the ways it may be written.
+fn number(dice: &mut Dice, reach: i64) -> String {
+    let sign = dice.pick(&["", "", "", "-", "-", "+"]);
+    let whole = dice.within(0, reach);
+    match dice.below(12) {
+        0 => format!("{sign}{whole}.{:04}", dice.below(10_000)),
+        1 => format!("{sign}{whole}.5"),
+        2 => format!("{sign}{whole}.4{}", dice.below(1_000_000)),
+        3 => format!("{sign}.{}", dice.below(100_000)),
+        4 => format!("{sign}000{whole}."),
+        _ => format!("{sign}{whole}"),
+    }
+}
+
+/// Numbers with one kind of blank between them; now and then a wrong count or a wrong number.
+fn numbers(dice: &mut Dice, count: usize, reach: i64) -> String {
+    let count = if dice.one_in(40) { dice.below(7) } else { count };
+    let mut parts: Vec<String> = (0..count).map(|_| number(dice, reach)).collect();
+    if dice.one_in(50) && count > 0 {
+        let wrong = ["-", ".", "40000", "1.2.3", "-32768.0001", "32767.9999", "-32768", "5-", "+"];
+        parts[dice.below(count)] = dice.pick(&wrong).to_string();
+    }
+    parts.join(dice.pick(&[",", ",", ",", " ", ", ", "\n", "\t,", ",,"]))
+}
+
+/// Scale, turn, window, defaults.
+fn setting(dice: &mut Dice, reach: i64) -> String {
+    let four = if dice.one_in(4) { 0 } else { 4 };
+    match dice.below(12) {
+        0 => dice.pick(&["IN;", "DF;"]).to_string(),
+        1 | 2 => {
+            let count = dice.pick(&[0, 2, 4, 4]);
+            format!("IP{};", numbers(dice, count, reach))
+        }
+        3..=5 => {
+            let span = dice.pick(&[1, 3, 40, 1_000, 32_767]);
+            format!("SC{};", numbers(dice, four, span))
+        }
+        6 => dice.pick(&SCALES).to_string(),
+        7 | 8 => format!("IW{};", numbers(dice, four, reach)),
+        9 | 10 => format!("RO{};", dice.pick(&["", "0", "90", "90", "90", "90.4", "89.5", "45"])),
+        _ => format!("SP{};", dice.pick(&["1", "2", "3.4", "4", "5", "7.5", "8", "0", "9", ""])),
+    }
+}
+
+/// Moves: lists of pairs, absolute and relative, pen up and down.
+fn moves(dice: &mut Dice, reach: i64) -> String {
+    let pairs = 2 * (1 + dice.below(5));
+    let name = dice.pick(&["PD", "PD", "PD", "PA", "PU", "PR"]);
+    let reach = if name == "PR" { reach / 8 + 1 } else { reach };
+    let bare = dice.pick(&["PD;", "PU;", "PR;", "PA;", "PDPR", "PR;PD", "pd", ""]);
+    format!("{bare}{name}{};", numbers(dice, pairs, reach))
+}
+
+/// A chain of small relative moves, whose exact position never is a whole one.
+fn chain(dice: &mut Dice, reach: i64) -> String {
+    let step = reach / 50 + 1;
+    let links = 2 * (1 + dice.below(30));
+    format!("PU{};PD;PR{};", numbers(dice, 2, reach), numbers(dice, links, step))
+}
+
+fn polygon(dice: &mut Dice, reach: i64) -> String {
+    let mut text = dice.pick(&["PM0;", "PM;", "PM0"]).to_string();
+    for _ in 0..dice.below(6) {
+        text += &moves(dice, reach);
+        if dice.one_in(4) {
+            text += dice.pick(&["PM1;", "PM1", "PM0;", "EP;", "SP2;", "IN;", "PM3;"]);
+        }
+    }
+    text + dice.pick(&["PM2;EP;", "PM2;EP;", "PM2;RO90;EP;", "PM2EP;PU;EP;", "EP;", "PM2;"])
+}
+
+fn circle(dice: &mut Dice, radius: &str) -> String {
+    let angle =
+        dice.pick(&["", "", ",5", ",7", ",45", ",60.0499", ",90", ",119.95", ",120.05", ",.44"]);
+    format!("CI{radius}{angle};")
+}
+
+/// A part of a drawing.
+fn figure(dice: &mut Dice, reach: i64) -> String {
+    match dice.below(24) {
+        0..=2 => setting(dice, reach),
+        3 | 4 => format!("{}{};", dice.pick(&["EA", "ER"]), numbers(dice, 2, reach)),
+        5 if dice.one_in(3) => {
+            let radius = number(dice, reach / 2);
+            circle(dice, &radius)
+        }
+        6 | 7 => polygon(dice, reach),
+        8..=11 => chain(dice, reach),
+        12 => dice.pick(&["LBPD5,5;\x03", "XX;", "P;", "@;", "5,5;", "\x1b.(;", "VS30;"]).into(),
+        _ => moves(dice, reach),
+    }
+}
+
+fn drawing(dice: &mut Dice) -> String {
+    let mut text = format!("IN;SP{};", 1 + dice.below(8));
+    for _ in 0..2 + dice.below(5) {
+        let reach = dice.pick(&[3, 50, 300, 12_000, 32_767]);
+        // A scale that most of the numbers fit, or any settings.
+        if dice.one_in(2) {
+            text += &format!("SP1;IW;IP;SC{},{reach},{reach},{};", -reach, -reach);
+        }
+        for _ in 0..dice.below(3) {
+            text += &setting(dice, reach);
+        }
+        for _ in 0..3 + dice.below(12) {
+            text += &figure(dice, reach);
+        }
+    }
+    if dice.one_in(8) {
+        text.make_ascii_lowercase();
+    }
+    text
+}
+
+fn mutation(dice: &mut Dice) -> Vec<u8> {
+    let mut text = if dice.one_in(3) {
+        let whole = dice.pick(&WRITTEN);
+        let from = dice.below(whole.len().saturating_sub(1_500).max(1));
+        [b"IN;SP1;", &whole[from..whole.len().min(from + 1_500)]].concat()
+    } else {
+        drawing(dice).into_bytes()
+    };
+    for _ in 0..1 + dice.below(20) {
+        mutate(&mut text, dice);
+    }
+    text
+}
+
+/// One change at some place.
+fn mutate(text: &mut Vec<u8>, dice: &mut Dice) {
+    let at = dice.below(text.len() + 1);
+    let end = (at + dice.below(24)).min(text.len());
+    let byte = if dice.one_in(4) { dice.below(256) as u8 } else { dice.pick(ALPHABET) };
+    match dice.below(6) {
+        0 => text.insert(at, byte),
+        1 if at < text.len() => text[at] = byte,
+        2 => {
+            text.drain(at..end);
+        }
+        3 => {
+            let part = text[at..end].to_vec();
+            let to = dice.below(text.len() + 1);
+            text.splice(to..to, part);
+        }
+        4 if at < text.len() => text[at] ^= 1 << dice.below(8),
+        _ => text[at..end].reverse(),
+    }
+}
+
+fn bytes(dice: &mut Dice) -> Vec<u8> {
+    let names =
+        ["IN", "DF", "IP", "SC", "IW", "RO", "SP", "PM", "CI", "EA", "ER", "EP", "PU", "PD"];
+    let (size, kind) = (200 + dice.below(2_000), dice.below(3));
+    let mut text = b"SP1;PD;".to_vec();
+    while text.len() < size {
+        match kind {
+            0 => text.push(dice.below(256) as u8),
+            1 => text.push(dice.pick(ALPHABET)),
+            _ if dice.one_in(9) => text.extend(dice.pick(&names).bytes()),
+            _ => text.push(dice.pick(b"0123456789.-+,,,,;;;;")),
+        }
+    }
+    text
+}
+
+/// Polygons of about as many points as fit, with every way to spend the last bytes.
+fn brim(dice: &mut Dice) -> String {
+    let mut text = format!("SP1;{}", if dice.one_in(3) { dice.pick(&SCALES) } else { "" });
+    for _ in 0..1 + dice.below(2) {
+        text +=
+            &format!("PU{};{}PM0;", numbers(dice, 2, 90), dice.pick(&["", "PD;", "PR;", "PD;PR;"]));
+        let marks = dice.pick(&[0, 0, 3, 40, 300, 506]);
+        text += &"PM1;".repeat(marks);
+        let points = ((1_024 - 11 - 2 * marks.min(506)) / 9).saturating_sub(dice.below(12));
+        let list: Vec<String> = (0..points).map(|i| format!("{},{}", i % 9, i * i % 7)).collect();
+        text += &format!("PD{};", list.join(","));
+        for _ in 0..dice.below(24) {
+            text += &last_bytes(dice);
+        }
+        text += dice.pick(&[
+            "PM2;EP;",
+            "PM2;EP;",
+            "PM2;PM2;EP;",
+            "PM1;PM2;EP;",
+            "IN;EP;",
+            "PM2;RO90;EP;",
+        ]);
+    }
+    text
+}
+
+fn last_bytes(dice: &mut Dice) -> String {
+    let pair = numbers(dice, 2, 90);
+    match dice.below(10) {
+        0 => "PM1;".to_string(),
+        1..=3 => format!("PU{pair};"),
+        4..=6 => format!("PD{pair};"),
+        7 => format!("PR{pair};PA"),
+        8 => "PU;PD;".to_string(),
+        _ => format!("PD{pair},{pair};"),
+    }
+}
+
+fn circles(dice: &mut Dice) -> String {
+    let pairs = ["0,0", "32767.9999,-32768", ".0001,-.0001", "-.5,.5", "30.5184,-30.5184", "1,2"];
+    let radii =
+        ["0", ".0001", "-.0001", "1", "1000", "-32768", "32767.9999", "31.25", "12345.6789"];
+    let mut text = format!("SP{};", 1 + dice.below(8));
+    for _ in 0..1 + dice.below(3) {
+        text += dice.pick(&SCALES);
+        for _ in 0..4 + dice.below(8) {
+            text += &format!("{}{};", dice.pick(&["PA", "PR", "PD", "PU"]), dice.pick(&pairs));
+            let radius = dice.pick(&radii);
+            text += &match dice.below(12) {
+                0 => format!("CI{radius},.5;"),
+                1 => setting(dice, 32_767),
+                2 => format!("IW{},{};", dice.pick(&pairs), dice.pick(&pairs)),
+                3 => format!("{}{};", dice.pick(&["EA", "ER"]), dice.pick(&pairs)),
+                _ => circle(dice, radius),
+            };
+        }
+    }
+    text
+}
+
+/// Digits, thousands of them now and then; zeros, nines or any.
+fn many(dice: &mut Dice) -> String {
+    let size = dice.pick(&[1, 4, 5, 6, 19, 20, 21, 300, 2_000, 5_000]);
+    let kind = dice.pick(&["0", "0", "9", ""]);
+    match kind {
+        "" => (0..size).map(|_| char::from(b'0' + dice.below(10) as u8)).collect(),
+        _ => kind.repeat(size),
+    }
+}
+
+/// A number with thousands of digits: zeros before it, decimals after it, or out of range.
+fn long_number(dice: &mut Dice) -> String {
+    let whole = dice.within(0, 12_000);
+    match dice.below(8) {
+        0 => format!("-{}{whole}", "0".repeat(dice.below(5_000))),
+        1 | 2 => format!("{}{whole}.{}", "0".repeat(dice.below(40)), many(dice)),
+        3 => format!("-{whole}.{}", many(dice)),
+        4 if dice.one_in(3) => format!("{}.{}", many(dice), many(dice)),
+        _ => number(dice, 12_000),
+    }
+}
+
+fn digits(dice: &mut Dice) -> Vec<u8> {
+    let mut text = "SP1;PD;".to_string();
+    for _ in 0..6 + dice.below(12) {
+        text += dice.pick(&["PA", "PD", "PD", "PR", "PU", "CI", "SP", "SC0,1,", "IP", "RO", "IW"]);
+        let count = dice.pick(&[1, 2, 2, 2, 2, 4]);
+        let list: Vec<String> = (0..count).map(|_| long_number(dice)).collect();
+        text += &format!("{};SP1;PD;", list.join(","));
+    }
+    text.into_bytes()
+}

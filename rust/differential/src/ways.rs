@@ -1,0 +1,386 @@
+//! How a stream is put through the calls, with every answer compared.
+
+use crate::dice::Dice;
+use crate::partner::{Partner, Record};
+use baseline::exact::Exact;
+use baseline::{number, Drawn, Fed, Look, Machine};
+use std::fmt::{self, Debug, Display};
+use std::ops::Range;
+
+/// The records of a plot with much room.
+const LARGE: usize = 4096;
+
+/// A block that holds any stream whole.
+pub const WHOLE: usize = 1 << 24;
+
+/// A way to put a stream through the calls.
+#[derive(Clone, Copy, PartialEq, Eq, Debug)]
+pub enum Way {
+    /// Take, look, and draw until idle, after each byte; with the exact checker.
+    Calls,
+    /// The same with draws by the dice, so that takes are refused with 20; with the exact checker.
+    Lazy(u64),
+    /// Feed in blocks of `block` bytes into `room` records.
+    Feed {
+        /// Bytes a call.
+        block: usize,
+        /// Records a call.
+        room: usize,
+    },
+    /// Plot likewise.
+    Plot {
+        /// Bytes a call.
+        block: usize,
+        /// Records a call.
+        room: usize,
+    },
+    /// All calls, by the dice.
+    Mixed(u64),
+}
+
+/// Each way that a stream is put through: rooms 0 to 8 of feed and plot, and a large one.
+pub fn every_way(dice: &mut Dice) -> Vec<Way> {
+    let mut ways = vec![Way::Calls, Way::Lazy(dice.roll()), Way::Mixed(dice.roll())];
+    for room in 0..=8 {
+        let blocks = [1, 7, 64, 700, WHOLE];
+        ways.push(Way::Feed { block: dice.pick(&blocks), room });
+        ways.push(Way::Plot { block: dice.pick(&blocks), room });
+    }
+    ways.push(Way::Plot { block: WHOLE, room: LARGE });
+    ways
+}
+
+/// A call, its bytes by their places in the stream.
+#[derive(Clone, PartialEq, Eq, Debug)]
+enum Call {
+    Take(u8),
+    Draw,
+    Look,
+    Feed(Range<usize>, usize),
+    Plot(Range<usize>, usize),
+}
+
+/// What was seen in a run.
+#[derive(Clone, Default, Debug)]
+pub struct Tally {
+    /// Calls of take.
+    pub takes: usize,
+    /// Calls of draw.
+    pub draws: usize,
+    /// Calls of feed and plot.
+    pub feeds: usize,
+    /// Draws that answered a stroke; each was judged by condition 3.
+    pub strokes: usize,
+    /// Draws that answered hidden; likewise.
+    pub hidden: usize,
+    /// Marks that feed and plot stored.
+    pub stored: usize,
+    /// Answers by number, of take, feed and plot.
+    pub numbers: [usize; 32],
+}
+
+impl Tally {
+    /// Adds another run.
+    pub fn add(&mut self, other: &Tally) {
+        self.takes += other.takes;
+        self.draws += other.draws;
+        self.feeds += other.feeds;
+        self.strokes += other.strokes;
+        self.hidden += other.hidden;
+        self.stored += other.stored;
+        for (sum, count) in self.numbers.iter_mut().zip(other.numbers) {
+            *sum += count;
+        }
+    }
+}
+
+impl Display for Tally {
+    fn fmt(&self, f: &mut fmt::Formatter<'_>) -> fmt::Result {
+        let Tally { takes, draws, feeds, strokes, hidden, stored, numbers } = self;
+        write!(f, "{takes} takes, {draws} draws ({strokes} strokes and {hidden} hidden by ")?;
+        write!(f, "condition 3), {feeds} feeds and plots ({stored} marks), numbers")?;
+        for (number, count) in numbers.iter().enumerate().filter(|(_, &count)| count > 0) {
+            write!(f, " {number}: {count}")?;
+        }
+        Ok(())
+    }
+}
+
+/// An answer that is not the one that is due.
+#[derive(Clone, Debug)]
+pub struct Difference {
+    calls: Vec<Call>,
+    answer: String,
+    due: String,
+}
+
+impl Difference {
+    /// Writes the calls, as a program that makes them, and the two answers to the last. A look
+    /// changes nothing and is left out before the last call.
+    pub fn explain(&self, limits: [i64; 4], stream: &[u8]) -> String {
+        let [left, bottom, right, top] = limits;
+        let mut text = format!(
+            "let (mut machine, number) = Machine::fresh({left}, {bottom}, {right}, {top});\n"
+        );
+        let last = self.calls.len().saturating_sub(1);
+        let mut told = self.calls[..last].to_vec();
+        told.retain(|call| *call != Call::Look);
+        told.extend(self.calls.last().cloned());
+        let mut at = 0;
+        while at < told.len() {
+            let (line, told) = told_calls(&told[at..], stream);
+            text += &line;
+            at += told;
+        }
+        format!("{text}// answered {}\n// due      {}\n", self.answer, self.due)
+    }
+}
+
+/// The draws that follow, up to another call.
+fn draws(calls: &[Call]) -> usize {
+    calls.iter().take_while(|call| **call == Call::Draw).count()
+}
+
+/// A line for the first of these calls, and how many calls it stands for: takes that are followed
+/// by the same number of draws are one loop.
+fn told_calls(calls: &[Call], stream: &[u8]) -> (String, usize) {
+    let block = |call: &str, record: &str, bytes: &Range<usize>, room: usize| {
+        let bytes = stream[bytes.clone()].escape_ascii();
+        format!("machine.{call}(b\"{bytes}\", &mut [{record}::default(); {room}]);\n")
+    };
+    match &calls[0] {
+        Call::Take(_) => {
+            let (each, mut bytes) = (draws(&calls[1..]), Vec::new());
+            let mut rest = calls;
+            while let [Call::Take(byte), after @ ..] = rest {
+                if draws(after) != each {
+                    break;
+                }
+                bytes.push(*byte);
+                rest = &after[each..];
+            }
+            let draws = match each {
+                0..=2 => "machine.draw(); ".repeat(each),
+                _ => format!("for _ in 0..{each} {{ machine.draw(); }} "),
+            };
+            let line = format!(
+                "for byte in *b\"{}\" {{ machine.take(byte); {draws}}}\n",
+                bytes.escape_ascii()
+            );
+            (line, bytes.len() * (1 + each))
+        }
+        Call::Draw => ("machine.draw();\n".to_string(), 1),
+        Call::Look => ("machine.look();\n".to_string(), 1),
+        Call::Feed(bytes, room) => (block("feed", "Stroke", bytes, *room), 1),
+        Call::Plot(bytes, room) => (block("plot", "Mark", bytes, *room), 1),
+    }
+}
+
+/// Two machines that get the same calls, and the calls.
+struct Pair<'a, P> {
+    stream: &'a [u8],
+    answering: P,
+    due: Machine,
+    exact: Option<Exact>,
+    calls: Vec<Call>,
+    tally: Tally,
+}
+
+impl<'a, P: Partner> Pair<'a, P> {
+    fn fresh(limits: [i64; 4], stream: &'a [u8], judged: bool) -> Result<Self, Difference> {
+        let (answering, answer) = P::fresh(limits);
+        let (due, number) = <Machine as Partner>::fresh(limits);
+        let [left, bottom, right, top] = limits;
+        let exact = judged.then(|| Exact::fresh(left, bottom, right, top).0);
+        let (calls, tally) = (Vec::new(), Tally::default());
+        let pair = Pair { stream, answering, due, exact, calls, tally };
+        pair.same(answer, number)?;
+        Ok(pair)
+    }
+
+    fn same<T: PartialEq + Debug>(&self, answer: T, due: T) -> Result<T, Difference> {
+        if answer == due {
+            return Ok(due);
+        }
+        self.differs(format!("{answer:?}"), format!("{due:?}"))
+    }
+
+    fn differs<T>(&self, answer: String, due: String) -> Result<T, Difference> {
+        Err(Difference { calls: self.calls.clone(), answer, due })
+    }
+
+    fn take(&mut self, byte: u8) -> Result<u8, Difference> {
+        self.calls.push(Call::Take(byte));
+        self.tally.takes += 1;
+        let answer = self.answering.take(byte);
+        let due = self.due.take(byte);
+        self.same(answer, due)?;
+        if let Some(exact) = &mut self.exact {
+            let owed = exact.take(byte);
+            self.same(answer, owed)?;
+        }
+        self.tally.numbers[usize::from(due) % 32] += 1;
+        Ok(due)
+    }
+
+    fn draw(&mut self) -> Result<Drawn, Difference> {
+        self.calls.push(Call::Draw);
+        self.tally.draws += 1;
+        let answer = self.answering.draw();
+        // Judged before it is compared, so that condition 3 does not rest on the baseline.
+        if let Some(Err(violation)) = self.exact.as_mut().map(|exact| exact.draw(answer)) {
+            return self.differs(format!("{answer:?}"), format!("condition 3: {violation}"));
+        }
+        let due = self.due.draw();
+        self.tally.strokes += usize::from(matches!(due, Drawn::Stroke(_)));
+        self.tally.hidden += usize::from(due == Drawn::Hidden);
+        self.same(answer, due)
+    }
+
+    fn look(&mut self) -> Result<Look, Difference> {
+        self.calls.push(Call::Look);
+        if let Some(exact) = &self.exact {
+            self.same(self.answering.look(), exact.look())?;
+        }
+        self.same(self.answering.look(), self.due.look())
+    }
+
+    fn feed(&mut self, bytes: Range<usize>, room: usize) -> Result<Fed, Difference> {
+        self.calls.push(Call::Feed(bytes.clone(), room));
+        let (mut records, mut kept) = (untouched(room), untouched(room));
+        let fed = self.answering.feed(&self.stream[bytes.clone()], &mut records);
+        let due = Partner::feed(&mut self.due, &self.stream[bytes], &mut kept);
+        self.stored((fed, records), (due, kept))
+    }
+
+    fn plot(&mut self, bytes: Range<usize>, room: usize) -> Result<Fed, Difference> {
+        self.calls.push(Call::Plot(bytes.clone(), room));
+        let (mut records, mut kept) = (untouched(room), untouched(room));
+        let fed = self.answering.plot(&self.stream[bytes.clone()], &mut records);
+        let due = Partner::plot(&mut self.due, &self.stream[bytes], &mut kept);
+        self.stored((fed, records), (due, kept))
+    }
+
+    /// Compares what feed or plot answered, every record of the list included.
+    fn stored(
+        &mut self,
+        answer: (Fed, Vec<Record>),
+        due: (Fed, Vec<Record>),
+    ) -> Result<Fed, Difference> {
+        self.tally.feeds += 1;
+        self.tally.stored += due.0.stored;
+        self.tally.numbers[usize::from(due.0.number) % 32] += 1;
+        let fed = self.same(answer.0, due.0)?;
+        for (at, (record, kept)) in answer.1.iter().zip(&due.1).enumerate() {
+            if record != kept {
+                return self.differs(format!("record {at}: {record:?}"), format!("{kept:?}"));
+            }
+        }
+        Ok(fed)
+    }
+
+    /// Draws until idle.
+    fn draw_off(&mut self) -> Result<(), Difference> {
+        while self.draw()? != Drawn::Idle {}
+        Ok(())
+    }
+}
+
+/// Records with content that no mark has, which feed and plot leave where they store nothing.
+fn untouched(room: usize) -> Vec<Record> {
+    (0..room as i64).map(|i| [1, 2, 3, 4, 5].map(|k| -70_000_000 - 10 * i - k)).collect()
+}
+
+/// Puts the stream through a fresh machine of `P` in this way.
+pub fn run<P: Partner>(limits: [i64; 4], stream: &[u8], way: Way) -> Result<Tally, Difference> {
+    let judged = matches!(way, Way::Calls | Way::Lazy(_));
+    let mut pair = Pair::<P>::fresh(limits, stream, judged)?;
+    pair.look()?;
+    match way {
+        Way::Calls => calls(&mut pair)?,
+        Way::Lazy(seed) => lazy(&mut pair, &mut Dice::new(seed))?,
+        Way::Feed { block, room } => feeds(&mut pair, block, room)?,
+        Way::Plot { block, room } => plots(&mut pair, block, room)?,
+        Way::Mixed(seed) => mixed(&mut pair, &mut Dice::new(seed))?,
+    }
+    Ok(pair.tally)
+}
+
+fn calls<P: Partner>(pair: &mut Pair<P>) -> Result<(), Difference> {
+    for &byte in pair.stream {
+        pair.take(byte)?;
+        pair.look()?;
+        pair.draw_off()?;
+    }
+    pair.look().map(|_| ())
+}
+
+/// Few draws, so that bytes are refused with 20; most of those are sent again.
+fn lazy<P: Partner>(pair: &mut Pair<P>, dice: &mut Dice) -> Result<(), Difference> {
+    for &byte in pair.stream {
+        while pair.take(byte)? == number::WAITS && !dice.one_in(8) {
+            pair.look()?;
+            for _ in 0..dice.below(40) {
+                pair.draw()?;
+            }
+        }
+        pair.look()?;
+        if dice.one_in(4) {
+            pair.draw()?;
+        }
+    }
+    pair.draw_off()
+}
+
+fn feeds<P: Partner>(pair: &mut Pair<P>, block: usize, room: usize) -> Result<(), Difference> {
+    let mut at = 0;
+    loop {
+        let end = (at + block).min(pair.stream.len());
+        let fed = pair.feed(at..end, room)?;
+        pair.look()?;
+        at += fed.taken;
+        if fed.number == number::FULL && room == 0 {
+            pair.draw()?;
+        }
+        if fed.number == number::NONE && at == pair.stream.len() {
+            return Ok(());
+        }
+    }
+}
+
+fn plots<P: Partner>(pair: &mut Pair<P>, block: usize, room: usize) -> Result<(), Difference> {
+    let mut at = 0;
+    loop {
+        let end = (at + block).min(pair.stream.len());
+        let fed = pair.plot(at..end, room)?;
+        pair.look()?;
+        at += fed.taken;
+        if fed.number == number::NONE && at == pair.stream.len() {
+            return Ok(());
+        }
+        // Without records plot does nothing: a draw or, when idle, a take goes on.
+        if room == 0 && pair.draw()? == Drawn::Idle {
+            pair.take(pair.stream[at])?;
+            at += 1;
+        }
+    }
+}
+
+fn mixed<P: Partner>(pair: &mut Pair<P>, dice: &mut Dice) -> Result<(), Difference> {
+    let mut at = 0;
+    while at < pair.stream.len() {
+        let bytes = at..(at + dice.below(40)).min(pair.stream.len());
+        let room = dice.below(9);
+        at += match dice.below(6) {
+            0 | 1 => usize::from(pair.take(pair.stream[at])? != number::WAITS || dice.one_in(8)),
+            2 => {
+                pair.draw()?;
+                0
+            }
+            3 | 4 => pair.feed(bytes, room)?.taken,
+            _ => pair.plot(bytes, room)?.taken,
+        };
+        pair.look()?;
+    }
+    pair.draw_off()
+}

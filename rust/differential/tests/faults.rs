@@ -1,0 +1,216 @@
+//! The comparison can fail: faults are put into the answers of the proved library, and each must
+//! be found and brought down to a short input.
+
+use baseline::{number, Drawn, Fed, Look};
+use differential::hunt::{hunt, Finding};
+use differential::partner::{Partner, Record};
+use differential::streams::Family;
+use std::marker::PhantomData;
+use vutaroi::Machine;
+
+/// What a fault does to the answers; each leaves most of them alone.
+trait Fault {
+    fn fresh(number: u8) -> u8 {
+        number
+    }
+    fn take(_machine: &mut Machine, number: u8) -> u8 {
+        number
+    }
+    fn draw(drawn: Drawn) -> Drawn {
+        drawn
+    }
+    fn look(seen: Look) -> Look {
+        seen
+    }
+    fn feed(fed: Fed, _records: &mut [Record]) -> Fed {
+        fed
+    }
+    fn plot(fed: Fed, _records: &mut [Record]) -> Fed {
+        fed
+    }
+}
+
+struct Faulty<F>(Machine, PhantomData<F>);
+
+impl<F: Fault> Partner for Faulty<F> {
+    fn fresh(limits: [i64; 4]) -> (Self, u8) {
+        let (machine, number) = <Machine as Partner>::fresh(limits);
+        (Faulty(machine, PhantomData), F::fresh(number))
+    }
+    fn take(&mut self, byte: u8) -> u8 {
+        let number = Partner::take(&mut self.0, byte);
+        F::take(&mut self.0, number)
+    }
+    fn draw(&mut self) -> Drawn {
+        F::draw(Partner::draw(&mut self.0))
+    }
+    fn look(&self) -> Look {
+        F::look(Partner::look(&self.0))
+    }
+    fn feed(&mut self, bytes: &[u8], records: &mut [Record]) -> Fed {
+        let fed = Partner::feed(&mut self.0, bytes, records);
+        F::feed(fed, records)
+    }
+    fn plot(&mut self, bytes: &[u8], records: &mut [Record]) -> Fed {
+        let fed = Partner::plot(&mut self.0, bytes, records);
+        F::plot(fed, records)
+    }
+}
+
+/// The finding in streams of this family, its input at most `most` bytes long.
+fn found<F: Fault>(family: Family, most: usize) -> Finding {
+    let Err(finding) = hunt::<Faulty<F>>(family, 1, 200_000) else {
+        panic!("the fault was not found");
+    };
+    println!("{finding}");
+    assert!(finding.input.len() <= most, "not shrunk: {finding}");
+    assert!(finding.calls.contains("// due "), "no calls: {finding}");
+    *finding
+}
+
+/// The right end of a stroke of pen 3 is one unit off, far to the right.
+struct Astray;
+impl Fault for Astray {
+    fn draw(drawn: Drawn) -> Drawn {
+        match drawn {
+            Drawn::Stroke(mut stroke) if stroke.pen == 3 && stroke.x1 > 200 => {
+                stroke.x1 += 1;
+                Drawn::Stroke(stroke)
+            }
+            _ => drawn,
+        }
+    }
+}
+
+#[test]
+fn stroke_off_by_one() {
+    let finding = found::<Astray>(Family::Drawings, 16);
+    assert!(finding.calls.contains("machine.draw(); }\n// answered Stroke"), "{finding}");
+}
+
+/// A stroke that is left out.
+struct LeftOut;
+impl Fault for LeftOut {
+    fn draw(drawn: Drawn) -> Drawn {
+        match drawn {
+            Drawn::Stroke(stroke) if stroke.y0 < -100 && stroke.x0 != stroke.x1 => Drawn::Hidden,
+            _ => drawn,
+        }
+    }
+}
+
+#[test]
+fn stroke_left_out() {
+    let finding = found::<LeftOut>(Family::Drawings, 24);
+    assert!(finding.calls.contains("condition 3"), "not judged by condition 3: {finding}");
+}
+
+/// A byte that is refused with another number.
+struct OtherNumber;
+impl Fault for OtherNumber {
+    fn take(_: &mut Machine, refused: u8) -> u8 {
+        if refused == number::LOCATION {
+            number::RANGE
+        } else {
+            refused
+        }
+    }
+}
+
+#[test]
+fn other_number() {
+    found::<OtherNumber>(Family::Circles, 60);
+}
+
+/// A take while a segment waits, answered with 20, that works the segment off.
+struct Swallowed;
+impl Fault for Swallowed {
+    fn take(machine: &mut Machine, refused: u8) -> u8 {
+        if refused == number::WAITS {
+            Partner::draw(machine);
+        }
+        refused
+    }
+}
+
+#[test]
+fn segment_swallowed() {
+    let finding = found::<Swallowed>(Family::Mutations, 24);
+    assert!(matches!(finding.way, differential::ways::Way::Lazy(_)), "{finding}");
+}
+
+/// Polygon bytes miscounted where there are many.
+struct Miscounted;
+impl Fault for Miscounted {
+    fn look(mut seen: Look) -> Look {
+        seen.bytes -= usize::from(seen.bytes > 500);
+        seen
+    }
+}
+
+#[test]
+fn bytes_miscounted() {
+    // The least that costs 500 bytes: 54 points of 9, "0,0,"; with PM1 alone, of 2, it is 750.
+    found::<Miscounted>(Family::Brims, 760);
+}
+
+/// A feed that also writes the record after those stored.
+struct Touched;
+impl Fault for Touched {
+    fn feed(fed: Fed, records: &mut [Record]) -> Fed {
+        if let (6, Some(record)) = (fed.stored, records.get_mut(fed.stored)) {
+            record[4] = 0;
+        }
+        fed
+    }
+}
+
+#[test]
+fn record_touched() {
+    let finding = found::<Touched>(Family::Drawings, 32);
+    assert!(finding.calls.contains("machine.feed("), "{finding}");
+}
+
+/// A feed that does not count the refused byte as taken.
+struct NotCounted;
+impl Fault for NotCounted {
+    fn feed(mut fed: Fed, _: &mut [Record]) -> Fed {
+        fed.taken -= usize::from(fed.number == number::COUNT);
+        fed
+    }
+}
+
+#[test]
+fn refused_byte_not_counted() {
+    found::<NotCounted>(Family::Bytes, 4);
+}
+
+/// A plot that counts the places of refused bytes from 0.
+struct CountedFromZero;
+impl Fault for CountedFromZero {
+    fn plot(fed: Fed, records: &mut [Record]) -> Fed {
+        for record in records[..fed.stored].iter_mut().filter(|record| record[0] == 0) {
+            record[2] -= 1;
+        }
+        fed
+    }
+}
+
+#[test]
+fn place_counted_from_zero() {
+    found::<CountedFromZero>(Family::Digits, 4);
+}
+
+/// Bad hard limits that are not refused.
+struct Accepted;
+impl Fault for Accepted {
+    fn fresh(_: u8) -> u8 {
+        number::NONE
+    }
+}
+
+#[test]
+fn limits_accepted() {
+    let finding = found::<Accepted>(Family::Digits, 0);
+    assert_ne!(finding.limits, differential::hunt::USUAL);
+}
