@@ -32,16 +32,28 @@ const WRITTEN: [&[u8]; 6] = [
 /// What HP-GL is made of, and a few bytes that it knows not.
 const ALPHABET: &[u8] = b"PDUARMSICEWNLBFOpdu0123456789.-+,; \n\t\r\x03\x1b@~\xc3";
 
+/// Numbers that are none, or stand at the ends of the range.
+const AT_FAULT: [&str; 11] =
+    ["-", ".", "+", "5-", "1.2.3", "-.", "32767.9999", "32768", "-32768", "-32768.0001", "40000"];
+
 /// Scales from one end of what the numbers allow to the other.
-const SCALES: [&str; 7] = [
+const SCALES: [&str; 8] = [
     "IP-32768,-32768,32767,32767;SC-32768,32767.9999,-32768,32767.9999;",
     "IP32767,32767,-32768,-32768;SC32767.9999,-32768,-32768,32767.9999;",
     "IP0,0,1,1;SC-32768,32767.9999,32767.9999,-32768;",
     "IP-32768,-32768,32767,32767;SC0,.0001,.0001,0;",
     "IP0,0,32767,32767;SC0,1,0,1;",
     "IP0,0,1000,-1000;SC0,3,3,0;",
+    HUNDRED,
     "IP;SC;",
 ];
+
+/// A scale where 100 is a location of 1,000,000, the last in range.
+const HUNDRED: &str = "IP0,0,10000,-10000;SC0,1,0,1;";
+
+/// Places at and next to the edge of the range, under that scale.
+const EDGES: [&str; 6] =
+    ["100,-100", "-100,100", "100.0001,0", "0,-100.0001", "99.9999,-99.9999", "100,100.0001"];
 
 impl Family {
     /// Every family.
@@ -61,8 +73,8 @@ impl Family {
             Family::Mutations => 20,
             Family::Bytes => 14,
             Family::Brims => 14,
-            Family::Circles => 2,
-            Family::Digits => 10,
+            Family::Circles => 3,
+            Family::Digits => 9,
         }
     }
 
@@ -116,8 +128,7 @@ fn numbers(dice: &mut Dice, count: usize, reach: i64) -> String {
     let count = if dice.one_in(40) { dice.below(7) } else { count };
     let mut parts: Vec<String> = (0..count).map(|_| number(dice, reach)).collect();
     if dice.one_in(50) && count > 0 {
-        let wrong = ["-", ".", "40000", "1.2.3", "-32768.0001", "32767.9999", "-32768", "5-", "+"];
-        parts[dice.below(count)] = dice.pick(&wrong).to_string();
+        parts[dice.below(count)] = dice.pick(&AT_FAULT).to_string();
     }
     parts.join(dice.pick(&[",", ",", ",", " ", ", ", "\n", "\t,", ",,"]))
 }
@@ -151,11 +162,34 @@ fn moves(dice: &mut Dice, reach: i64) -> String {
     format!("{bare}{name}{};", numbers(dice, pairs, reach))
 }
 
-/// A chain of small relative moves, whose exact position never is a whole one.
+/// A chain of small relative moves, whose exact position hardly is a whole one. What comes
+/// between two parts of it may be refused, and then must not move the base.
 fn chain(dice: &mut Dice, reach: i64) -> String {
     let step = reach / 50 + 1;
-    let links = 2 * (1 + dice.below(30));
-    format!("PU{};PD;PR{};", numbers(dice, 2, reach), numbers(dice, links, step))
+    let (links, more) = (2 * (1 + dice.below(20)), 2 * (1 + dice.below(6)));
+    let start = numbers(dice, 2, reach);
+    let between =
+        ["SC1,1,0,3;", "SC0,1,2;", "IP0,0,0,5;", "RO45;", "IN3;", "RO;", "IP;", "SP;SP1;", ""];
+    let (first, then) = (numbers(dice, links, step), numbers(dice, more, step));
+    format!("PU{start};PD;PR{first};{}PR{then};", dice.pick(&between))
+}
+
+/// Moves at the edge of the range.
+fn edge(dice: &mut Dice) -> String {
+    let moves = ["PA", "PR", "PD", "EA", "ER", "CI100;PU", "PU;CI.0001,90;PA"];
+    let mut text = format!("{HUNDRED}PA{};", dice.pick(&EDGES));
+    for _ in 0..1 + dice.below(4) {
+        text += &format!("{}{};", dice.pick(&moves), dice.pick(&EDGES));
+        text += dice.pick(&[
+            "PR.0001,0;",
+            "PR0,-.0001;",
+            "RO90;",
+            "IW0,0,100,100;",
+            "CI.0001,60;",
+            "PR-50,50;",
+        ]);
+    }
+    text
 }
 
 fn polygon(dice: &mut Dice, reach: i64) -> String {
@@ -170,8 +204,9 @@ fn polygon(dice: &mut Dice, reach: i64) -> String {
 }
 
 fn circle(dice: &mut Dice, radius: &str) -> String {
-    let angle =
-        dice.pick(&["", "", ",5", ",7", ",45", ",60.0499", ",90", ",119.95", ",120.05", ",.44"]);
+    let angle = dice.pick(&[
+        "", "", ",5", ",7", ",45", ",60.0499", ",90", ",110", ",119.95", ",120.05", ",.44",
+    ]);
     format!("CI{radius}{angle};")
 }
 
@@ -180,12 +215,13 @@ fn figure(dice: &mut Dice, reach: i64) -> String {
     match dice.below(24) {
         0..=2 => setting(dice, reach),
         3 | 4 => format!("{}{};", dice.pick(&["EA", "ER"]), numbers(dice, 2, reach)),
-        5 if dice.one_in(3) => {
+        5 if dice.one_in(2) => {
             let radius = number(dice, reach / 2);
             circle(dice, &radius)
         }
         6 | 7 => polygon(dice, reach),
         8..=11 => chain(dice, reach),
+        13 if dice.one_in(3) => edge(dice),
         12 => dice.pick(&["LBPD5,5;\x03", "XX;", "P;", "@;", "5,5;", "\x1b.(;", "VS30;"]).into(),
         _ => moves(dice, reach),
     }
@@ -302,9 +338,17 @@ fn last_bytes(dice: &mut Dice) -> String {
 }
 
 fn circles(dice: &mut Dice) -> String {
-    let pairs = ["0,0", "32767.9999,-32768", ".0001,-.0001", "-.5,.5", "30.5184,-30.5184", "1,2"];
+    let pairs = [
+        "0,0",
+        "32767.9999,-32768",
+        ".0001,-.0001",
+        "-.5,.5",
+        "30.5184,-30.5184",
+        "1,2",
+        "100,-100",
+    ];
     let radii =
-        ["0", ".0001", "-.0001", "1", "1000", "-32768", "32767.9999", "31.25", "12345.6789"];
+        ["0", ".0001", "-.0001", "1", "1000", "-32768", "32767.9999", "31.25", "100", "12345.6789"];
     let mut text = format!("SP{};", 1 + dice.below(8));
     for _ in 0..1 + dice.below(3) {
         text += dice.pick(&SCALES);
@@ -323,32 +367,46 @@ fn circles(dice: &mut Dice) -> String {
     text
 }
 
-/// Digits, thousands of them now and then; zeros, nines or any.
-fn many(dice: &mut Dice) -> String {
-    let size = dice.pick(&[1, 4, 5, 6, 19, 20, 21, 300, 2_000, 5_000]);
-    let kind = dice.pick(&["0", "0", "9", ""]);
-    match kind {
-        "" => (0..size).map(|_| char::from(b'0' + dice.below(10) as u8)).collect(),
-        _ => kind.repeat(size),
+/// A count of digits, thousands of them now and then.
+fn count_of_digits(dice: &mut Dice) -> usize {
+    match dice.below(12) {
+        0 => dice.below(6_000),
+        1 => dice.below(300),
+        _ => dice.below(26),
     }
 }
 
-/// A number with thousands of digits: zeros before it, decimals after it, or out of range.
+fn many(dice: &mut Dice) -> String {
+    let count = count_of_digits(dice);
+    match dice.below(3) {
+        0 => "0".repeat(count),
+        1 => "9".repeat(count),
+        _ => (0..count).map(|_| char::from(b'0' + dice.below(10) as u8)).collect(),
+    }
+}
+
+/// A number with zeros before it, decimals after it, or far out of range, where one kept in few
+/// bits would come round to a small one.
 fn long_number(dice: &mut Dice) -> String {
     let whole = dice.within(0, 12_000);
-    match dice.below(8) {
-        0 => format!("-{}{whole}", "0".repeat(dice.below(5_000))),
-        1 | 2 => format!("{}{whole}.{}", "0".repeat(dice.below(40)), many(dice)),
+    let zeros = "0".repeat(count_of_digits(dice));
+    let bits = [1 << 16, 1 << 32, 10_000 << 32, 1 << 63, 1 << 64, 10_000 << 64, 1i128 << 96];
+    match dice.below(10) {
+        0 => format!("-{zeros}{whole}"),
+        1 | 2 => format!("{zeros}{whole}.{}", many(dice)),
         3 => format!("-{whole}.{}", many(dice)),
-        4 if dice.one_in(3) => format!("{}.{}", many(dice), many(dice)),
+        4 => format!("{}{zeros}{whole}", 1 + dice.below(9)),
+        5 => format!("{}{}", dice.pick(&["", "-"]), dice.pick(&bits) + i128::from(whole)),
+        6 if dice.one_in(3) => format!("{}.{}", many(dice), many(dice)),
         _ => number(dice, 12_000),
     }
 }
 
 fn digits(dice: &mut Dice) -> Vec<u8> {
     let mut text = "SP1;PD;".to_string();
-    for _ in 0..6 + dice.below(12) {
-        text += dice.pick(&["PA", "PD", "PD", "PR", "PU", "CI", "SP", "SC0,1,", "IP", "RO", "IW"]);
+    for _ in 0..12 + dice.below(24) {
+        text += dice
+            .pick(&["PA", "PD", "PD", "PR", "PU", "PU", "CI", "SP", "SC0,1,", "IP", "RO", "IW"]);
         let count = dice.pick(&[1, 2, 2, 2, 2, 4]);
         let list: Vec<String> = (0..count).map(|_| long_number(dice)).collect();
         text += &format!("{};SP1;PD;", list.join(","));

@@ -16,57 +16,55 @@ fn setting(name: &str, usual: u64) -> u64 {
     }
 }
 
-/// The family's share of the bytes; fails with the shortest input that shows a difference.
-fn search(family: Family) -> Tally {
-    let seed = setting("SEED", 20_260_101);
-    let bytes = setting("BYTES", 2_000_000) as usize * family.share() / 100 + 1;
-    match hunt::<Machine>(family, seed, bytes) {
-        Ok((generated, tally)) => {
-            println!(
-                "{family:?}: seed {seed}, {generated} bytes generated, no difference: {tally}"
-            );
-            tally
-        }
-        Err(finding) => panic!("{finding}"),
-    }
-}
+/// The bytes that a run generates unless told otherwise.
+const BYTES: u64 = 2_000_000;
 
-/// Whether all of these numbers were answered, and paint was judged.
-fn reached(tally: &Tally, numbers: &[usize]) {
-    for &number in numbers {
-        assert!(tally.numbers[number] > 0, "{number} was never answered: the streams are too few");
+/// The family's share of the bytes. It fails with the shortest input that shows a difference, and
+/// where a full run does not reach all of these numbers and both kinds of paint.
+fn search(family: Family, numbers: &[usize]) {
+    let (seed, bytes) = (setting("SEED", 20_260_101), setting("BYTES", BYTES));
+    let (generated, tally) =
+        match hunt::<Machine>(family, seed, bytes as usize * family.share() / 100 + 1) {
+            Ok(seen) => seen,
+            Err(finding) => panic!("{finding}"),
+        };
+    println!("{family:?}: seed {seed}, {generated} bytes generated, no difference: {tally}");
+    if bytes >= BYTES {
+        for &number in numbers {
+            assert!(tally.numbers[number] > 0, "{number} was never answered: {tally}");
+        }
+        assert!(tally.strokes > 0 && tally.hidden > 0 && tally.stored > 0, "no paint: {tally}");
     }
-    assert!(tally.strokes > 0 && tally.hidden > 0 && tally.stored > 0, "no paint: {tally}");
 }
 
 #[test]
 fn drawings() {
-    reached(&search(Family::Drawings), &[0, 1, 2, 3, 6, 20, 21]);
+    search(Family::Drawings, &[0, 1, 2, 3, 6, 20, 21]);
 }
 
 #[test]
 fn mutations() {
-    reached(&search(Family::Mutations), &[0, 1, 2, 3, 6, 20, 21]);
+    search(Family::Mutations, &[0, 1, 2, 3, 6, 20, 21]);
 }
 
 #[test]
 fn bytes() {
-    reached(&search(Family::Bytes), &[0, 1, 2, 3, 20, 21]);
+    search(Family::Bytes, &[0, 1, 2, 3, 20, 21]);
 }
 
 #[test]
 fn brims() {
-    reached(&search(Family::Brims), &[0, 1, 3, 7, 20, 21]);
+    search(Family::Brims, &[0, 1, 3, 7, 20, 21]);
 }
 
 #[test]
 fn circles() {
-    reached(&search(Family::Circles), &[0, 3, 6, 20, 21]);
+    search(Family::Circles, &[0, 3, 6, 20, 21]);
 }
 
 #[test]
 fn digits() {
-    reached(&search(Family::Digits), &[0, 2, 3, 20, 21]);
+    search(Family::Digits, &[0, 2, 3, 20, 21]);
 }
 
 #[test]

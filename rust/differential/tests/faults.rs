@@ -57,8 +57,9 @@ impl<F: Fault> Partner for Faulty<F> {
     }
 }
 
-/// The finding in streams of this family, its input at most `most` bytes long.
-fn found<F: Fault>(family: Family, most: usize) -> Finding {
+/// The finding in streams of this family, its input at most `most` bytes long; streams have
+/// hundreds to thousands.
+fn found_within<F: Fault>(family: Family, most: usize) -> Finding {
     let Err(finding) = hunt::<Faulty<F>>(family, 1, 200_000) else {
         panic!("the fault was not found");
     };
@@ -66,6 +67,10 @@ fn found<F: Fault>(family: Family, most: usize) -> Finding {
     assert!(finding.input.len() <= most, "not shrunk: {finding}");
     assert!(finding.calls.contains("// due "), "no calls: {finding}");
     *finding
+}
+
+fn found<F: Fault>(family: Family) -> Finding {
+    found_within::<F>(family, 48)
 }
 
 /// The right end of a stroke of pen 3 is one unit off, far to the right.
@@ -84,7 +89,7 @@ impl Fault for Astray {
 
 #[test]
 fn stroke_off_by_one() {
-    let finding = found::<Astray>(Family::Drawings, 16);
+    let finding = found::<Astray>(Family::Drawings);
     assert!(finding.calls.contains("machine.draw(); }\n// answered Stroke"), "{finding}");
 }
 
@@ -101,7 +106,7 @@ impl Fault for LeftOut {
 
 #[test]
 fn stroke_left_out() {
-    let finding = found::<LeftOut>(Family::Drawings, 24);
+    let finding = found::<LeftOut>(Family::Drawings);
     assert!(finding.calls.contains("condition 3"), "not judged by condition 3: {finding}");
 }
 
@@ -119,7 +124,7 @@ impl Fault for OtherNumber {
 
 #[test]
 fn other_number() {
-    found::<OtherNumber>(Family::Circles, 60);
+    found::<OtherNumber>(Family::Circles);
 }
 
 /// A take while a segment waits, answered with 20, that works the segment off.
@@ -135,7 +140,7 @@ impl Fault for Swallowed {
 
 #[test]
 fn segment_swallowed() {
-    let finding = found::<Swallowed>(Family::Mutations, 24);
+    let finding = found::<Swallowed>(Family::Mutations);
     assert!(matches!(finding.way, differential::ways::Way::Lazy(_)), "{finding}");
 }
 
@@ -151,7 +156,7 @@ impl Fault for Miscounted {
 #[test]
 fn bytes_miscounted() {
     // The least that costs 500 bytes: 54 points of 9, "0,0,"; with PM1 alone, of 2, it is 750.
-    found::<Miscounted>(Family::Brims, 760);
+    found_within::<Miscounted>(Family::Brims, 760);
 }
 
 /// A feed that also writes the record after those stored.
@@ -167,7 +172,7 @@ impl Fault for Touched {
 
 #[test]
 fn record_touched() {
-    let finding = found::<Touched>(Family::Drawings, 32);
+    let finding = found::<Touched>(Family::Drawings);
     assert!(finding.calls.contains("machine.feed("), "{finding}");
 }
 
@@ -182,7 +187,7 @@ impl Fault for NotCounted {
 
 #[test]
 fn refused_byte_not_counted() {
-    found::<NotCounted>(Family::Bytes, 4);
+    found_within::<NotCounted>(Family::Bytes, 4);
 }
 
 /// A plot that counts the places of refused bytes from 0.
@@ -198,7 +203,7 @@ impl Fault for CountedFromZero {
 
 #[test]
 fn place_counted_from_zero() {
-    found::<CountedFromZero>(Family::Digits, 4);
+    found_within::<CountedFromZero>(Family::Digits, 4);
 }
 
 /// Bad hard limits that are not refused.
@@ -211,6 +216,6 @@ impl Fault for Accepted {
 
 #[test]
 fn limits_accepted() {
-    let finding = found::<Accepted>(Family::Digits, 0);
+    let finding = found_within::<Accepted>(Family::Drawings, 0);
     assert_ne!(finding.limits, differential::hunt::USUAL);
 }
