@@ -4,7 +4,7 @@
 //! * [`partner`]: the calls of document 01, as the proved library answers them.
 //! * [`due`]: the answers that the baseline gives, and the exact checker of condition 3.
 //! * [`ways`]: how a stream is put through the calls, and every answer compared.
-//! * [`shrink`]: the shortest input with a difference.
+//! * [`difference`] and [`shrink`]: a wrong answer with its calls; the shortest input that has one.
 //! * [`hunt`]: a budget of streams, each in every way; a [`hunt::Finding`] reproduces a difference.
 //! * [`loads`]: the loads of the benchmark.
 //!
@@ -13,6 +13,7 @@
 #![forbid(unsafe_code)]
 
 pub mod dice;
+pub mod difference;
 pub mod due;
 pub mod hunt;
 pub mod loads;

@@ -18,17 +18,21 @@ pub fn shrink(input: &[u8], mut fails: impl FnMut(&[u8]) -> bool) -> Vec<u8> {
 fn leave_out(input: &mut Vec<u8>, fails: &mut impl FnMut(&[u8]) -> bool) {
     let mut size = input.len().div_ceil(2);
     while size > 0 {
-        let mut at = 0;
-        while at < input.len() {
-            let end = (at + size).min(input.len());
-            let rest = [&input[..at], &input[end..]].concat();
-            if fails(&rest) {
-                *input = rest;
-            } else {
-                at = end;
-            }
-        }
+        leave_out_chunks(input, size, fails);
         size /= 2;
+    }
+}
+
+fn leave_out_chunks(input: &mut Vec<u8>, size: usize, fails: &mut impl FnMut(&[u8]) -> bool) {
+    let mut at = 0;
+    while at < input.len() {
+        let end = (at + size).min(input.len());
+        let rest = [&input[..at], &input[end..]].concat();
+        if fails(&rest) {
+            *input = rest;
+        } else {
+            at = end;
+        }
     }
 }
 
@@ -37,14 +41,12 @@ fn simplify(input: &mut Vec<u8>, fails: &mut impl FnMut(&[u8]) -> bool) -> bool 
     let in_number = |byte: &u8| byte.is_ascii_digit() || matches!(byte, b'+' | b'-' | b'.');
     let mut at = 0;
     while at < input.len() {
-        let length = input[at..].iter().take_while(|byte| in_number(byte)).count();
-        let end = at + length;
-        for number in simpler(&input[at..end]) {
-            let candidate = [&input[..at], &number, &input[end..]].concat();
-            if fails(&candidate) {
-                *input = candidate;
-                return true;
-            }
+        let end = at + input[at..].iter().take_while(|byte| in_number(byte)).count();
+        let put = |number: Vec<u8>| [&input[..at], &number, &input[end..]].concat();
+        let failing = simpler(&input[at..end]).into_iter().map(put).find(|input| fails(input));
+        if let Some(failing) = failing {
+            *input = failing;
+            return true;
         }
         at = end + 1;
     }

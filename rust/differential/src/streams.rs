@@ -227,21 +227,21 @@ fn figure(dice: &mut Dice, reach: i64) -> String {
     }
 }
 
+/// A scale that most of the numbers fit, or any settings, and figures.
+fn sheet(dice: &mut Dice) -> String {
+    let reach = dice.pick(&[3, 50, 300, 12_000, 32_767]);
+    let mut text = String::new();
+    if dice.one_in(2) {
+        text += &format!("SP1;IW;IP;SC{},{reach},{reach},{};", -reach, -reach);
+    }
+    text.extend((0..dice.below(3)).map(|_| setting(dice, reach)));
+    text.extend((0..3 + dice.below(12)).map(|_| figure(dice, reach)));
+    text
+}
+
 fn drawing(dice: &mut Dice) -> String {
     let mut text = format!("IN;SP{};", 1 + dice.below(8));
-    for _ in 0..2 + dice.below(5) {
-        let reach = dice.pick(&[3, 50, 300, 12_000, 32_767]);
-        // A scale that most of the numbers fit, or any settings.
-        if dice.one_in(2) {
-            text += &format!("SP1;IW;IP;SC{},{reach},{reach},{};", -reach, -reach);
-        }
-        for _ in 0..dice.below(3) {
-            text += &setting(dice, reach);
-        }
-        for _ in 0..3 + dice.below(12) {
-            text += &figure(dice, reach);
-        }
-    }
+    text.extend((0..2 + dice.below(5)).map(|_| sheet(dice)));
     if dice.one_in(8) {
         text.make_ascii_lowercase();
     }
@@ -299,30 +299,23 @@ fn bytes(dice: &mut Dice) -> Vec<u8> {
     text
 }
 
-/// Polygons of about as many points as fit, with every way to spend the last bytes.
 fn brim(dice: &mut Dice) -> String {
     let mut text = format!("SP1;{}", if dice.one_in(3) { dice.pick(&SCALES) } else { "" });
-    for _ in 0..1 + dice.below(2) {
-        text +=
-            &format!("PU{};{}PM0;", numbers(dice, 2, 90), dice.pick(&["", "PD;", "PR;", "PD;PR;"]));
-        let marks = dice.pick(&[0, 0, 3, 40, 300, 506]);
-        text += &"PM1;".repeat(marks);
-        let points = ((1_024 - 11 - 2 * marks.min(506)) / 9).saturating_sub(dice.below(12));
-        let list: Vec<String> = (0..points).map(|i| format!("{},{}", i % 9, i * i % 7)).collect();
-        text += &format!("PD{};", list.join(","));
-        for _ in 0..dice.below(24) {
-            text += &last_bytes(dice);
-        }
-        text += dice.pick(&[
-            "PM2;EP;",
-            "PM2;EP;",
-            "PM2;PM2;EP;",
-            "PM1;PM2;EP;",
-            "IN;EP;",
-            "PM2;RO90;EP;",
-        ]);
-    }
+    text.extend((0..1 + dice.below(2)).map(|_| full_polygon(dice)));
     text
+}
+
+/// A polygon of about as many points as fit, with every way to spend the last bytes.
+fn full_polygon(dice: &mut Dice) -> String {
+    let pen = dice.pick(&["", "PD;", "PR;", "PD;PR;"]);
+    let marks: usize = dice.pick(&[0, 0, 3, 40, 300, 506]);
+    let points = ((1_024 - 11 - 2 * marks) / 9).saturating_sub(dice.below(12));
+    let list: Vec<String> = (0..points).map(|i| format!("{},{}", i % 9, i * i % 7)).collect();
+    let (start, list) = (numbers(dice, 2, 90), list.join(","));
+    let mut text = format!("PU{start};{pen}PM0;{}PD{list};", "PM1;".repeat(marks));
+    text.extend((0..dice.below(24)).map(|_| last_bytes(dice)));
+    let ends = ["PM2;EP;", "PM2;EP;", "PM2;PM2;EP;", "PM1;PM2;EP;", "IN;EP;", "PM2;RO90;EP;"];
+    text + dice.pick(&ends)
 }
 
 fn last_bytes(dice: &mut Dice) -> String {
@@ -337,34 +330,33 @@ fn last_bytes(dice: &mut Dice) -> String {
     }
 }
 
+/// Places that are far, near, and at the edge of the range of some scale.
+const PLACES: [&str; 7] =
+    ["0,0", "32767.9999,-32768", ".0001,-.0001", "-.5,.5", "30.5184,-30.5184", "1,2", "100,-100"];
+
+/// Radii likewise.
+const RADII: [&str; 10] =
+    ["0", ".0001", "-.0001", "1", "1000", "-32768", "32767.9999", "31.25", "100", "12345.6789"];
+
 fn circles(dice: &mut Dice) -> String {
-    let pairs = [
-        "0,0",
-        "32767.9999,-32768",
-        ".0001,-.0001",
-        "-.5,.5",
-        "30.5184,-30.5184",
-        "1,2",
-        "100,-100",
-    ];
-    let radii =
-        ["0", ".0001", "-.0001", "1", "1000", "-32768", "32767.9999", "31.25", "100", "12345.6789"];
     let mut text = format!("SP{};", 1 + dice.below(8));
-    for _ in 0..1 + dice.below(3) {
-        text += dice.pick(&SCALES);
-        for _ in 0..4 + dice.below(8) {
-            text += &format!("{}{};", dice.pick(&["PA", "PR", "PD", "PU"]), dice.pick(&pairs));
-            let radius = dice.pick(&radii);
-            text += &match dice.below(12) {
-                0 => format!("CI{radius},.5;"),
-                1 => setting(dice, 32_767),
-                2 => format!("IW{},{};", dice.pick(&pairs), dice.pick(&pairs)),
-                3 => format!("{}{};", dice.pick(&["EA", "ER"]), dice.pick(&pairs)),
-                _ => circle(dice, radius),
-            };
-        }
-    }
+    text.extend((0..8 + dice.below(16)).map(|_| far_circle(dice)));
     text
+}
+
+/// A move to some place and a circle there, or a window or rectangle.
+fn far_circle(dice: &mut Dice) -> String {
+    let scale = if dice.one_in(6) { dice.pick(&SCALES) } else { "" };
+    let name = dice.pick(&["PA", "PR", "PD", "PU"]);
+    let (place, other, radius) = (dice.pick(&PLACES), dice.pick(&PLACES), dice.pick(&RADII));
+    let figure = match dice.below(12) {
+        0 => format!("CI{radius},.5;"),
+        1 => setting(dice, 32_767),
+        2 => format!("IW{place},{other};"),
+        3 => format!("{}{other};", dice.pick(&["EA", "ER"])),
+        _ => circle(dice, radius),
+    };
+    format!("{scale}{name}{place};{figure}")
 }
 
 /// A count of digits, thousands of them now and then.

@@ -1,6 +1,7 @@
 //! How a stream is put through the calls, with every answer compared.
 
 use crate::dice::Dice;
+use crate::difference::{Call, Difference};
 use crate::partner::{Partner, Record};
 use baseline::exact::Exact;
 use baseline::{number, Drawn, Fed, Look, Machine};
@@ -50,16 +51,6 @@ pub fn every_way(dice: &mut Dice) -> Vec<Way> {
     ways
 }
 
-/// A call, its bytes by their places in the stream.
-#[derive(Clone, PartialEq, Eq, Debug)]
-enum Call {
-    Take(u8),
-    Draw,
-    Look,
-    Feed(Range<usize>, usize),
-    Plot(Range<usize>, usize),
-}
-
 /// What was seen in a run.
 #[derive(Clone, Default, Debug)]
 pub struct Tally {
@@ -69,9 +60,9 @@ pub struct Tally {
     pub draws: usize,
     /// Calls of feed and plot.
     pub feeds: usize,
-    /// Draws that answered a stroke; each was judged by condition 3.
+    /// Strokes that condition 3 was checked of.
     pub strokes: usize,
-    /// Draws that answered hidden; likewise.
+    /// Hidden segments, likewise.
     pub hidden: usize,
     /// Marks that feed and plot stored.
     pub stored: usize,
@@ -97,82 +88,12 @@ impl Tally {
 impl Display for Tally {
     fn fmt(&self, f: &mut fmt::Formatter<'_>) -> fmt::Result {
         let Tally { takes, draws, feeds, strokes, hidden, stored, numbers } = self;
-        write!(f, "{takes} takes, {draws} draws ({strokes} strokes and {hidden} hidden by ")?;
-        write!(f, "condition 3), {feeds} feeds and plots ({stored} marks), numbers")?;
+        write!(f, "{takes} takes, {draws} draws, {feeds} feeds and plots ({stored} marks), ")?;
+        write!(f, "condition 3 on {strokes} strokes and {hidden} hidden, numbers")?;
         for (number, count) in numbers.iter().enumerate().filter(|(_, &count)| count > 0) {
             write!(f, " {number}: {count}")?;
         }
         Ok(())
-    }
-}
-
-/// An answer that is not the one that is due.
-#[derive(Clone, Debug)]
-pub struct Difference {
-    calls: Vec<Call>,
-    answer: String,
-    due: String,
-}
-
-impl Difference {
-    /// Writes the calls, as a program that makes them, and the two answers to the last. A look
-    /// changes nothing and is left out before the last call.
-    pub fn explain(&self, limits: [i64; 4], stream: &[u8]) -> String {
-        let [left, bottom, right, top] = limits;
-        let mut text = format!(
-            "let (mut machine, number) = Machine::fresh({left}, {bottom}, {right}, {top});\n"
-        );
-        let last = self.calls.len().saturating_sub(1);
-        let mut told = self.calls[..last].to_vec();
-        told.retain(|call| *call != Call::Look);
-        told.extend(self.calls.last().cloned());
-        let mut at = 0;
-        while at < told.len() {
-            let (line, told) = told_calls(&told[at..], stream);
-            text += &line;
-            at += told;
-        }
-        format!("{text}// answered {}\n// due      {}\n", self.answer, self.due)
-    }
-}
-
-/// The draws that follow, up to another call.
-fn draws(calls: &[Call]) -> usize {
-    calls.iter().take_while(|call| **call == Call::Draw).count()
-}
-
-/// A line for the first of these calls, and how many calls it stands for: takes that are followed
-/// by the same number of draws are one loop.
-fn told_calls(calls: &[Call], stream: &[u8]) -> (String, usize) {
-    let block = |call: &str, record: &str, bytes: &Range<usize>, room: usize| {
-        let bytes = stream[bytes.clone()].escape_ascii();
-        format!("machine.{call}(b\"{bytes}\", &mut [{record}::default(); {room}]);\n")
-    };
-    match &calls[0] {
-        Call::Take(_) => {
-            let (each, mut bytes) = (draws(&calls[1..]), Vec::new());
-            let mut rest = calls;
-            while let [Call::Take(byte), after @ ..] = rest {
-                if draws(after) != each {
-                    break;
-                }
-                bytes.push(*byte);
-                rest = &after[each..];
-            }
-            let draws = match each {
-                0..=2 => "machine.draw(); ".repeat(each),
-                _ => format!("for _ in 0..{each} {{ machine.draw(); }} "),
-            };
-            let line = format!(
-                "for byte in *b\"{}\" {{ machine.take(byte); {draws}}}\n",
-                bytes.escape_ascii()
-            );
-            (line, bytes.len() * (1 + each))
-        }
-        Call::Draw => ("machine.draw();\n".to_string(), 1),
-        Call::Look => ("machine.look();\n".to_string(), 1),
-        Call::Feed(bytes, room) => (block("feed", "Stroke", bytes, *room), 1),
-        Call::Plot(bytes, room) => (block("plot", "Mark", bytes, *room), 1),
     }
 }
 
@@ -232,8 +153,10 @@ impl<'a, P: Partner> Pair<'a, P> {
             return self.differs(format!("{answer:?}"), format!("condition 3: {violation}"));
         }
         let due = self.due.draw();
-        self.tally.strokes += usize::from(matches!(due, Drawn::Stroke(_)));
-        self.tally.hidden += usize::from(due == Drawn::Hidden);
+        if self.exact.is_some() {
+            self.tally.strokes += usize::from(matches!(due, Drawn::Stroke(_)));
+            self.tally.hidden += usize::from(due == Drawn::Hidden);
+        }
         self.same(answer, due)
     }
 

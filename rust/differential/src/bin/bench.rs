@@ -42,24 +42,30 @@ impl Outcome {
     }
 }
 
-/// The proved library; `seen` gets the marks of each call and the bytes before it.
+/// Goes through the bytes in blocks. `plot` gets the bytes before a call and those of the call, and
+/// answers how many it took and a number, which is 0 when all was done.
+fn in_blocks(bytes: &[u8], mut plot: impl FnMut(usize, &[u8]) -> (usize, u8)) {
+    let mut at = 0;
+    loop {
+        let end = ((at / BLOCK + 1) * BLOCK).min(bytes.len());
+        let (taken, number) = plot(at, &bytes[at..end]);
+        at += taken;
+        if at == bytes.len() && number == number::NONE {
+            return;
+        }
+    }
+}
+
+/// The proved library; `seen` gets the bytes before each call, and its marks.
 fn proved(bytes: &[u8], mut seen: impl FnMut(usize, &[vutaroi::Mark])) {
     let [left, bottom, right, top] = LIMITS;
     let (mut machine, _) = vutaroi::Machine::fresh(left, bottom, right, top);
     let mut list = vec![vutaroi::Mark::default(); ROOM];
-    let mut at = 0;
-    for block in bytes.chunks(BLOCK) {
-        let mut rest = block;
-        loop {
-            let fed = machine.plot(rest, &mut list);
-            seen(at, &list[..fed.stored]);
-            rest = &rest[fed.taken..];
-            at += fed.taken;
-            if fed.number == number::NONE {
-                break;
-            }
-        }
-    }
+    in_blocks(bytes, |at, block| {
+        let fed = machine.plot(block, &mut list);
+        seen(at, &list[..fed.stored]);
+        (fed.taken, fed.number)
+    });
 }
 
 /// The baseline, likewise; a refusal is a record without a pen.
@@ -67,19 +73,11 @@ fn baseline(bytes: &[u8], mut seen: impl FnMut(usize, &[Stroke])) {
     let [left, bottom, right, top] = LIMITS;
     let (mut machine, _) = baseline::Machine::fresh(left, bottom, right, top);
     let mut list = vec![Stroke::default(); ROOM];
-    let mut at = 0;
-    for block in bytes.chunks(BLOCK) {
-        let mut rest = block;
-        loop {
-            let fed = plot(&mut machine, rest, &mut list);
-            seen(at, &list[..fed.stored]);
-            rest = &rest[fed.taken..];
-            at += fed.taken;
-            if fed.number == number::NONE {
-                break;
-            }
-        }
-    }
+    in_blocks(bytes, |at, block| {
+        let fed = plot(&mut machine, block, &mut list);
+        seen(at, &list[..fed.stored]);
+        (fed.taken, fed.number)
+    });
 }
 
 /// Feed that goes on after refusals. The last record is kept free for one.
