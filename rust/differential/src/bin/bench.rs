@@ -16,7 +16,7 @@ use std::time::{Duration, Instant};
 
 const BLOCK: usize = 1 << 16;
 const ROOM: usize = 4096;
-const ROUNDS: usize = 7;
+const ROUNDS: usize = 5;
 
 /// The columns; a mark is a stroke or a refusal.
 const HEADS: [&str; 9] =
