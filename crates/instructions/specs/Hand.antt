@@ -75,19 +75,17 @@ page-in s p e = ap (λ (f : Frame). turnedBy (f .rows) (location s p)) e ∙ by-
 unfoldable pub nameNumber : Bool → ℕ → ℕ
 nameNumber mode op = cond (mode && not (knownInPolygon op)) unknown 0
 
--- a name that has none is carried out
+-- a name without one is carried out; the letters do not look at the polygon
 pub name-parts : (s : Settings) (h : Hand) (g : Polygon) (op : ℕ) →
     nameRule (coreOf s h g) op ≡
     cond (eqb (nameNumber (g .mode) op) 0) (done (record { settings = s; carriage = letters (carriageOf h g) op }) Keep)
     (refuse (coreOf s h g) (nameNumber (g .mode) op))
 unfolding nameRule nameNumber
-name-parts s h g op = go (g .mode && not (knownInPolygon op))
+name-parts s h g op = go (g .mode && not (knownInPolygon op)) (done (record { settings = s; carriage = letters (carriageOf h g) op }) Keep)
   where
-    go : (t : Bool) → cond t (refuse (coreOf s h g) unknown) (done (record { settings = s; carriage = letters (carriageOf h g) op }) Keep) ≡
-        cond (eqb (cond t unknown 0) 0) (done (record { settings = s; carriage = letters (carriageOf h g) op }) Keep)
-        (refuse (coreOf s h g) (cond t unknown 0))
-    go true = refl
-    go false = refl
+    go : (t : Bool) (r : Acted) → cond t (refuse (coreOf s h g) unknown) r ≡ cond (eqb (cond t unknown 0) 0) r (refuse (coreOf s h g) (cond t unknown 0))
+    go true r = refl
+    go false r = refl
 
 -- ---- ends
 
