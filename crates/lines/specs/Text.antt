@@ -3,11 +3,12 @@ use mathlib.Core.Bool.{cond}
 use mathlib.Core.List.{List, [], _∷_, _++_}
 use mathlib.Core.Path.{_≡_}
 use Prim.Native.Char.{code}
-use Prim.Native.Nat.{ℕ, zero, suc, _+_, _*_, _/_, _%_, _≤_}
+use Prim.Native.Nat.{ℕ, zero, suc, _+_, _*_, _/_, _%_, _^_, _≤_}
 use lib.Dec.{ltb}
 use lib.IntN.{ℤ, pos, negsuc, natAbs}
 use lib.ListN.{length, getD}
 use lib.Seq.{sets}
+use Rattle.exact.specs.Whole.{_≡?_}
 
 abbrev pub lineEnd : ℕ
 lineEnd = 10
@@ -47,14 +48,22 @@ strokeAt numbers i =
     strokeText (getD numbers (i * 5) (pos 0)) (getD numbers (i * 5 + 1) (pos 0)) (getD numbers (i * 5 + 2) (pos 0)) (getD numbers (i * 5 + 3) (pos 0))
     (getD numbers (i * 5 + 4) (pos 0))
 
--- the lines of the first k fives
-unfoldable pub strokesBelow : List ℤ → ℕ → List ℕ
-strokesBelow numbers zero = []
-strokesBelow numbers (suc k) = strokesBelow numbers k ++ strokeAt numbers k
-
 -- "or E, number, byte counted from 1"
 unfoldable pub refusalText : ℕ → ℕ → List ℕ
 refusalText refused byte = (code "E" ∷ code " " ∷ []) ++ natural refused (code " ") ++ natural byte lineEnd
+
+-- The line of the i-th five numbers as a mark: a stroke's, or where the pen is 0 that of a refusal, [0, number, place, 0, 0]. The place is counted from 1
+-- and follows `before` bytes; the sum is one of 64 bits.
+unfoldable pub markAt : ℕ → List ℤ → ℕ → List ℕ
+markAt before numbers i =
+    cond (getD numbers (i * 5) (pos 0) ≡? pos 0)
+    (refusalText (natAbs (getD numbers (i * 5 + 1) (pos 0))) ((before + natAbs (getD numbers (i * 5 + 2) (pos 0))) % 2 ^ 64))
+    (strokeAt numbers i)
+
+-- the lines of the first k marks
+unfoldable pub marksBelow : ℕ → List ℤ → ℕ → List ℕ
+marksBelow before numbers zero = []
+marksBelow before numbers (suc k) = marksBelow before numbers k ++ markAt before numbers k
 
 -- a line has at most so many bytes: five numbers of at most 20, each with a byte after it
 abbrev pub longest : ℕ

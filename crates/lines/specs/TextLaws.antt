@@ -9,13 +9,13 @@ use native.Mathlib.Omega.{arith}
 use borrow.Author.Tests.{lt-ltb, le-ltb, ltb-true, ltb-false}
 use lib.Dec.{T, leb, ltb, leb→le}
 use lib.IntN.{ℤ, pos, negsuc, natAbs}
-use lib.ListN.{length, set, length-append}
+use lib.ListN.{length, getD, set, length-append}
 use lib.Seq.{sets, length-sets}
 use mir.Syntax.{w64}
 use mir.Val.{SFits}
-use Rattle.exact.specs.Whole.{_<ᶻ_, _≤ᶻ_, ord}
+use Rattle.exact.specs.Whole.{_<ᶻ_, _≤ᶻ_, _≡?_, ord}
 use Rattle.exact.specs.Fit.{arg, m64}
-use Rattle.lines.specs.Text.{lineEnd, digit, digitsWithin, decimal, natural, sign, whole, strokeText, refusalText, longest, Puts}
+use Rattle.lines.specs.Text.{lineEnd, digit, digitsWithin, decimal, natural, sign, whole, strokeText, strokeAt, refusalText, markAt, longest, Puts}
 
 -- ---- digits: those of n / 10, and the last one
 
@@ -68,6 +68,11 @@ unfolding whole natural
 whole-length {z = pos n} byte f = omega (arith, f .sfits, decimal-length 18 n (omega arith), length-append (decimal n) (byte ∷ []))
 whole-length {z = negsuc n} byte f = omega (arith, f .sfits, decimal-length 18 (suc n) (omega arith), length-append (decimal (suc n)) (byte ∷ []))
 
+pub refusal-length : {refused byte : ℕ} → refused < 2 ^ 64 → byte < 2 ^ 64 → length (refusalText refused byte) ≤ longest
+unfolding refusalText
+refusal-length {refused} {byte} h k =
+    omega (arith, natural-length (code " ") h, natural-length lineEnd k, length-append (natural refused (code " ")) (natural byte lineEnd))
+
 -- ---- signs
 
 pub sign-below : (z : ℤ) → z <ᶻ pos 0 → sign z ≡ code "-" ∷ []
@@ -77,6 +82,18 @@ sign-below (negsuc n) h = refl
 pub sign-above : (z : ℤ) → pos 0 ≤ᶻ z → sign z ≡ []
 sign-above (pos n) h = refl
 sign-above (negsuc n) h = absurd (omega (arith, ord))
+
+-- ---- marks
+
+module _ (before : ℕ) (numbers : List ℤ) (i : ℕ) where
+  pub mark-refusal : (getD numbers (i * 5) (pos 0) ≡? pos 0) ≡ true
+      → markAt before numbers i ≡ refusalText (natAbs (getD numbers (i * 5 + 1) (pos 0))) ((before + natAbs (getD numbers (i * 5 + 2) (pos 0))) % 2 ^ 64)
+  unfolding markAt
+  mark-refusal e = rw e refl
+
+  pub mark-stroke : (getD numbers (i * 5) (pos 0) ≡? pos 0) ≡ false → markAt before numbers i ≡ strokeAt numbers i
+  unfolding markAt
+  mark-stroke e = rw e refl
 
 -- ---- one text after another
 

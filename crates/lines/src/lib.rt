@@ -1,10 +1,10 @@
-// Lines of text in a lent buffer: a stroke's five numbers, or a refusal. specs/Text.antt has the text of each.
+// Lines of text in a lent buffer: a stroke's five numbers, or a refusal's number and byte. specs/Text.antt has the text of each.
 ghost use mathlib.Core.List.{_∷_, []};
 ghost use mathlib.Core.Path.{_≡_};
 ghost use Prim.Native.Nat.{_+_, _*_, _<_, _≤_};
 ghost use lib.IntN.{natAbs};
 ghost use lib.ListN.{length};
-ghost use Rattle.lines.specs.Text.{decimal, natural, sign, whole, strokeAt, strokesBelow, refusalText, longest, Puts};
+ghost use Rattle.lines.specs.Text.{decimal, natural, sign, whole, strokeAt, refusalText, markAt, marksBelow, longest, Puts};
 ghost use Rattle.lines.specs.Text.{digit as digitOf};
 
 pub mod word;
@@ -77,8 +77,8 @@ fn put_whole(out: &mut [u8], at: usize, z: i64, byte: u8) -> usize
     put_natural(out, next, size(z), byte)
 }
 
-// The line of the i-th five numbers: pen, x0, y0, x1, y1.
-pub fn stroke_line(out: &mut [u8], at: usize, numbers: &[i64], i: usize) -> usize
+// The line of the i-th five numbers, a stroke's: pen, x0, y0, x1, y1.
+fn stroke_line(out: &mut [u8], at: usize, numbers: &[i64], i: usize) -> usize
     requires { ⌜ at + longest ≤ length (now out) ⌝ }
     requires { ⌜ i * 5 + 5 ≤ length (now numbers) ⌝ }
     ensures { λ r. ⌜ Puts (strokeAt (now (numbers .entry)) i) (now (out .entry)) (now (out .exit)) at r ⌝ }
@@ -92,29 +92,46 @@ pub fn stroke_line(out: &mut [u8], at: usize, numbers: &[i64], i: usize) -> usiz
     put_whole(out, y1, numbers[pen + 4], b'\n')
 }
 
-// The lines of the first strokes of a list of numbers.
-pub fn stroke_lines(out: &mut [u8], at: usize, numbers: &[i64], count: usize) -> usize
+// The line of a refusal: its number, and the byte, counted from 1.
+fn refusal_line(out: &mut [u8], at: usize, number: u64, byte: u64) -> usize
+    requires { ⌜ at + longest ≤ length (now out) ⌝ }
+    ensures { λ r. ⌜ Puts (refusalText number byte) (now (out .entry)) (now (out .exit)) at r ⌝ }
+    ensures { λ r. ⌜ r ≤ at + longest ⌝ }
+{
+    let letter = put_byte(out, at, b'E');
+    let first = put_byte(out, letter, b' ');
+    let second = put_natural(out, first, number, b' ');
+    put_natural(out, second, byte, b'\n')
+}
+
+// The line of the i-th mark: a stroke, or with the pen 0 a refusal, whose place follows so many bytes.
+fn mark_line(out: &mut [u8], at: usize, numbers: &[i64], i: usize, before: u64) -> usize
+    requires { ⌜ at + longest ≤ length (now out) ⌝ }
+    requires { ⌜ i * 5 + 5 ≤ length (now numbers) ⌝ }
+    ensures { λ r. ⌜ Puts (markAt before (now (numbers .entry)) i) (now (out .entry)) (now (out .exit)) at r ⌝ }
+    ensures { λ r. ⌜ r ≤ at + longest ⌝ }
+{
+    let pen = i * 5;
+    if numbers[pen] == 0 {
+        let number = size(numbers[pen + 1]);
+        let byte = std::num::wrapping_add_u64(before, size(numbers[pen + 2]));
+        return refusal_line(out, at, number, byte);
+    }
+    stroke_line(out, at, numbers, i)
+}
+
+// The lines of the first marks of a list of numbers, which follow so many bytes.
+pub fn mark_lines(out: &mut [u8], at: usize, numbers: &[i64], count: usize, before: u64) -> usize
     requires { ⌜ at + count * longest ≤ length (now out) ⌝ }
     requires { ⌜ count * 5 ≤ length (now numbers) ⌝ }
-    ensures { λ r. ⌜ Puts (strokesBelow (now (numbers .entry)) count) (now (out .entry)) (now (out .exit)) at r ⌝ }
+    ensures { λ r. ⌜ Puts (marksBelow before (now (numbers .entry)) count) (now (out .entry)) (now (out .exit)) at r ⌝ }
     ensures { λ r. ⌜ r ≤ at + count * longest ⌝ }
 {
     let mut end = at;
     let mut i = 0;
     while i < count {
-        end = stroke_line(out, end, numbers, i);
+        end = mark_line(out, end, numbers, i, before);
         i += 1;
     }
     end
-}
-
-// The line of a refusal: its number, and the byte, counted from 1.
-pub fn refusal_line(out: &mut [u8], at: usize, number: u8, byte: u64) -> usize
-    requires { ⌜ at + longest ≤ length (now out) ⌝ }
-    ensures { λ r. ⌜ Puts (refusalText number byte) (now (out .entry)) (now (out .exit)) at r ⌝ }
-{
-    let letter = put_byte(out, at, b'E');
-    let first = put_byte(out, letter, b' ');
-    let second = put_natural(out, first, number as u64, b' ');
-    put_natural(out, second, byte, b'\n')
 }

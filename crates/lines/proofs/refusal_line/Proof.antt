@@ -3,7 +3,7 @@ use borrow.Author.Needs.{needs}
 use Prim.Native.Char.{code}
 use native.Mathlib.Omega.{arith}
 use Rattle.lines.specs.Text.{lineEnd, refusalText}
-use Rattle.lines.specs.TextLaws.{natural-length, puts-then}
+use Rattle.lines.specs.TextLaws.{natural-length, refusal-length, puts-then}
 use Rattle.lines.proofs.refusal_line.Statement.{statement}
 use Rattle.lines.proofs.refusal_line.Tie as tie
 
@@ -30,10 +30,12 @@ same-length c = search needs
 returns : tie.Need-returns
 unfolding refusalText
 returns c =
+    let s : tie.Start = search in
     let a : tie.After-put-byte = search in
     let b : tie.After-put-byte2 = search in
     let n : tie.After-put-natural = search in
-    puts-then (puts-then (puts-then (a .put-byte .ensures) (b .put-byte2 .ensures)) (n .put-natural .ensures)) (c .before .before .put-natural2 .ensures)
+    let p = puts-then (puts-then (puts-then (a .put-byte .ensures) (b .put-byte2 .ensures)) (n .put-natural .ensures)) (c .before .before .put-natural2 .ensures) in
+    (p, omega (arith, p .ends, refusal-length {refused = s .args .number} {byte = s .args .byte} (omega arith) (omega arith)))
 
 pub refusal-line-spec : {M : Type 1} → statement M
 refusal-line-spec =

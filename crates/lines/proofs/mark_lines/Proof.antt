@@ -1,26 +1,26 @@
--- The loop has put the lines of i strokes.
+-- The loop has put the lines of i marks.
 use mathlib.Core.Path.{_≡_, ap}
 use Prim.Native.Nat.{_+_, _-_, _*_, _≤_}
 use native.Mathlib.Omega.{arith}
 use native.Mathlib.Numerals.{add-one}
 use denote.Ref.{now}
-use Rattle.lines.specs.Text.{strokesBelow, longest, Puts}
+use Rattle.lines.specs.Text.{marksBelow, longest, Puts}
 use Rattle.lines.specs.TextLaws.{puts-same, puts-nothing, puts-then, puts-length}
-use Rattle.lines.proofs.stroke_lines.Statement.{statement}
-use Rattle.lines.proofs.stroke_lines.Tie as tie
+use Rattle.lines.proofs.mark_lines.Statement.{statement}
+use Rattle.lines.proofs.mark_lines.Tie as tie
 
 abbrev Inv-loop : tie.InvT-loop
-Inv-loop out₀ at numbers count end₀ i₀ out end i = Puts (strokesBelow numbers i) out₀ out at end × (end ≤ at + i * longest) × (i ≤ count)
+Inv-loop out₀ at numbers count before end₀ i₀ out end i = Puts (marksBelow before numbers i) out₀ out at end × (end ≤ at + i * longest) × (i ≤ count)
 
 abbrev μ-loop : tie.MeasureT-loop
-μ-loop out₀ at numbers count end₀ i₀ out end i = count - i
+μ-loop out₀ at numbers count before end₀ i₀ out end i = count - i
 
 loop-holds : tie.Need-loop-holds Inv-loop μ-loop
-unfolding strokesBelow
+unfolding marksBelow
 loop-holds c = (puts-nothing _ (omega arith), omega arith, omega arith)
 
-stroke-line-requires : tie.Need-stroke-line-requires Inv-loop μ-loop
-stroke-line-requires c κs = let i = c .before .before .loop .inv in (omega (arith, puts-length (i .0)), omega arith)
+mark-line-requires : tie.Need-mark-line-requires Inv-loop μ-loop
+mark-line-requires c κs = let i = c .before .before .loop .inv in (omega (arith, puts-length (i .0)), omega arith)
 
 add-i : tie.Need-add-i Inv-loop μ-loop
 add-i c = omega arith
@@ -29,9 +29,9 @@ loop-less : tie.Need-loop-less Inv-loop μ-loop
 loop-less c = omega arith
 
 loop-again : tie.Need-loop-again Inv-loop μ-loop
-unfolding strokesBelow
+unfolding marksBelow
 loop-again c =
-    let e = c .before .before .stroke-line .ensures in
+    let e = c .before .before .mark-line .ensures in
     let i = c .before .before .before .before .before .loop .inv in
     (rw add-one (puts-then (i .0) (e .0)), omega (arith, e .1), omega arith)
 
@@ -42,16 +42,16 @@ returns : tie.Need-returns Inv-loop μ-loop
 returns c =
     let s : tie.Start Inv-loop μ-loop = search in
     let e : c .before .loop .i ≡ s .args .count = omega arith in
-    (puts-same (ap (strokesBelow (now (s .args .numbers))) e) (c .before .loop .inv .0), omega arith)
+    (puts-same (ap (marksBelow (s .args .before) (now (s .args .numbers))) e) (c .before .loop .inv .0), omega arith)
 
-pub stroke-lines-spec : {M : Type 1} → statement M
-stroke-lines-spec =
+pub mark-lines-spec : {M : Type 1} → statement M
+mark-lines-spec =
     tie.close
     (tie.spec
     Inv-loop
     μ-loop
     loop-holds
-    stroke-line-requires
+    mark-line-requires
     add-i
     loop-less
     loop-again
