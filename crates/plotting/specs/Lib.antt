@@ -1,7 +1,8 @@
 pub mod Printed
 pub mod Plotted
 pub mod Figures
-pub mod FeedPrinted
+pub mod Marks
+pub mod PlotPrinted
 pub mod PlottedLaws
 pub mod Compared
 pub mod ComparedLaws

@@ -21,7 +21,7 @@ begunOf m n = record { machine = m; before = n; at = 0; length = 0; more = true 
 abbrev pub emptiedOf : Plot → Plot
 emptiedOf p = record { machine = p .machine; before = p .before; at = p .at; length = 0; more = p .more }
 
--- after a gather
+-- after a plot
 abbrev pub movedOf : Plot → Gathered → ℕ → Bool → Plot
 movedOf p g n more = record { machine = g .machine; before = p .before; at = g .at; length = n; more = more }
 
@@ -34,9 +34,12 @@ pub record Ready (p : Plot) (block : List ℕ) : Type 0 where
   pub count : p .before + length block < 2 ^ 64
   pub ends : p .more ≡ false → (p .at ≡ length block) × (due p block [] ≡ [])
 
--- the lines of one gather: 256 strokes, and a byte that is refused
+-- one plot has at most so many marks, of five numbers each, and its lines so many bytes
+abbrev pub mostMarks : ℕ
+mostMarks = 512
+
 abbrev pub most : ℕ
-most = 257 * longest
+most = mostMarks * longest
 
 -- From p to q some text was printed: whatever comes later, what was due is that text and what is due now. It stands in the buffer, after what
 -- was there, and the rest of the buffer is as before.

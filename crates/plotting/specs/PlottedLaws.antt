@@ -1,28 +1,30 @@
--- Laws of printing by blocks: a gather prints its lines, and one part after another.
-use mathlib.Core.Bool.{Bool, true, false, cond, false≢true}
-use mathlib.Core.List.{List, [], _++_, append-nil, append-assoc}
+-- Laws of printing by blocks: a plot prints its lines, and one part after another.
+use mathlib.Core.Bool.{Bool, true, false, cond, not, false≢true}
+use mathlib.Core.List.{List, [], _++_, append-assoc}
 use mathlib.Core.Path.{_≡_, refl, sym, ap, _∙_, subst}
 use Prim.Native.Nat.{ℕ, _+_, _^_, _≤_, _<_}
 use native.Mathlib.Omega.{arith}
+use borrow.Author.Tests.{eqb-true, eqb-false, not-true, not-false}
+use lib.Dec.{eqb}
+use lib.IntN.{ℤ}
 use lib.ListN.{length, getD, drop, length-append, length-drop}
 use lib.Seq.{getD-drop, drop-length}
-use Rattle.hpgl.specs.Feed.{Feed, feedFrom}
-use Rattle.hpgl.specs.FeedLaws.{feed-place, feed-made}
-use Rattle.hpgl.specs.PartsOfFeed.{feed-room}
-use Rattle.hpgl.specs.Numbers.{listFull}
-use Rattle.lines.specs.Text.{refusalText, Puts}
-use Rattle.lines.specs.TextLaws.{puts-same, puts-nothing, puts-then, refusal-some}
-use Rattle.plotting.specs.declared.Plot.{Plot}
-use Rattle.plotting.specs.Printed.{printed}
 use Rattle.clip.specs.declared.Rect.{Rect}
 use Rattle.hpgl.specs.Made.{Made, fresh}
+use Rattle.hpgl.specs.Plot.{plotFrom, numbersOf}
+use Rattle.hpgl.specs.Plot.{Plot as Marked}
+use Rattle.hpgl.specs.PlotLaws.{plot-place, plot-made}
 use Rattle.machine.specs.declared.Machine.{Machine}
-use Rattle.machine.specs.declared.Gathered.{Gathered}
 use Rattle.machine.specs.declared.Started.{Started}
 use Rattle.machine.specs.Calls.{startedOf}
-use Rattle.machine.specs.Gather.{gatheredOf}
+use Rattle.machine.specs.Gather.{plottedOf}
+use Rattle.lines.specs.Text.{marksBelow, Puts}
+use Rattle.lines.specs.TextLaws.{puts-nothing, puts-then}
+use Rattle.plotting.specs.declared.Plot.{Plot}
+use Rattle.plotting.specs.Printed.{printed}
 use Rattle.plotting.specs.Plotted.{begunOf, emptiedOf, movedOf, due, Ready, Plotted}
-use Rattle.plotting.specs.FeedPrinted.{strokeLines, endLine, end-none, end-refused, idle-end, feed-prints, feed-done, lines-some}
+use Rattle.plotting.specs.Marks.{made-inked, plot-told}
+use Rattle.plotting.specs.PlotPrinted.{markLines, idle-end, plot-prints, Ended, plot-ended, numbers-lines, lines-some}
 
 pub plotted-nothing : {p : Plot} {block : List ℕ} (text : List ℕ) → Ready p block → p .length ≤ length text → Plotted p p block text text
 plotted-nothing text h l = record { text = []; prints = λ later. refl; puts = puts-nothing text l; ready = h; earlier = refl }
@@ -73,77 +75,52 @@ left-less {p} {q} {block} h e grows f = subst (λ (r : Plot). left r block < lef
         omega (arith, g refl, h .puts .ends, ap length (h .prints []), length-append (h .text) (due q block []))
     go true false e g = omega (arith, ap length (h .prints []), length-append (h .text) (due q block []))
 
--- ---- one gather
+-- ---- one plot
 
 -- a part that goes on makes the text longer
 abbrev pub Steps : Plot → Plot → List ℕ → List ℕ → List ℕ → Type 0
 Steps p q block before after = Plotted p q block before after × (q .more ≡ true → p .length < q .length)
 
--- one gather, with r free records
-abbrev pub fedBy : Plot → List ℕ → ℕ → Feed
-fedBy p block r = feedFrom (p .machine .state) (drop (p .at) block) (p .at) r
+-- one plot, with r free records
+abbrev pub marked : Plot → List ℕ → ℕ → Marked
+marked p block r = plotFrom (p .machine .state) (drop (p .at) block) (p .at) r
 
 module _ (p : Plot) (block : List ℕ) (r : ℕ) (h : Ready p block) where
-  abbrev fed : Feed
-  fed = fedBy p block r
+  abbrev got : Marked
+  got = marked p block r
 
-  pub within : fed .taken ≤ length block
-  within = omega (arith, h .place, feed-place (p .machine .state) (drop (p .at) block) (p .at) r .1, length-drop (p .at) block)
+  -- the bytes of the block that are left
+  rest : p .at + length (drop (p .at) block) ≡ length block
+  rest = omega (arith, h .place, length-drop (p .at) block)
 
-  ended : fed .number ≡ 0 → fed .taken ≡ length block
-  ended z = omega (arith, h .place, feed-done (p .machine .state) (drop (p .at) block) (p .at) r z .0, length-drop (p .at) block)
+  ended : Ended (p .at) (length (drop (p .at) block)) r got
+  ended = plot-ended (p .machine .state) (drop (p .at) block) (p .at) r
 
-  nothing-due : fed .number ≡ 0 → printed (fed .state) (drop (fed .taken) block ++ []) (p .before + fed .taken) ≡ []
-  nothing-due z =
-      rw (ended z) (rw (drop-length block) (idle-end (fed .state) (p .before + length block) (feed-done (p .machine .state) (drop (p .at) block) (p .at) r z .1)))
+  nothing-due : got .number ≡ 0 → printed (got .state) (drop (got .taken) block ++ []) (p .before + got .taken) ≡ []
+  nothing-due z = rw (ended .taken z ∙ rest) (rw (drop-length block) (idle-end (got .state) (p .before + length block) (ended .idle z)))
 
-  pub gathered : {before after : List ℕ} (end : ℕ) (more : Bool) → (more ≡ false → fed .number ≡ 0)
-      → Puts (strokeLines (fed .strokes) ++ endLine (fed .number) (p .before + fed .taken)) before after (p .length) end
-      → Plotted p (movedOf p (gatheredOf fed) end more) block before after
-  gathered end more done puts = record {
-    text = strokeLines (fed .strokes) ++ endLine (fed .number) (p .before + fed .taken);
-    prints = λ later. feed-prints block later (p .before) (p .machine .state) (drop (p .at) block) (p .at) r refl ∙ sym (append-assoc (strokeLines (fed .strokes)) _ _);
-    puts = puts;
-    ready = record {
-      bytes = h .bytes;
-      made = feed-made (p .machine .state) (drop (p .at) block) (p .at) r (λ i. rw (getD-drop (p .at) block i 0) (h .bytes (p .at + i))) (h .made);
-      place = within;
-      count = h .count;
-      ends = λ e. (ended (done e), nothing-due (done e));
-    };
-    earlier = refl;
-  }
+  -- the numbers of its marks make its lines
+  pub marks-lines : (xs : List ℤ) → marksBelow (p .before) (numbersOf (got .marks) ++ xs) (length (got .marks)) ≡ markLines (p .before) (got .marks)
+  marks-lines xs =
+      numbers-lines (p .before) (length block) (h .count) xs (got .marks)
+      (plot-told (length block) (p .machine .state) (drop (p .at) block) (p .at) r (omega (arith, rest)) (made-inked (h .made)))
 
-  -- the three ends of a gather g, as the code has them in its hands: the buffer grows where there is more
-  module _ (g : Gathered) (e : g ≡ gatheredOf fed) where
-    moved-to : {q : Plot} {before after : List ℕ} (end : ℕ) (more : Bool) → q ≡ movedOf p g end more → (more ≡ false → g .number ≡ 0) → (more ≡ true → p .length < end)
-        → Puts (strokeLines (fed .strokes) ++ endLine (g .number) (p .before + g .at)) before after (p .length) end → Steps p q block before after
-    moved-to {before} {after} end more f done grows puts =
-        subst (λ (q : Plot). Steps p q block before after) (sym (f ∙ ap (λ (x : Gathered). movedOf p x end more) e)) (
-          gathered end more (λ z. sym (ap (λ (x : Gathered). x .number) e) ∙ done z)
-              (puts-same (λ i. strokeLines (fed .strokes) ++ endLine (e i .number) (p .before + e i .at)) puts),
-          grows,
-        )
-
-    -- where no line follows the strokes
-    alone : {before after : List ℕ} (end : ℕ) → endLine (g .number) (p .before + g .at) ≡ [] → Puts (strokeLines (fed .strokes)) before after (p .length) end
-        → Puts (strokeLines (fed .strokes) ++ endLine (g .number) (p .before + g .at)) before after (p .length) end
-    alone end z puts = puts-same (sym (ap (λ (l : List ℕ). strokeLines (fed .strokes) ++ l) z ∙ append-nil (strokeLines (fed .strokes)))) puts
-
-    pub step-done : {q : Plot} {before after : List ℕ} (end : ℕ) → q ≡ movedOf p g end false → g .number ≡ 0 → Puts (strokeLines (fed .strokes)) before after (p .length) end → Steps p q block before after
-    step-done end f z puts =
-        moved-to end false f (λ h. z) (λ h. absurd (false≢true h)) (alone end (ap (λ (n : ℕ). endLine n (p .before + g .at)) z ∙ end-none (p .before + g .at)) puts)
-
-    pub step-full : {q : Plot} {before after : List ℕ} (end : ℕ) → q ≡ movedOf p g end true → g .number ≡ listFull → 0 < r
-        → Puts (strokeLines (fed .strokes)) before after (p .length) end → Steps p q block before after
-    step-full end f z some puts =
-        moved-to end true f (λ h. absurd (false≢true (sym h)))
-        (λ h. let l = feed-room (p .machine .state) (drop (p .at) block) (p .at) r 0 .filled (sym (ap (λ (x : Gathered). x .number) e) ∙ z) in
-        omega (arith, puts .ends, lines-some (fed .strokes) (omega arith)))
-        (alone end (ap (λ (n : ℕ). endLine n (p .before + g .at)) z) puts)
-
-    pub step-refused : {q : Plot} {before middle after : List ℕ} {end : ℕ} (last : ℕ) → q ≡ movedOf p g last true → (g .number ≡ 0 → ⊥) → (g .number ≡ listFull → ⊥)
-        → Puts (strokeLines (fed .strokes)) before middle (p .length) end → Puts (refusalText (g .number) (p .before + g .at)) middle after end last → Steps p q block before after
-    step-refused last f y z puts line =
-        moved-to last true f (λ h. absurd (false≢true (sym h))) (λ h. omega (arith, puts .ends, line .ends, refusal-some (g .number) (p .before + g .at)))
-        (puts-then puts (puts-same (sym (end-refused (g .number) (p .before + g .at) y z)) line))
+  -- what the code makes of it: there is more where the number is not 0
+  pub steps : {q : Plot} {before after : List ℕ} (end : ℕ) → q ≡ movedOf p (plottedOf got) end (not (eqb (got .number) 0)) → 0 < r
+      → Puts (markLines (p .before) (got .marks)) before after (p .length) end → Steps p q block before after
+  steps {before} {after} end e some puts = subst (λ (q : Plot). Steps p q block before after) (sym e) (
+    record {
+      text = markLines (p .before) (got .marks);
+      prints = λ later. plot-prints block later (p .before) (p .machine .state) (drop (p .at) block) (p .at) r refl;
+      puts = puts;
+      ready = record {
+        bytes = h .bytes;
+        made = plot-made (p .machine .state) (drop (p .at) block) (p .at) r (λ i. rw (getD-drop (p .at) block i 0) (h .bytes (p .at + i))) (h .made);
+        place = omega (arith, rest, plot-place (p .machine .state) (drop (p .at) block) (p .at) r .1);
+        count = h .count;
+        ends = λ z. let n = eqb-true (got .number) 0 (not-false _ z) in (ended .taken n ∙ rest, nothing-due n);
+      };
+      earlier = refl;
+    },
+    λ z. let l = ended .filled (eqb-false (got .number) 0 (not-true _ z)) in omega (arith, puts .ends, lines-some (p .before) (got .marks) (omega arith)),
+  )

@@ -2,25 +2,25 @@
 // a part of the printing does.
 ghost use mathlib.Core.Bool.{true};
 ghost use mathlib.Core.Path.{_≡_};
-ghost use Prim.Native.Nat.{_+_, _≤_, _<_};
+ghost use Prim.Native.Nat.{_+_, _*_, _≤_, _<_};
 ghost use lib.ListN.{length};
 ghost use Rattle.hpgl.specs.Made.{Made};
-ghost use Rattle.plotting.specs.Plotted.{Ready, Plotted, begunOf, emptiedOf, movedOf, most};
+ghost use Rattle.plotting.specs.Plotted.{Ready, Plotted, begunOf, emptiedOf, movedOf, mostMarks, most};
 
 pub mod files;
 
-use instructions::numbers::LIST_FULL;
 use lines::LONGEST;
-use lines::refusal_line;
-use lines::stroke_lines;
+use lines::mark_lines;
 use machine::Gathered;
 use machine::Machine;
 
-// One gather takes 256 strokes, of five numbers each.
-const NUMBERS: usize = 1280;
+// One plot stores at most so many marks, of five numbers each.
+const MARKS: usize = 512;
 
-// The bytes of their lines, and of a refusal.
-const MOST: usize = 257 * LONGEST;
+const NUMBERS: usize = MARKS * 5;
+
+// The bytes of their lines.
+const MOST: usize = MARKS * LONGEST;
 
 // How far the printing of a block is: the machine; the bytes of the blocks before; the place in this one; the bytes of text in the buffer; and
 // whether some of the block is still to be printed.
@@ -59,7 +59,7 @@ pub fn emptied(p: Plot) -> Plot
     }
 }
 
-// After a gather, with so many bytes of text.
+// After a plot, with so many bytes of text.
 fn moved(p: Plot, g: Gathered, length: usize, more: bool) -> Plot
     ensures { λ r. ⌜ r ≡ movedOf p g length more ⌝ }
 {
@@ -73,35 +73,28 @@ fn moved(p: Plot, g: Gathered, length: usize, more: bool) -> Plot
     }
 }
 
-// The lines of one gather.
+// The lines of one plot.
 fn step(p: Plot, block: &[u8], numbers: &mut [i64], text: &mut [u8]) -> Plot
     requires { ⌜ Ready p (now block) ⌝ }
-    requires { ⌜ length (now numbers) ≡ 1280 ⌝ }
+    requires { ⌜ length (now numbers) ≡ mostMarks * 5 ⌝ }
     requires { ⌜ p .length + most ≤ length (now text) ⌝ }
     ensures { λ r. ⌜ Plotted p r (now (block .entry)) (now (text .entry)) (now (text .exit)) ⌝ }
     ensures { λ r. ⌜ (r .more ≡ true → p .length < r .length) ⌝ }
 {
     let machine = p.machine;
-    let g = machine.gather(block, p.at, numbers);
-    let end = stroke_lines(text, p.length, numbers, g.stored);
-    if g.number == 0 {
-        return moved(p, g, end, false);
-    }
-    if g.number == LIST_FULL {
-        return moved(p, g, end, true);
-    }
-    let last = refusal_line(text, end, g.number, p.before + g.at as u64);
-    moved(p, g, last, true)
+    let g = machine.plot(block, p.at, numbers);
+    let end = mark_lines(text, p.length, numbers, g.stored, p.before);
+    moved(p, g, end, g.number != 0)
 }
 
-// Room for the strokes of one gather.
+// Room for the marks of one plot.
 fn records() -> [i64; NUMBERS]
-    ensures { λ r. ⌜ 1280 ≡ length r ⌝ }
+    ensures { λ r. ⌜ mostMarks * 5 ≡ length r ⌝ }
 {
     [0; NUMBERS]
 }
 
-// The lines of a block, until it is done or the buffer may not hold those of another gather.
+// The lines of a block, until it is done or the buffer may not hold those of another plot.
 pub fn fill(p: Plot, block: &[u8], text: &mut [u8]) -> Plot
     requires { ⌜ Ready p (now block) ⌝ }
     requires { ⌜ p .length ≤ length (now text) ⌝ }

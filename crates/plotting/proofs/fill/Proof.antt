@@ -3,17 +3,17 @@ use borrow.Author.Needs.{needs}
 use borrow.Author.Tests.{not-true, not-false}
 use mathlib.Core.Bool.{Bool, true, false, cond, false≢true}
 use mathlib.Core.Path.{_≡_, refl, sym, _∙_}
-use Prim.Native.Nat.{ℕ, _+_, _-_, _≤_, _<_}
+use Prim.Native.Nat.{ℕ, _+_, _-_, _*_, _≤_, _<_}
 use native.Mathlib.Omega.{arith}
 use lib.ListN.{length}
 use Rattle.lines.specs.TextLaws.{puts-length}
-use Rattle.plotting.specs.Plotted.{Plotted}
+use Rattle.plotting.specs.Plotted.{Plotted, mostMarks}
 use Rattle.plotting.specs.PlottedLaws.{plotted-nothing, plotted-then}
 use Rattle.plotting.proofs.fill.Statement.{statement}
 use Rattle.plotting.proofs.fill.Tie as tie
 
 abbrev Inv-loop : tie.InvT-loop
-Inv-loop block text₀ numbers₀ q₀ text numbers q = Plotted q₀ q block text₀ text × (length numbers ≡ 1280)
+Inv-loop block text₀ numbers₀ q₀ text numbers q = Plotted q₀ q block text₀ text × (length numbers ≡ mostMarks * 5)
 
 abbrev μ-loop : tie.MeasureT-loop
 μ-loop block text₀ numbers₀ q₀ text numbers q = length text - q .length + cond (q .more) 1 0
