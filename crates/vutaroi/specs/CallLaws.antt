@@ -10,6 +10,8 @@ use Rattle.hpgl.specs.Machine.{freshState, takeState, drawState}
 use Rattle.hpgl.specs.Made.{Made, fresh, take, draw}
 use Rattle.hpgl.specs.Feed.{feedOf}
 use Rattle.hpgl.specs.FeedLaws.{feed-made}
+use Rattle.hpgl.specs.Plot.{plotFrom}
+use Rattle.hpgl.specs.PlotLaws.{plot-made}
 use Rattle.saving.specs.Saved.{savedOf, loadedOf}
 use Rattle.saving.specs.SavedLaws.{Held, held-made}
 
@@ -27,3 +29,6 @@ draw-held zs h = held (drawState (loadedOf zs)) (draw (held-made zs h))
 
 pub feed-held : (zs : List ℤ) (bytes : List ℕ) (room : ℕ) → Held zs → ((i : ℕ) → getD bytes i 0 < 256) → Held (savedOf (feedOf (loadedOf zs) bytes room .state))
 feed-held zs bytes room h small = held (feedOf (loadedOf zs) bytes room .state) (feed-made (loadedOf zs) bytes 0 room small (held-made zs h))
+
+pub plot-held : (zs : List ℤ) (bytes : List ℕ) (room : ℕ) → Held zs → ((i : ℕ) → getD bytes i 0 < 256) → Held (savedOf (plotFrom (loadedOf zs) bytes 0 room .state))
+plot-held zs bytes room h small = held (plotFrom (loadedOf zs) bytes 0 room .state) (plot-made (loadedOf zs) bytes 0 room small (held-made zs h))

@@ -10,6 +10,7 @@ use Rattle.hpgl.specs.declared.Drawn.{Drawn}
 use Rattle.hpgl.specs.declared.Drawn.the-variants as drawn
 use Rattle.hpgl.specs.declared.Look.{Look}
 use Rattle.hpgl.specs.Feed.{Feed}
+use Rattle.hpgl.specs.Plot.{Plot}
 
 -- a draw, by number
 unfoldable pub drawnKind : Drawn → ℕ
@@ -37,3 +38,7 @@ lookNumbers l = lay (lookRow l) []
 -- bytes taken, strokes stored
 unfoldable pub countsOf : Feed → List ℕ
 countsOf f = f .taken ∷ length (f .strokes) ∷ []
+
+-- bytes taken, marks stored
+unfoldable pub markCountsOf : Plot → List ℕ
+markCountsOf f = f .taken ∷ length (f .marks) ∷ []

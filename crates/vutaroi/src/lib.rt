@@ -7,9 +7,10 @@ ghost use lib.ListN.{length};
 ghost use Rattle.rows.specs.Rows.{over};
 ghost use Rattle.hpgl.specs.Machine.{rect, freshState, freshNumber, takeState, takeNumber, drawState, drawAnswer, lookAt};
 ghost use Rattle.hpgl.specs.Feed.{feedOf, laidNumbers};
+ghost use Rattle.hpgl.specs.Plot.{plotFrom, laidMarks};
 ghost use Rattle.saving.specs.Saved.{stateNumbers, savedOf, loadedOf};
 ghost use Rattle.saving.specs.SavedLaws.{Held};
-ghost use Rattle.vutaroi.specs.Calls.{drawnKind, drawnNumbers, strokeRow, lookRow, lookNumbers, countsOf};
+ghost use Rattle.vutaroi.specs.Calls.{drawnKind, drawnNumbers, strokeRow, lookRow, lookNumbers, countsOf, markCountsOf};
 use machine::Drawn;
 use machine::Look;
 use machine::Machine;
@@ -151,4 +152,20 @@ pub extern "C" fn vutaroi_feed(
     after.save(state);
     put_counts(gathered.at, gathered.stored, answer);
     gathered.number
+}
+
+#[no_mangle]
+pub extern "C" fn vutaroi_plot(state: &mut [i64], bytes: &[u8], records: &mut [i64], answer: &mut [u64]) -> u8
+    requires { ⌜ Held (now state) × (2 ≤ length (now answer)) ⌝ }
+    ensures { λ r. ⌜ r ≡ plotFrom (loadedOf (now (state .entry))) (now (bytes .entry)) 0 (length (now (records .entry)) / 5) .number ⌝ }
+    ensures { λ _. ⌜ now (state .exit) ≡ savedOf (plotFrom (loadedOf (now (state .entry))) (now (bytes .entry)) 0 (length (now (records .entry)) / 5) .state) ⌝ }
+    ensures { λ _. ⌜ now (records .exit) ≡ laidMarks (plotFrom (loadedOf (now (state .entry))) (now (bytes .entry)) 0 (length (now (records .entry)) / 5) .marks) (now (records .entry)) ⌝ }
+    ensures { λ _. ⌜ now (answer .exit) ≡ over (now (answer .entry)) 0 (markCountsOf (plotFrom (loadedOf (now (state .entry))) (now (bytes .entry)) 0 (length (now (records .entry)) / 5))) ⌝ }
+{
+    let before = Machine::load(state);
+    let plotted = before.plot(bytes, 0, records);
+    let after = plotted.machine;
+    after.save(state);
+    put_counts(plotted.at, plotted.stored, answer);
+    plotted.number
 }

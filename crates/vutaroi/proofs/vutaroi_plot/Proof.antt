@@ -1,0 +1,98 @@
+-- The proof of `vutaroi_plot`.
+use borrow.Author.Needs.{needs}
+use mathlib.Core.Path.{_≡_, sym, ap, _∙_, subst}
+use mathlib.Core.List.{[], _∷_}
+use Prim.Native.Nat.{_/_}
+use lib.ListN.{length}
+use Rattle.rows.specs.Rows.{over}
+use Rattle.hpgl.specs.declared.State.{State}
+use Rattle.hpgl.specs.Plot.{Plot, plotFrom, laidMarks}
+use Rattle.hpgl.specs.PlotLaws.{plot-made}
+use Rattle.hpgl.specs.Made.{Made}
+use Rattle.machine.specs.declared.Gathered.{Gathered}
+use Rattle.machine.specs.Gather.{plottedOf}
+use Rattle.saving.specs.Saved.{savedOf, loadedOf}
+use Rattle.saving.specs.SavedLaws.{held-length, held-made}
+use Rattle.vutaroi.specs.Calls.{markCountsOf}
+use Rattle.vutaroi.proofs.vutaroi_plot.Statement.{statement}
+use Rattle.vutaroi.proofs.vutaroi_plot.Tie as tie
+
+abbrev start : tie.After-load → tie.Start
+start l = l .before .before .before .before
+
+-- the machine that the list holds
+made : (l : tie.After-load) → Made (l .load .result .state)
+made l = subst Made (sym (l .load .ensures)) (held-made _ (start l .pre .0))
+
+abbrev load : tie.After-plot → tie.After-load
+load g = g .before .before
+
+-- what a machine answers to the bytes
+abbrev answer : tie.Start → State → Plot
+answer s m = plotFrom m (s .args .bytes .now) 0 (length (s .args .records .now) / 5)
+
+plotted : (g : tie.After-plot) → let s = start (load g) in g .plot .result ≡ plottedOf (answer s (loadedOf (s .args .state .now)))
+plotted g = let s = start (load g) in g .plot .ensures .0 ∙ ap (λ (m : State). plottedOf (answer s m)) (load g .load .ensures)
+
+plotted-made : (g : tie.After-plot) → Made (g .plot .result .machine .state)
+plotted-made g =
+    let s = start (load g) in
+    let known : tie.After-shared-slice-known = search in
+    let made = plot-made _ (s .args .bytes .now) 0 (length (s .args .records .now) / 5) (λ i. known .shared-slice-known .given i .fits) (held-made _ (s .pre .0)) in
+    subst (λ (r : Gathered). Made (r .machine .state)) (sym (plotted g)) made
+
+load-requires : tie.Need-load-requires
+load-requires c κs = let s : tie.Start = search in held-length _ (s .pre .0)
+
+plot-requires : tie.Need-plot-requires
+plot-requires c κs = let l : tie.After-load = search in made l
+
+save-requires : tie.Need-save-requires
+save-requires c κs =
+    let s : tie.Start = search in
+    let l : tie.After-load = search in
+    let g : tie.After-plot = search in
+    (search (made l, plotted-made g), held-length _ (s .pre .0))
+
+put-counts-requires : tie.Need-put-counts-requires
+put-counts-requires c κs = search needs
+
+same-length : tie.Need-same-length
+same-length c = search needs
+
+same-length-2 : tie.Need-same-length-2
+same-length-2 c = search needs
+
+same-length-3 : tie.Need-same-length-3
+same-length-3 c = search needs
+
+returns : tie.Need-returns
+unfolding markCountsOf
+returns c =
+    let g : tie.After-plot = search in
+    let v : tie.After-save = search in
+    let p : tie.After-put-counts = search in
+    let l = load g in
+    let s = start l in (
+      ap (λ (r : Gathered). r .number) (plotted g),
+      (
+        v .save .ensures ∙ ap (λ (r : Gathered). savedOf (r .machine .state)) (plotted g),
+        (
+          g .plot .ensures .1 ∙ ap (λ (m : State). laidMarks (answer s m .marks) (s .args .records .now)) (l .load .ensures),
+          p .put-counts .ensures ∙ ap (λ (r : Gathered). over (s .args .answer .now) 0 (r .at ∷ r .stored ∷ [])) (plotted g),
+        ),
+      ),
+    )
+
+pub vutaroi-plot-spec : {M : Type 1} → statement M
+vutaroi-plot-spec =
+    tie.close
+    (tie.spec
+    load-requires
+    plot-requires
+    save-requires
+    put-counts-requires
+    same-length
+    same-length-2
+    same-length-3
+    returns)
