@@ -12,7 +12,8 @@ pub mod word;
 // The most bytes of a line.
 pub const LONGEST: usize = 105;
 
-fn put_byte(out: &mut [u8], at: usize, byte: u8) -> usize
+// One byte.
+pub fn put_byte(out: &mut [u8], at: usize, byte: u8) -> usize
     requires { ⌜ at < length (now out) ⌝ }
     ensures { λ r. ⌜ Puts (byte ∷ []) (now (out .entry)) (now (out .exit)) at r ⌝ }
 {
@@ -39,8 +40,22 @@ fn put_decimal(out: &mut [u8], at: usize, n: u64) -> usize
     put_byte(out, next, digit_code(n % 10))
 }
 
+// A text as it is.
+pub fn put_text(out: &mut [u8], at: usize, text: &[u8]) -> usize
+    requires { ⌜ at + length (now text) ≤ length (now out) ⌝ }
+    ensures { λ r. ⌜ Puts (now (text .entry)) (now (out .entry)) (now (out .exit)) at r ⌝ }
+{
+    let mut end = at;
+    let mut i = 0;
+    while i < text.len() {
+        end = put_byte(out, end, text[i]);
+        i += 1;
+    }
+    end
+}
+
 // A number that is not below 0, and the byte after it.
-fn put_natural(out: &mut [u8], at: usize, n: u64, byte: u8) -> usize
+pub fn put_natural(out: &mut [u8], at: usize, n: u64, byte: u8) -> usize
     requires { ⌜ at + length (natural n byte) ≤ length (now out) ⌝ }
     ensures { λ r. ⌜ Puts (natural n byte) (now (out .entry)) (now (out .exit)) at r ⌝ }
 {
@@ -69,7 +84,7 @@ fn put_sign(out: &mut [u8], at: usize, z: i64) -> usize
 }
 
 // Any number, and the byte after it.
-fn put_whole(out: &mut [u8], at: usize, z: i64, byte: u8) -> usize
+pub fn put_whole(out: &mut [u8], at: usize, z: i64, byte: u8) -> usize
     requires { ⌜ at + length (whole z byte) ≤ length (now out) ⌝ }
     ensures { λ r. ⌜ Puts (whole z byte) (now (out .entry)) (now (out .exit)) at r ⌝ }
 {
