@@ -1,0 +1,90 @@
+// What the programs of the desk share: hard limits from the arguments, text on standard output, and sums that stay within 64 bits.
+ghost use mathlib.Core.Path.{_≡_};
+ghost use Prim.Native.Nat.{_≤_};
+ghost use lib.ListN.{length};
+ghost use Rattle.desk.specs.Sums.{added, trimmed};
+use libc::STDERR_FILENO;
+use libc::STDOUT_FILENO;
+use lines::put_natural;
+use lines::put_whole;
+use lines::word::Limits;
+use lines::word::Whole;
+use lines::word::limits_of;
+use lines::word::whole_of;
+
+fn argument(i: usize) -> Whole {
+    let mut word = [0u8; 32];
+    let n = os::arg(i, &mut word);
+    whole_of(&word[..n])
+}
+
+// The limits that the arguments ask for: left, bottom, right, top; without arguments those of the program strokes.
+pub fn limits() -> Limits {
+    let count = os::arg_count();
+    if count == 1 {
+        return Limits::Four(-10000, -7000, 10000, 7000);
+    }
+    if count != 5 {
+        return Limits::Nothing;
+    }
+    limits_of(argument(1), argument(2), argument(3), argument(4))
+}
+
+// Says that the arguments are no limits.
+pub fn bad_arguments() {
+    io::write_all(
+        STDERR_FILENO,
+        b"arguments are none, or four whole numbers: left bottom right top, each -32768 to 32767, left below right, bottom below top\n",
+    );
+}
+
+// A text, to standard output. Whether it was written is told.
+pub fn say(text: &[u8]) -> bool {
+    io::write_all(STDOUT_FILENO, text)
+}
+
+// A number that is not below 0, and the byte after it.
+pub fn say_natural(n: u64, byte: u8) {
+    let mut text = [0u8; 32];
+    let end = put_natural(&mut text, 0, n, byte);
+    say(&text[..end]);
+}
+
+// Any number, and the byte after it.
+pub fn say_whole(z: i64, byte: u8) {
+    let mut text = [0u8; 32];
+    let end = put_whole(&mut text, 0, z, byte);
+    say(&text[..end]);
+}
+
+// How many bytes a text has without the blanks at its end.
+fn trimmed_length(text: &[u8]) -> usize
+    ensures { λ r. ⌜ r ≡ trimmed (now (text .entry)) ⌝ }
+    ensures { λ r. ⌜ r ≤ length (now (text .entry)) ⌝ }
+{
+    let mut n = text.len();
+    while n > 0 {
+        if text[n - 1] != b' ' {
+            return n;
+        }
+        n -= 1;
+    }
+    n
+}
+
+// A text without the blanks at its end.
+pub fn say_words(text: &[u8]) {
+    let n = trimmed_length(text);
+    say(&text[..n]);
+}
+
+// The sum, or the largest number where it is larger: what is counted that high is known to be at least that.
+pub fn sum(a: u64, b: u64) -> u64
+    ensures { λ r. ⌜ r ≡ added a b ⌝ }
+{
+    let room = 0xFFFF_FFFF_FFFF_FFFF - a;
+    if room < b {
+        return 0xFFFF_FFFF_FFFF_FFFF;
+    }
+    a + b
+}
