@@ -1,12 +1,14 @@
 // What the programs of the desk share: hard limits from the arguments, text on standard output, and sums that stay within 64 bits.
 ghost use mathlib.Core.Path.{_≡_};
-ghost use Prim.Native.Nat.{_≤_};
+ghost use Prim.Native.Nat.{_+_, _-_, _≤_};
+ghost use lib.IntN.{natAbs, _-ℤ_};
 ghost use lib.ListN.{length};
 ghost use Rattle.desk.specs.Sums.{added, trimmed};
 use libc::STDERR_FILENO;
 use libc::STDOUT_FILENO;
 use lines::put_natural;
 use lines::put_whole;
+use lines::size;
 use lines::word::Limits;
 use lines::word::Whole;
 use lines::word::limits_of;
@@ -87,4 +89,32 @@ pub fn sum(a: u64, b: u64) -> u64
         return 0xFFFF_FFFF_FFFF_FFFF;
     }
     a + b
+}
+
+// From the smaller to the larger.
+fn difference(m: u64, n: u64) -> u64
+    ensures { λ r. ⌜ r ≡ m - n + (n - m) ⌝ }
+{
+    if m < n {
+        return n - m;
+    }
+    m - n
+}
+
+// How far two numbers are apart: on one side of zero the difference of their sizes, else the sum.
+pub fn apart(a: i64, b: i64) -> u64
+    ensures { λ r. ⌜ r ≡ natAbs (a -ℤ b) ⌝ }
+{
+    let m = size(a);
+    let n = size(b);
+    if a < 0 {
+        if b < 0 {
+            return difference(m, n);
+        }
+        return m + n;
+    }
+    if b < 0 {
+        return m + n;
+    }
+    difference(m, n)
 }

@@ -64,7 +64,7 @@ pub fn put_natural(out: &mut [u8], at: usize, n: u64, byte: u8) -> usize
 }
 
 // The size of a number; the least one has no positive one beside it.
-fn size(z: i64) -> u64
+pub fn size(z: i64) -> u64
     ensures { λ r. ⌜ r ≡ natAbs z ⌝ }
 {
     if z < 0 {
