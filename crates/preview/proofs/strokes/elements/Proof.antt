@@ -1,0 +1,46 @@
+-- The loop has put the lines of i strokes.
+use borrow.Author.Needs.{needs}
+use Prim.Native.Nat.{_≤_, _-_}
+use Rattle.preview.proofs.strokes.elements.Statement.{statement}
+use Rattle.preview.proofs.strokes.elements.Tie as tie
+
+abbrev Inv-loop : tie.InvT-loop
+Inv-loop text₀ numbers count used₀ i₀ text used i = (i ≤ count)
+
+abbrev μ-loop : tie.MeasureT-loop
+μ-loop text₀ numbers count used₀ i₀ text used i = count - i
+
+loop-holds : tie.Need-loop-holds Inv-loop μ-loop
+loop-holds c = search needs
+
+element-requires : tie.Need-element-requires Inv-loop μ-loop
+element-requires c κs = search needs
+
+add-i : tie.Need-add-i Inv-loop μ-loop
+add-i c = search needs
+
+loop-less : tie.Need-loop-less Inv-loop μ-loop
+loop-less c = search needs
+
+loop-again : tie.Need-loop-again Inv-loop μ-loop
+loop-again c = search needs
+
+flush-requires : tie.Need-flush-requires Inv-loop μ-loop
+flush-requires c κs = search needs
+
+returns : tie.Need-returns Inv-loop μ-loop
+returns c = search needs
+
+pub elements-spec : {M : Type 1} → statement M
+elements-spec =
+    tie.close
+    (tie.spec
+    Inv-loop
+    μ-loop
+    loop-holds
+    element-requires
+    add-i
+    loop-less
+    loop-again
+    flush-requires
+    returns)

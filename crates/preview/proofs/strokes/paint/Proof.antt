@@ -1,0 +1,84 @@
+-- A block is read into the same place, and leaves a machine that may be used.
+use borrow.Author.Needs.{needs}
+use mathlib.Core.Path.{_≡_, sym, _∙_}
+use native.Mathlib.Omega.{arith}
+use lib.ListN.{length}
+use Rattle.hpgl.specs.Made.{Made}
+use Rattle.preview.proofs.strokes.paint.Statement.{statement}
+use Rattle.preview.proofs.strokes.paint.Tie as tie
+
+abbrev Inv-loop : tie.InvT-loop
+Inv-loop block₀ d₀ turns₀ unread₀ block d turns unread = (65536 ≡ length block) × Made (d .machine .state)
+
+abbrev μ-loop : tie.MeasureT-loop
+μ-loop block₀ d₀ turns₀ unread₀ block d turns unread = turns
+
+large-buffer-requires : tie.Need-large-buffer-requires Inv-loop μ-loop
+large-buffer-requires c κs = search needs
+
+none-requires : tie.Need-none-requires Inv-loop μ-loop
+none-requires c κs = search needs
+
+loop-holds : tie.Need-loop-holds Inv-loop μ-loop
+loop-holds c =
+    let s : tie.Start Inv-loop μ-loop = search in
+    let b : tie.After-large-buffer Inv-loop μ-loop = search in
+    (b .large-buffer .ensures, s .pre)
+
+slice-aggregate-read : tie.Need-slice-aggregate-read Inv-loop μ-loop
+slice-aggregate-read c = search needs
+
+read-requires : tie.Need-read-requires Inv-loop μ-loop
+read-requires c κs = search needs
+
+slice-aggregate-count : tie.Need-slice-aggregate-count Inv-loop μ-loop
+slice-aggregate-count c = search needs
+
+count-requires : tie.Need-count-requires Inv-loop μ-loop
+count-requires c κs = search needs
+
+array-share-prefix-block : tie.Need-array-share-prefix-block Inv-loop μ-loop
+array-share-prefix-block c = search needs
+
+slice-aggregate-paint-block : tie.Need-slice-aggregate-paint-block Inv-loop μ-loop
+slice-aggregate-paint-block c = search needs
+
+paint-block-requires : tie.Need-paint-block-requires Inv-loop μ-loop
+paint-block-requires c κs = let l : tie.At-loop Inv-loop μ-loop = search in l .loop .inv .1
+
+sub-turns : tie.Need-sub-turns Inv-loop μ-loop
+sub-turns c = let t : tie.In-loop Inv-loop μ-loop = search in omega (arith, t .loop-test .taken)
+
+loop-less : tie.Need-loop-less Inv-loop μ-loop
+loop-less c = let t : tie.In-loop Inv-loop μ-loop = search in omega (arith, t .loop-test .taken)
+
+loop-again : tie.Need-loop-again Inv-loop μ-loop
+loop-again c =
+    let l : tie.At-loop Inv-loop μ-loop = search in
+    let r : tie.After-read Inv-loop μ-loop = search in
+    let t : tie.After-paint-block Inv-loop μ-loop = search in
+    (l .loop .inv .0 ∙ sym (r .read .kept .1 .0), t .paint-block .ensures)
+
+returns : tie.Need-returns Inv-loop μ-loop
+returns c = tt
+
+pub paint-spec : {M : Type 1} → statement M
+paint-spec =
+    tie.close
+    (tie.spec
+    Inv-loop
+    μ-loop
+    large-buffer-requires
+    none-requires
+    loop-holds
+    slice-aggregate-read
+    read-requires
+    slice-aggregate-count
+    count-requires
+    array-share-prefix-block
+    slice-aggregate-paint-block
+    paint-block-requires
+    sub-turns
+    loop-less
+    loop-again
+    returns)

@@ -1,0 +1,137 @@
+// The page: the sheet with its hard limits as a frame, and a column of text beside it. All lengths are plotter units, of which 40 are a millimetre.
+ghost use mathlib.Core.Path.{_≡_};
+ghost use Prim.Native.Nat.{min, max};
+ghost use Rattle.preview.specs.Sheet.{sheetOf};
+use desk::apart;
+use desk::say;
+use desk::say_natural;
+use desk::say_whole;
+
+// Where the sheet begins, and how wide and high it is; the height of a letter, and from line to line; where sheet and text stand on the page; and
+// how many millimetres the page has.
+pub struct Sheet {
+    pub left: i64,
+    pub bottom: i64,
+    pub width: u64,
+    pub height: u64,
+    pub letter: u64,
+    pub line: u64,
+    pub margin: u64,
+    pub base: u64,
+    pub column: u64,
+    pub wide: u64,
+    pub high: u64,
+}
+
+// No sheet is wider.
+const WIDEST: u64 = 65535;
+
+// The letters of a line of text, and the lines of a page, with what is blank around them.
+const LETTERS: u64 = 71;
+
+const LINES: u64 = 48;
+
+fn smaller(a: u64, b: u64) -> u64
+    ensures { λ r. ⌜ r ≡ min a b ⌝ }
+{
+    if a < b {
+        return a;
+    }
+    b
+}
+
+fn larger(a: u64, b: u64) -> u64
+    ensures { λ r. ⌜ r ≡ max a b ⌝ }
+{
+    if a < b {
+        return b;
+    }
+    a
+}
+
+// The page for these hard limits: the larger the sheet, the larger its letters.
+pub fn sheet_of(left: i64, bottom: i64, right: i64, top: i64) -> Sheet
+    ensures { λ r. ⌜ r ≡ sheetOf left bottom right top ⌝ }
+{
+    let width = smaller(apart(right, left), WIDEST);
+    let height = smaller(apart(top, bottom), WIDEST);
+    let letter = (width + height) / 160 + 1;
+    let line = letter * 3 / 2;
+    Sheet {
+        left: left,
+        bottom: bottom,
+        width: width,
+        height: height,
+        letter: letter,
+        line: line,
+        margin: letter * 3,
+        base: letter * 3 + height,
+        column: width + letter * 6,
+        wide: (width + letter * LETTERS) / 40 + 1,
+        high: (larger(height, line * LINES) + letter * 6) / 40 + 1,
+    }
+}
+
+// The colours of the pens, and what strokes, frame and text look like.
+fn style(s: Sheet) {
+    say(b"<style>path{fill:none;stroke-linecap:round;stroke-width:");
+    say_natural(s.letter / 8 + 1, b'}');
+    say(b"\n.p1{stroke:#000000}.p2{stroke:#d00000}.p3{stroke:#0040d0}.p4{stroke:#d0a000}\n");
+    say(b".p5{stroke:#00902a}.p6{stroke:#c000c0}.p7{stroke:#00a0b0}.p8{stroke:#804000}\n");
+    say(b"rect{fill:none;stroke:#909090;stroke-width:");
+    say_natural(s.letter / 12 + 1, b'}');
+    say(b"\ntext{font-family:monospace;fill:#202020;font-size:");
+    say_natural(s.letter, b'p');
+    say(b"x}</style>\n");
+}
+
+// A width and a height.
+fn size(s: Sheet) {
+    say(b" width=\"");
+    say_natural(s.width, b'"');
+    say(b" height=\"");
+    say_natural(s.height, b'"');
+}
+
+// The page, in millimetres; all that stands on it is in units.
+fn page(s: Sheet) {
+    say(b"<svg xmlns=\"http://www.w3.org/2000/svg\" width=\"");
+    say_natural(s.wide, b'm');
+    say(b"m\" height=\"");
+    say_natural(s.high, b'm');
+    say(b"m\" viewBox=\"0 0 ");
+    say_natural(s.wide, b' ');
+    say_natural(s.high, b'"');
+    say(b">\n");
+    style(s);
+    say(
+        b"<rect width=\"100%\" height=\"100%\" style=\"fill:#ffffff;stroke:none\"/>\n<g transform=\"scale(0.025)\">\n",
+    );
+}
+
+// The page as far as the first stroke: the sheet is turned over, so that y goes upwards.
+pub fn head(s: Sheet) {
+    page(s);
+    say(b"<g transform=\"translate(");
+    say_natural(s.margin, b' ');
+    say_natural(s.base, b')');
+    say(b" scale(1 -1)\">\n<rect");
+    size(s);
+    say(b"/>\n<svg overflow=\"visible\"");
+    size(s);
+    say(b" viewBox=\"");
+    say_whole(s.left, b' ');
+    say_whole(s.bottom, b' ');
+    say_natural(s.width, b' ');
+    say_natural(s.height, b'"');
+    say(b">\n");
+}
+
+// A line of text begins, so far from the top.
+pub fn row(s: Sheet, y: u64) {
+    say(b"<text x=\"");
+    say_natural(s.column, b'"');
+    say(b" y=\"");
+    say_natural(y, b'"');
+    say(b">");
+}
