@@ -1,0 +1,15 @@
+-- The whole part of a root, and the sides of a stroke.
+use Prim.Native.Nat.{ℕ, _+_, _*_, _≤_, _<_, min}
+use lib.IntN.{ℤ, natAbs, _-ℤ_}
+
+-- r is the whole part of the root of n
+pub record Root (n r : ℕ) : Type 0 where
+  pub low : r * r ≤ n
+  pub high : n < (r + 1) * (r + 1)
+
+-- roots below this one are sought: a sheet is at most 65,535 wide and high
+abbrev pub most : ℕ
+most = 1048576
+
+unfoldable pub across : ℤ → ℤ → ℕ
+across a b = min (natAbs (a -ℤ b)) 65535
