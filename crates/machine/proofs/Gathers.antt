@@ -1,6 +1,6 @@
 -- How far the loop of `gather` is, and its turns: a segment drawn and stored, or a byte taken, whose refusal may be stored.
 -- Why: each turn is a step of feed or plot (GatherLaws.antt), and a mark's five numbers come right after those of the marks before it.
-use mathlib.Core.Path.{_≡_, refl, sym, ap, _∙_}
+use mathlib.Core.Path.{_≡_, refl, sym, ap, subst, _∙_}
 use mathlib.Core.Bool.{Bool, true, false, cond}
 use mathlib.Core.List.{List, [], _∷_, _++_, append-nil, append-assoc}
 use Prim.Native.Nat.{ℕ, zero, suc, _+_, _*_, _-_, _/_, _≤_, _<_}
@@ -12,7 +12,14 @@ use lib.Dec.{eqb, ltb}
 use lib.IntN.{ℤ, pos}
 use lib.ListN.{length, getD, drop, drop-of-length-le, length-set, length-append}
 use lib.Seq.{drop-cons}
+use Rattle.reader.specs.declared.Reader.{Reader}
+use Rattle.reader.specs.declared.Event.{Event}
 use Rattle.reader.specs.declared.Step.{Step}
+use Rattle.reader.specs.declared.Next.{Next}
+use Rattle.reader.specs.Step.{stepOf}
+use Rattle.reader.specs.Stream.{_telling_}
+use Rattle.reader.specs.Next.{isNothing, nextOf}
+use Rattle.reader.specs.NextLaws.{next-end, next-quiet, next-event}
 use Rattle.hpgl.specs.declared.Acted.{Acted}
 use Rattle.hpgl.specs.declared.Work.{Work}
 use Rattle.hpgl.specs.declared.Work.the-variants.{Nothing, Line, Chords, Edges}
@@ -21,15 +28,16 @@ use Rattle.hpgl.specs.declared.Stroke.{Stroke}
 use Rattle.hpgl.specs.declared.Drawn.{Drawn}
 use Rattle.hpgl.specs.declared.Drawn.the-variants as drawn
 use Rattle.hpgl.specs.Numbers.{listFull}
+use Rattle.hpgl.specs.Rules.{done}
 use Rattle.hpgl.specs.Machine.{waiting, takeState, takeNumber, workAfter, drawState, drawAnswer}
 use Rattle.hpgl.specs.Plot.{Mark, stroke, refusal, Plot, stop, store, drew, numbersOf, laidMarks}
 use Rattle.hpgl.specs.FeedLaws.{draw-less}
 use Rattle.hpgl.specs.Valid.{mostChords, ValidWork, Valid}
 use Rattle.hpgl.specs.Cases.{never}
 use Rattle.hpgl.specs.ValidKept.{valid-draw}
-use Rattle.machine.specs.Gather.{gatheredAs, plottedOf, gatherFrom, Gathers, remainsOf, stuckOf, countAfter, withStroke, recordOf, putOf}
+use Rattle.machine.specs.Gather.{whole, gatheredAs, plottedOf, gatherFrom, Gathers, remainsOf, stuckOf, countAfter, withStroke, recordOf, putOf}
 use Rattle.machine.specs.GatherLaws.{at-end, at-stuck, at-byte, at-refusal, at-refused, at-full, at-draw}
-use Rattle.machine.proofs.Turns.{Turn, turn-number, turn-taken, turn-valid}
+use Rattle.machine.proofs.Turns.{Turn, nothing-is, quiet-turn, turn-number, turn-taken, turn-valid}
 
 -- no more wait than a circle has chords
 pub waits-most : (w : Work) → ValidWork w → waiting w ≤ mostChords
@@ -123,15 +131,15 @@ stroke-length s i zs = simp (length-set)
 abbrev before : List Mark → Plot → Plot
 before ks f = record { state = f .state; taken = f .taken; marks = ks ++ f .marks; number = f .number }
 
--- all of it is `whole`; the marks so far stand in the list, and what is left follows them
-pub record Far (on : Bool) (whole : Plot) (s : List ℕ) (entry now : List ℤ) (m : State) (at count : ℕ) : Type 0 where
+-- all of it is `all`; the marks so far stand in the list, and what is left follows them
+pub record Far (on : Bool) (all : Plot) (s : List ℕ) (entry now : List ℤ) (m : State) (at count : ℕ) : Type 0 where
   marks : List Mark
   counted : length marks ≡ count
   pub room : count ≤ length entry / 5
   pub long : length now ≡ length entry
   laid : now ≡ laidMarks marks entry
   pub valid : Valid m
-  goes-on : whole ≡ before marks (gatherFrom on m (drop at s) at (length entry / 5 - count))
+  goes-on : all ≡ before marks (gatherFrom on m (drop at s) at (length entry / 5 - count))
 
 pub far-start : (on : Bool) (m : State) (s : List ℕ) (entry : List ℤ) (at : ℕ) → Valid m → Far on (gatherFrom on m (drop at s) at (length entry / 5)) s entry entry m at 0
 unfolding numbersOf
@@ -145,7 +153,7 @@ far-start on m s entry at v = record {
   goes-on = let z : length entry / 5 ≡ length entry / 5 - 0 = omega arith in ap (λ (r : ℕ). gatherFrom on m (drop at s) at r) z;
 }
 
-module _ {on : Bool} {whole : Plot} {s : List ℕ} {entry now : List ℤ} {m : State} {at count : ℕ} (far : Far on whole s entry now m at count) where
+module _ {on : Bool} {all : Plot} {s : List ℕ} {entry now : List ℤ} {m : State} {at count : ℕ} (far : Far on all s entry now m at count) where
   far-long : length now / 5 ≡ length entry / 5
   far-long = ap (λ (n : ℕ). n / 5) (far .long)
 
@@ -163,7 +171,7 @@ module _ {on : Bool} {whole : Plot} {s : List ℕ} {entry now : List ℤ} {m : S
 
   -- it stops here
   far-stop : (i : State) (t n : ℕ) → gatherFrom on m (drop at s) at (length entry / 5 - count) ≡ stop i t n →
-      Gathers whole entry now (gatheredAs i t count n)
+      Gathers all entry now (gatheredAs i t count n)
   far-stop i t n e =
       let w = far .goes-on ∙ ap (before (far .marks)) e in
       let z = append-nil (far .marks) in (
@@ -171,7 +179,7 @@ module _ {on : Bool} {whole : Plot} {s : List ℕ} {entry now : List ℤ} {m : S
         far .laid ∙ sym (ap (λ (f : Plot). laidMarks (f .marks) entry) w ∙ ap (λ (ks : List Mark). laidMarks ks entry) z),
       )
 
-  pub far-full : remainsOf (m .work) at (length s) ≡ true → stuckOf on (m .work) count (length now / 5) ≡ true → Gathers whole entry now (gatheredAs m at count listFull)
+  pub far-full : remainsOf (m .work) at (length s) ≡ true → stuckOf on (m .work) count (length now / 5) ≡ true → Gathers all entry now (gatheredAs m at count listFull)
   far-full h k =
       let e = used-all (m .work) count (length now / 5) on k in
       let z : length entry / 5 - count ≡ 0 = omega (arith, e ∙ far-long) in
@@ -183,13 +191,13 @@ module _ {on : Bool} {whole : Plot} {s : List ℕ} {entry now : List ℤ} {m : S
           ∙ at-stuck m at z (getD s at 0) (drop (at + 1) s) (stuck-on (m .work) count (length now / 5) on k z)
       full (suc n) z = at-full m (drop at s) at (omega (arith, z)) on
 
-  pub far-end : waiting (m .work) ≡ 0 → length s ≤ at → Gathers whole entry now (gatheredAs m at count 0)
+  pub far-end : waiting (m .work) ≡ 0 → length s ≤ at → Gathers all entry now (gatheredAs m at count 0)
   far-end h k = far-stop m at 0 (rw (drop-of-length-le s k) (at-end m at h on (length entry / 5 - count)))
 
   -- a mark is stored, and the machine `next` goes on from the place t
   far-more : (k : Mark) (next : State) (t : ℕ) → count < length entry / 5 → Valid next →
       gatherFrom on m (drop at s) at (length entry / 5 - count) ≡ store k (gatherFrom on next (drop t s) t (length entry / 5 - (count + 1))) →
-      Far on whole s entry (withStroke (recordOf k) (count * 5) now) next t (count + 1)
+      Far on all s entry (withStroke (recordOf k) (count * 5) now) next t (count + 1)
   far-more k next t free v e =
       let n = far .counted in
       let fits = far-fits free in
@@ -213,7 +221,7 @@ module _ {on : Bool} {whole : Plot} {s : List ℕ} {entry now : List ℤ} {m : S
   -- nothing is stored
   far-same : (next : State) (t : ℕ) → Valid next →
       gatherFrom on m (drop at s) at (length entry / 5 - count) ≡ gatherFrom on next (drop t s) t (length entry / 5 - count) →
-      Far on whole s entry now next t count
+      Far on all s entry now next t count
   far-same next t v e = record {
     marks = far .marks;
     counted = far .counted;
@@ -233,10 +241,10 @@ module _ {on : Bool} {whole : Plot} {s : List ℕ} {entry now : List ℤ} {m : S
     drawn-on = ap (λ (r : ℕ). gatherFrom on m (drop at s) at r) (less-one free) ∙ at-draw m (drop at s) at h on (length entry / 5 - (count + 1))
 
     unstored : drew (drawAnswer m) (length entry / 5 - (count + 1)) (λ r. gatherFrom on (drawState m) (drop at s) at r) ≡ gatherFrom on (drawState m) (drop at s) at (suc (length entry / 5 - (count + 1))) →
-        Far on whole s entry now (drawState m) at count
+        Far on all s entry now (drawState m) at count
     unstored e = far-same (drawState m) at (valid-draw (far .valid)) (drawn-on ∙ e ∙ ap (λ (r : ℕ). gatherFrom on (drawState m) (drop at s) at r) (sym (less-one free)))
 
-    drawn-by : (d : Drawn) → drawAnswer m ≡ d → Far on whole s entry (putOf d (count * 5) now) (drawState m) at (countAfter d count)
+    drawn-by : (d : Drawn) → drawAnswer m ≡ d → Far on all s entry (putOf d (count * 5) now) (drawState m) at (countAfter d count)
     unfolding drew putOf countAfter
     drawn-by drawn.Idle e = unstored (rw e refl)
     drawn-by drawn.Hidden e = unstored (rw e refl)
@@ -245,7 +253,7 @@ module _ {on : Bool} {whole : Plot} {s : List ℕ} {entry now : List ℤ} {m : S
         (drawn-on ∙ ap (λ (d : Drawn). drew d (length entry / 5 - (count + 1)) (λ r. gatherFrom on (drawState m) (drop at s) at r)) e)
 
     pub far-draw : {d : Drawn} {numbers : List ℤ} {k : ℕ} {w : Work} → d ≡ drawAnswer m → numbers ≡ putOf d (count * 5) now → k ≡ countAfter d count → w ≡ workAfter (m .work) →
-        Far on whole s entry numbers (record { reader = m .reader; core = m .core; store = m .store; work = w }) at k
+        Far on all s entry numbers (record { reader = m .reader; core = m .core; store = m .store; work = w }) at k
     unfolding drawState
     far-draw {d} e f g h = rw (f, g, h) (drawn-by d (sym e))
 
@@ -263,7 +271,7 @@ module _ {on : Bool} {whole : Plot} {s : List ℕ} {entry now : List ℤ} {m : S
     on-byte : (r : ℕ) → gatherFrom on m (drop at s) at r ≡ gatherFrom on m (getD s at 0 ∷ drop (at + 1) s) at r
     on-byte r = ap (λ (bs : List ℕ). gatherFrom on m bs at r) (bytes-left h)
 
-    pub far-turn : (on ≡ true → count < length entry / 5) → t .number ≡ 0 → Far on whole s entry now next (at + 1) count
+    pub far-turn : (on ≡ true → count < length entry / 5) → t .number ≡ 0 → Far on all s entry now next (at + 1) count
     far-turn free e =
         far-same next (at + 1) next-valid
         (on-byte (length entry / 5 - count)
@@ -276,7 +284,7 @@ module _ {on : Bool} {whole : Plot} {s : List ℕ} {entry now : List ℤ} {m : S
 
       -- its refusal is stored
       pub far-refusal : on ≡ true → count < length entry / 5 → {numbers : List ℤ} {k : ℕ} → numbers ≡ withStroke (recordOf (refusal (t .number) (at + 1))) (count * 5) now → k ≡ count + 1 →
-          Far on whole s entry numbers next (at + 1) k
+          Far on all s entry numbers next (at + 1) k
       far-refusal o free e g =
           rw (e, g)
           (far-more (refusal (t .number) (at + 1)) next (at + 1) free next-valid
@@ -286,9 +294,84 @@ module _ {on : Bool} {whole : Plot} {s : List ℕ} {entry now : List ℤ} {m : S
           ∙ (λ i. store (refusal (number-is i) (at + 1)) (gatherFrom on (state-is i) (drop (at + 1) s) (at + 1) (length entry / 5 - (count + 1))))))
 
       -- it ends here
-      pub far-refused : on ≡ false → Gathers whole entry now (gatheredAs next (at + 1) count (t .number))
+      pub far-refused : on ≡ false → Gathers all entry now (gatheredAs next (at + 1) count (t .number))
       far-refused o =
           far-stop next (at + 1) (t .number)
           (on-byte (length entry / 5 - count)
           ∙ at-refused m at idle (getD s at 0) (drop (at + 1) s) refused o (length entry / 5 - count)
           ∙ (λ i. stop (state-is i) (at + 1) (number-is i)))
+
+-- ---- bytes that mean nothing yet, and then the last one that is read
+
+-- the machine `next` has taken the bytes up to a place, core and store as they were, and q is what the byte there tells it
+pub record Reached (on : Bool) (all : Plot) (s : List ℕ) (entry now : List ℤ) (m : State) (at count : ℕ) (q : Next) : Type 0 where
+  pub reader : Reader
+  pub work : Work
+  pub place : ℕ
+  pub further : at ≤ place
+  pub within : place < length s
+  pub ends : q .at ≡ place + 1
+  pub step : (q .reader telling q .event) ≡ stepOf reader (getD s place 0)
+  pub idle : waiting work ≡ 0
+  pub far : Far on all s entry now (whole reader (m .core) (m .store) work) place count
+
+module _ {on : Bool} {all : Plot} {s : List ℕ} {entry now : List ℤ} {count : ℕ} (free : on ≡ true → count < length entry / 5) where
+  -- one byte, and then the others
+  next-byte : (m : State) (at : ℕ) → Far on all s entry now m at count → waiting (m .work) ≡ 0 → at < length s →
+      (let r = stepOf (m .reader) (getD s at 0) .reader in
+      let n = whole r (m .core) (m .store) Nothing in
+      Far on all s entry now n (at + 1) count → at + 1 < length s → Reached on all s entry now n (at + 1) count (nextOf r (drop (at + 1) s) (at + 1))) →
+      Reached on all s entry now m at count (nextOf (m .reader) (drop at s) at)
+  unfolding waiting done
+  next-byte m at far idle h rest = go (isNothing (v .event)) refl (ltb (at + 1) (length s)) refl
+    where
+      v : Step
+      v = stepOf (m .reader) (getD s at 0)
+
+      here : {q : Next} → nextOf (m .reader) (getD s at 0 ∷ drop (at + 1) s) at ≡ q → Reached on all s entry now m at count q → Reached on all s entry now m at count (nextOf (m .reader) (drop at s) at)
+      here e r = subst (Reached on all s entry now m at count) (sym (ap (λ (bs : List ℕ). nextOf (m .reader) bs at) (bytes-left far h) ∙ e)) r
+
+      go : (t : Bool) → isNothing (v .event) ≡ t → (l : Bool) → ltb (at + 1) (length s) ≡ l → Reached on all s entry now m at count (nextOf (m .reader) (drop at s) at)
+      go false e l k =
+          here (next-event (m .reader) (getD s at 0) (drop (at + 1) s) at e)
+          (record { reader = m .reader; work = m .work; place = at; further = omega arith; within = h; ends = refl; step = refl; idle = idle; far = far })
+      go true e true k =
+          let r = rest (far-turn far (quiet-turn m (getD s at 0) e) idle h free refl) (ltb-true (at + 1) (length s) k) in
+          here (next-quiet (m .reader) (getD s at 0) (drop (at + 1) s) at e)
+          (record {
+            reader = r .reader;
+            work = r .work;
+            place = r .place;
+            further = omega (arith, r .further);
+            within = r .within;
+            ends = r .ends;
+            step = r .step;
+            idle = r .idle;
+            far = r .far;
+          })
+      go true e false k =
+          here
+          (next-quiet (m .reader) (getD s at 0) (drop (at + 1) s) at e
+          ∙ ap (λ (bs : List ℕ). nextOf (v .reader) bs (at + 1)) (drop-of-length-le s (ltb-false (at + 1) (length s) k))
+          ∙ next-end (v .reader) (at + 1))
+          (record {
+            reader = m .reader;
+            work = m .work;
+            place = at;
+            further = omega arith;
+            within = h;
+            ends = refl;
+            step = ap (λ (x : Event). v .reader telling x) (sym (nothing-is (v .event) e));
+            idle = idle;
+            far = far;
+          })
+
+  next-bytes : (n : ℕ) (m : State) (at : ℕ) → length s ≤ at + n → Far on all s entry now m at count → waiting (m .work) ≡ 0 → at < length s →
+      Reached on all s entry now m at count (nextOf (m .reader) (drop at s) at)
+  unfolding waiting
+  next-bytes zero m at l far idle h = absurd (omega arith)
+  next-bytes (suc n) m at l far idle h = next-byte m at far idle h (λ f k. next-bytes n _ (at + 1) (omega arith) f refl k)
+
+  pub far-next : {m : State} {at : ℕ} → Far on all s entry now m at count → waiting (m .work) ≡ 0 → at < length s →
+      Reached on all s entry now m at count (nextOf (m .reader) (drop at s) at)
+  far-next {m} {at} far idle h = next-bytes (length s) m at (omega arith) far idle h

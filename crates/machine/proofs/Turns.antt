@@ -1,27 +1,34 @@
 -- A turn of the loop of `gather` that takes a byte: the loop keeps the parts of the machine apart.
 -- Why: what the turn's calls gave are the parts of `applied`, and a byte that means nothing yet changes the reader alone and leaves no work.
 use mathlib.Core.Path.{_≡_, refl, sym, ap, ap₂, _∙_, subst}
-use mathlib.Core.Bool.{true, false}
-use mathlib.Core.List.{List}
-use Prim.Native.Nat.{ℕ}
-use native.Mathlib.Omega.{arith}
+use mathlib.Core.Bool.{true, false, true≢false}
+use Prim.Native.Nat.{ℕ, _≤_}
 use borrow.Author.Tests.{eq-eqb, ne-eqb}
+use Rattle.reader.specs.declared.Coordinates.{Coordinates}
+use Rattle.reader.specs.declared.Numbers.{Numbers}
 use Rattle.reader.specs.declared.Reader.{Reader}
 use Rattle.reader.specs.declared.Event.{Event}
 use Rattle.reader.specs.declared.Event.the-variants as event
 use Rattle.reader.specs.declared.Step.{Step}
+use Rattle.reader.specs.Next.{isNothing}
 use Rattle.reader.specs.Step.{stepOf, passedOver}
-use Rattle.hpgl.specs.declared.Edge.{Edge}
+use Rattle.reader.specs.Table.{PU}
+use Rattle.hpgl.specs.declared.Settings.{Settings}
+use Rattle.hpgl.specs.declared.Polygon.{Polygon}
+use Rattle.hpgl.specs.declared.Carriage.{Carriage}
+use Rattle.hpgl.specs.declared.Core.{Core}
 use Rattle.hpgl.specs.declared.Action.{Action}
-use Rattle.hpgl.specs.declared.Action.the-variants.{Keep, Line, Chords, Join, Outline, Rectangle}
+use Rattle.hpgl.specs.declared.Action.the-variants.{Keep}
 use Rattle.hpgl.specs.declared.Acted.{Acted}
 use Rattle.hpgl.specs.declared.Work.the-variants.{Nothing}
 use Rattle.hpgl.specs.declared.State.{State}
-use Rattle.hpgl.specs.Rules.{done, actOn}
+use Rattle.hpgl.specs.Rules.{done, refuse, letters, pairRule, actOn}
 use Rattle.hpgl.specs.Machine.{waiting, stored, queued, readerAfter, applied, acted, takeState, takeNumber}
 use Rattle.hpgl.specs.Valid.{Valid}
-use Rattle.machine.specs.Gather.{whole, quietOf, storesOf}
 use Rattle.hpgl.specs.ValidKept.{valid-take}
+use Rattle.instructions.specs.declared.hand.Hand.{Hand}
+use Rattle.instructions.specs.Hand.{carriageOf, coreOf, nameNumber, name-parts, pairs-end}
+use Rattle.machine.specs.Gather.{whole}
 
 -- what the calls of one turn gave: the step of the reader, what the core did, and the parts of the next machine
 pub record Turn (m : State) (b : ℕ) (q : Step) (t : Acted) (next : State) : Type 0 where
@@ -32,16 +39,6 @@ pub record Turn (m : State) (b : ℕ) (q : Step) (t : Acted) (next : State) : Ty
   pub edges : next .store .edges ≡ stored (m .store .edges) (m .core .carriage .polygon .edges) (t .action)
   pub work : next .work ≡ queued (t .core .carriage .polygon .edges) (t .action)
 
--- an action that leaves the store
-pub store-kept : (es : List Edge) (k : ℕ) (a : Action) → storesOf a ≡ false → stored es k a ≡ es
-unfolding stored storesOf
-store-kept es k Keep h = refl
-store-kept es k (Line p q) h = refl
-store-kept es k (Chords o) h = refl
-store-kept es k (Join e) h = let z : _≡_ {A = ℕ} 0 1 = cc in absurd (omega arith)
-store-kept es k Outline h = refl
-store-kept es k (Rectangle p q shown) h = let z : _≡_ {A = ℕ} 0 1 = cc in absurd (omega arith)
-
 -- the reader goes on, or passes over the rest
 pub reader-on : (r : Reader) {n : ℕ} → n ≡ 0 → r ≡ readerAfter r n
 unfolding readerAfter
@@ -51,21 +48,21 @@ pub reader-off : (r : Reader) {n : ℕ} → (n ≡ 0 → ⊥) → passedOver r �
 unfolding readerAfter
 reader-off r f = rw (ne-eqb _ 0 f) refl
 
-quiet-is : (e : Event) → quietOf e ≡ true → e ≡ event.Nothing
-unfolding quietOf
-quiet-is event.Nothing h = refl
-quiet-is (event.Named op) h = let z : _≡_ {A = ℕ} 0 1 = cc in absurd (omega arith)
-quiet-is (event.Pair n) h = let z : _≡_ {A = ℕ} 0 1 = cc in absurd (omega arith)
-quiet-is (event.Ended op n) h = let z : _≡_ {A = ℕ} 0 1 = cc in absurd (omega arith)
-quiet-is (event.Refused k) h = let z : _≡_ {A = ℕ} 0 1 = cc in absurd (omega arith)
+pub nothing-is : (e : Event) → isNothing e ≡ true → e ≡ event.Nothing
+unfolding isNothing
+nothing-is event.Nothing h = refl
+nothing-is (event.Named op) h = absurd (true≢false (sym h))
+nothing-is (event.Pair n) h = absurd (true≢false (sym h))
+nothing-is (event.Ended op n) h = absurd (true≢false (sym h))
+nothing-is (event.Refused k) h = absurd (true≢false (sym h))
 
 -- a byte that means nothing yet
-pub quiet-turn : (m : State) (b : ℕ) (q : Step) → q ≡ stepOf (m .reader) b → quietOf (q .event) ≡ true →
-    Turn m b q (done (m .core) Keep) (whole (q .reader) (m .core) (m .store) Nothing)
+pub quiet-turn : (m : State) (b : ℕ) → let q = stepOf (m .reader) b in
+    isNothing (q .event) ≡ true → Turn m b q (done (m .core) Keep) (whole (q .reader) (m .core) (m .store) Nothing)
 unfolding actOn done readerAfter stored queued
-quiet-turn m b q e h = record {
-  step = e;
-  act = rw (quiet-is (q .event) h) refl;
+quiet-turn m b h = record {
+  step = refl;
+  act = rw (nothing-is (stepOf (m .reader) b .event) h) refl;
   reader = refl;
   core = refl;
   edges = refl;
@@ -89,3 +86,38 @@ module _ (m next : State) (b : ℕ) (q : Step) (t : Acted) (turn : Turn m b q t 
 
   pub turn-valid : Valid m → Valid next
   turn-valid v = subst Valid turn-taken (valid-take b v)
+
+-- ---- what an event does to the parts of a core
+
+abbrev pub acting : Settings → Hand → Polygon → Action → ℕ → Acted
+acting s h g a n = record { core = coreOf s h g; action = a; number = n }
+
+module _ (s : Settings) (h : Hand) (g : Polygon) where
+  pub none-acts : acting s h g Keep 0 ≡ actOn (coreOf s h g) event.Nothing
+  unfolding actOn done
+  none-acts = refl
+
+  pub refused-acts : (k : ℕ) → acting s h g Keep k ≡ actOn (coreOf s h g) (event.Refused k)
+  unfolding actOn refuse
+  refused-acts k = refl
+
+  pub ended-acts : (op : ℕ) (n : Numbers) → PU ≤ op → acting s h g Keep 0 ≡ actOn (coreOf s h g) (event.Ended op n)
+  unfolding actOn done
+  ended-acts op n l = sym (pairs-end (coreOf s h g) op n l)
+
+  pub pair-acts : {t : Acted} (n : Coordinates) → t ≡ pairRule (coreOf s h g) n → t ≡ actOn (coreOf s h g) (event.Pair n)
+  unfolding actOn
+  pair-acts n e = e
+
+  module _ (op : ℕ) {k : ℕ} (number : k ≡ nameNumber (g .mode) op) where
+    pub named-acts : (to : Hand) → k ≡ 0 → carriageOf to g ≡ letters (carriageOf h g) op → acting s to g Keep k ≡ actOn (coreOf s h g) (event.Named op)
+    unfolding actOn done
+    named-acts to z e =
+        (λ i. record { core = record { settings = s; carriage = e i }; action = Keep; number = z i })
+        ∙ sym (name-parts s h g op ∙ rw (eq-eqb (nameNumber (g .mode) op) 0 (sym number ∙ z)) refl)
+
+    pub unknown-acts : (k ≡ 0 → ⊥) → acting s h g Keep k ≡ actOn (coreOf s h g) (event.Named op)
+    unfolding actOn refuse
+    unknown-acts f =
+        ap (λ (n : ℕ). acting s h g Keep n) number
+        ∙ sym (name-parts s h g op ∙ rw (ne-eqb (nameNumber (g .mode) op) 0 (λ e. f (number ∙ e))) refl)

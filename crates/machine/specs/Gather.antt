@@ -7,11 +7,7 @@ use lib.Dec.{eqb, ltb}
 use lib.IntN.{ℤ, pos}
 use lib.ListN.{length, set}
 use Rattle.reader.specs.declared.Reader.{Reader}
-use Rattle.reader.specs.declared.Event.{Event}
-use Rattle.reader.specs.declared.Event.the-variants.{Nothing, Named, Pair, Ended, Refused}
 use Rattle.hpgl.specs.declared.Core.{Core}
-use Rattle.hpgl.specs.declared.Action.{Action}
-use Rattle.hpgl.specs.declared.Action.the-variants.{Keep, Line, Chords, Join, Outline, Rectangle}
 use Rattle.hpgl.specs.declared.Store.{Store}
 use Rattle.hpgl.specs.declared.Work.{Work}
 use Rattle.hpgl.specs.declared.State.{State}
@@ -51,23 +47,6 @@ Gathers f entry exit r = (r ≡ plottedOf f) × (exit ≡ laidMarks (f .marks) e
 
 abbrev pub whole : Reader → Core → Store → Work → State
 whole r c st w = record { reader = r; core = c; store = st; work = w }
-
--- a byte means nothing yet
-unfoldable pub quietOf : Event → Bool
-quietOf Nothing = true
-quietOf (Named op) = false
-quietOf (Pair n) = false
-quietOf (Ended op n) = false
-quietOf (Refused k) = false
-
--- an action changes the store
-unfoldable pub storesOf : Action → Bool
-storesOf Keep = false
-storesOf (Line a b) = false
-storesOf (Chords o) = false
-storesOf (Join e) = true
-storesOf Outline = false
-storesOf (Rectangle p q shown) = true
 
 -- a byte is left, of as many as `end`, or a segment waits
 unfoldable pub remainsOf : Work → ℕ → ℕ → Bool

@@ -15,48 +15,29 @@ use hpgl::State;
 use hpgl::Store;
 use hpgl::Stroke;
 use hpgl::Work;
-use instructions::drawing::draw_first;
+use instructions::drawing::corner;
+use instructions::drawing::draw_work;
 use instructions::drawing::edge_place;
+use instructions::drawing::next_corner;
 use instructions::drawing::work_after;
 use instructions::events::act_on;
+use instructions::hand::core_of;
+use instructions::hand::hand_of;
+use instructions::moves::letters;
+use instructions::moves::name_number;
+use instructions::moves::pair;
 use instructions::numbers::LIST_FULL;
-use instructions::storing::edge_count;
+use instructions::places::frame_of;
 use instructions::storing::queued;
 use instructions::storing::stored;
 use instructions::storing::waiting;
 use reader::Event;
+use reader::PU;
 use reader::Reader;
 use sines::table;
 
 // The numbers of a record: pen and ends of a stroke.
 const NUMBERS: usize = 5;
-
-// Whether a byte means nothing yet.
-fn quiet(e: Event) -> bool
-    ensures { λ r. ⌜ r ≡ S.quietOf e ⌝ }
-{
-    match e {
-        Event::Nothing => true,
-        Event::Named(_) => false,
-        Event::Pair(_) => false,
-        Event::Ended(_, _) => false,
-        Event::Refused(_) => false,
-    }
-}
-
-// Whether an action changes the store, which is large: it is not copied for the others.
-fn stores(a: Action) -> bool
-    ensures { λ r. ⌜ r ≡ S.storesOf a ⌝ }
-{
-    match a {
-        Action::Keep => false,
-        Action::Line(_, _) => false,
-        Action::Chords(_) => false,
-        Action::Join(_) => true,
-        Action::Outline => false,
-        Action::Rectangle(_, _, _) => true,
-    }
-}
 
 // The parts put together again.
 fn gathered(
@@ -155,52 +136,128 @@ fn stuck(on: bool, w: Work, count: usize, room: usize) -> bool
     false
 }
 
-// Draws while a segment waits, else takes the next byte, up to the last, or one with no room for what it may leave.
+// Draws while a segment waits, else takes bytes up to the next that means something, up to the last, or one with no room for what it may leave.
 // A byte that is refused ends it, or it goes on with the refusal stored.
 pub fn gather(m: State, bytes: &[u8], from: usize, numbers: &mut [i64], on: bool) -> Gathered
     requires { ⌜ Valid m ⌝ }
     ensures { λ r. ⌜ S.Gathers (S.gatherFrom on m (drop from (now (bytes .entry))) from (length (now (numbers .entry)) / 5)) (now (numbers .entry)) (now (numbers .exit)) r ⌝ }
 {
     let sines = table();
+    let core = m.core;
+    let carriage = core.carriage;
     let mut reader = m.reader;
-    let mut core = m.core;
+    let mut settings = core.settings;
+    let mut frame = frame_of(settings);
+    let mut hand = hand_of(carriage);
+    let mut polygon = carriage.polygon;
     let mut store = m.store;
     let mut work = m.work;
+    let mut vertex = corner(settings.turn, work, &sines);
     let mut at = from;
     let mut count = 0;
     while remains(work, at, bytes.len()) {
         if stuck(on, work, count, numbers.len() / NUMBERS) {
-            return gathered(reader, core, store, work, at, count, LIST_FULL);
+            return gathered(
+                reader,
+                core_of(settings, hand, polygon),
+                store,
+                work,
+                at,
+                count,
+                LIST_FULL,
+            );
         }
         if 0 < waiting(work) {
             let e = store.edges[edge_place(work)];
-            count = put(numbers, count, draw_first(core, e, work, &sines));
+            let limits = frame.limits;
+            let pen = hand.pen;
+            let next = next_corner(settings.turn, work, &sines);
+            let drawn = draw_work(limits, settings.turn, pen.number, e, work, vertex, next);
+            count = put(numbers, count, drawn);
             work = work_after(work);
+            vertex = next;
             continue;
         }
-        let q = reader.step(bytes[at]);
-        at += 1;
+        let q = reader.next(bytes, at);
+        at = q.at;
         reader = q.reader;
         let event = q.event;
-        if quiet(event) {
-            work = Work::Nothing;
-            continue;
+        let edges = polygon.edges;
+        let mut action = Action::Keep;
+        let mut number: u8 = 0;
+        match event {
+            Event::Nothing => {}
+            Event::Named(op) => {
+                number = name_number(polygon.mode, op);
+                if number == 0 {
+                    hand = letters(hand, op);
+                }
+            }
+            Event::Pair(n) => {
+                let t = pair(frame, hand, polygon, n);
+                hand = t.hand;
+                polygon = t.polygon;
+                action = t.action;
+                number = t.number;
+            }
+            Event::Ended(op, _) => {
+                // PU, PD, PA and PR have done their work
+                if op < PU {
+                    let t = act_on(core_of(settings, hand, polygon), event);
+                    let c = t.core;
+                    let k = c.carriage;
+                    settings = c.settings;
+                    frame = frame_of(settings);
+                    hand = hand_of(k);
+                    polygon = k.polygon;
+                    action = t.action;
+                    number = t.number;
+                }
+            }
+            Event::Refused(k) => {
+                number = k;
+            }
         }
-        let t = act_on(core, event);
-        let action = t.action;
-        if stores(action) {
-            store = stored(store, edge_count(core), action);
+        match action {
+            Action::Keep => {}
+            Action::Line(_, _) => {}
+            Action::Chords(_) => {}
+            Action::Join(e) => {
+                // in its place: the store is large
+                let k = edges as usize;
+                store.edges[k] = e;
+            }
+            Action::Outline => {}
+            Action::Rectangle(_, _, _) => {
+                store = stored(store, edges, action);
+            }
         }
-        core = t.core;
-        work = queued(edge_count(core), action);
-        if t.number > 0 {
+        work = queued(polygon.edges, action);
+        vertex = corner(settings.turn, work, &sines);
+        if number > 0 {
             reader = reader.passed_over();
             if on {
-                count = put_record(numbers, count, refusal_record(t.number, at));
+                count = put_record(numbers, count, refusal_record(number, at));
                 continue;
             }
-            return gathered(reader, core, store, work, at, count, t.number);
+            return gathered(
+                reader,
+                core_of(settings, hand, polygon),
+                store,
+                work,
+                at,
+                count,
+                number,
+            );
         }
     }
-    gathered(reader, core, store, work, at, count, 0)
+    gathered(
+        reader,
+        core_of(settings, hand, polygon),
+        store,
+        work,
+        at,
+        count,
+        0,
+    )
 }

@@ -1,37 +1,59 @@
--- The proof of `gather`. The invariant is `Far` (Gathers.antt): the marks so far stand in the list, and what is left of feed or plot follows them.
+-- The proof of `gather`. The invariant is `Far` (Gathers.antt): the marks so far stand in the list, and what is left of feed or plot follows them; with it the
+-- frame is that of the settings, and where a segment waits the vertex is its corner.
 -- The measure: what waits, and for each byte left one more than can wait after it, which is at most the 720 chords of a circle.
 use borrow.Author.Needs.{needs}
 use mathlib.Core.Path.{_≡_, refl, sym, ap, subst, _∙_}
 use mathlib.Core.Bool.{true}
+use mathlib.Core.List.{List}
 use mathlib.Core.Logic.{⊎-elim}
-use Prim.Native.Nat.{ℕ, _+_, _*_, _-_, _/_, _<_}
+use Prim.Native.Nat.{ℕ, _+_, _*_, _-_, _/_, _≤_, _<_}
 use native.Mathlib.Omega.{arith}
-use lib.ListN.{length, getD, drop}
+use lib.IntN.{ℤ}
+use lib.ListN.{length, getD, set, drop}
+use Rattle.clip.specs.Reach.{SmallRect}
+use Rattle.sines.specs.Rules.{entries}
 use Rattle.reader.specs.declared.Reader.{Reader}
+use Rattle.reader.specs.declared.Event.{Event}
 use Rattle.reader.specs.declared.Step.{Step}
+use Rattle.reader.specs.Stream.{_telling_}
+use Rattle.hpgl.specs.declared.Settings.{Settings}
+use Rattle.hpgl.specs.declared.Polygon.{Polygon}
+use Rattle.hpgl.specs.declared.Core.{Core}
+use Rattle.hpgl.specs.declared.Edge.{Edge}
+use Rattle.hpgl.specs.declared.Action.{Action}
+use Rattle.hpgl.specs.declared.Acted.{Acted}
 use Rattle.hpgl.specs.declared.Store.{Store}
 use Rattle.hpgl.specs.declared.State.{State}
 use Rattle.hpgl.specs.declared.Stroke.{Stroke}
-use Rattle.hpgl.specs.Rules.{done, actOn}
+use Rattle.hpgl.specs.Numbers.{listFull, mostEdges}
+use Rattle.hpgl.specs.Plot.{Plot, refusal}
+use Rattle.hpgl.specs.Rules.{actOn}
 use Rattle.hpgl.specs.Machine.{noEdge, waiting, stored, queued, readerAfter, drawAnswer}
-use Rattle.hpgl.specs.Valid.{ValidActed}
-use Rattle.hpgl.specs.ValidFacts.{edge-small}
+use Rattle.hpgl.specs.Place.{limits}
+use Rattle.hpgl.specs.Valid.{Valid, ValidSettings, ValidActed, ValidEvent, ValidAction}
+use Rattle.hpgl.specs.ValidFacts.{edge-small, limits-small}
 use Rattle.hpgl.specs.ReaderKept.{step-event}
 use Rattle.hpgl.specs.ValidKept.{valid-event}
+use Rattle.instructions.specs.declared.places.Frame.{Frame}
+use Rattle.instructions.specs.declared.hand.Hand.{Hand}
 use Rattle.instructions.specs.Alone.{action-alone}
-use Rattle.instructions.specs.First.{firstDrawn, place-within, first-drawn}
-use Rattle.machine.specs.Gather.{whole, gatherFrom, withStroke}
-use Rattle.machine.proofs.Turns.{Turn, store-kept, reader-on, reader-off, quiet-turn}
-use Rattle.machine.proofs.Gathers.{Far, waits-most, waits-less, byte-remains, none-remains, far-start, far-free, far-fits, far-full, far-end, far-draw, far-turn, far-refusal, far-refused}
+use Rattle.instructions.specs.First.{edgePlace, place-within, first-drawn}
+use Rattle.instructions.specs.Corners.{cornerOf, drawnIn, drawn-in, corner-carried, corner-small, next-corner-small}
+use Rattle.instructions.specs.Hand.{frameOf, coreOf}
+use Rattle.machine.specs.Gather.{whole, gatheredAs, gatherFrom, withStroke, recordOf}
+use Rattle.machine.proofs.Turns.{Turn, reader-on, reader-off, turn-valid, acting, none-acts, refused-acts, ended-acts, pair-acts, named-acts, unknown-acts}
+use Rattle.machine.proofs.Gathers.{Far, Reached, waits-most, waits-less, byte-remains, none-remains, far-start, far-free, far-fits, far-full, far-end, far-draw, far-turn, far-refusal, far-refused, far-next}
 use Rattle.machine.proofs.gathering.gather.Statement.{statement}
 use Rattle.machine.proofs.gathering.gather.Tie as tie
 
 abbrev Inv-loop : tie.InvT-loop
-Inv-loop bytes from numbers₀ on reader₀ core₀ store₀ work₀ at₀ count₀ numbers reader core store work at count =
-    Far on (gatherFrom on (whole reader₀ core₀ store₀ work₀) (drop from bytes) from (length numbers₀ / 5)) bytes numbers₀ numbers (whole reader core store work) at count
+Inv-loop bytes from numbers₀ on sines reader₀ settings₀ frame₀ hand₀ polygon₀ store₀ work₀ vertex₀ at₀ count₀ numbers reader settings frame hand polygon store work vertex at count =
+    Far on (gatherFrom on (whole reader₀ (coreOf settings₀ hand₀ polygon₀) store₀ work₀) (drop from bytes) from (length numbers₀ / 5)) bytes numbers₀ numbers (whole reader (coreOf settings hand polygon) store work) at count
+    × (frame ≡ frameOf settings)
+    × (0 < waiting work → vertex ≡ cornerOf (settings .turn) work)
 
 abbrev μ-loop : tie.MeasureT-loop
-μ-loop bytes from numbers₀ on reader₀ core₀ store₀ work₀ at₀ count₀ numbers reader core store work at count = (length bytes - at) * 721 + waiting work
+μ-loop bytes from numbers₀ on sines reader₀ settings₀ frame₀ hand₀ polygon₀ store₀ work₀ vertex₀ at₀ count₀ numbers reader settings frame hand polygon store work vertex at count = (length bytes - at) * 721 + waiting work
 
 -- ---- the places of a turn
 
@@ -44,85 +66,93 @@ Waits = tie.Then3 Inv-loop μ-loop
 abbrev Idle : Type 0
 Idle = tie.Else3 Inv-loop μ-loop
 
-abbrev Stepped : Type 0
-Stepped = tie.After-step Inv-loop μ-loop
+abbrev Read : Type 0
+Read = tie.After-next Inv-loop μ-loop
 
 abbrev Done : Type 0
-Done = tie.After-act-on Inv-loop μ-loop
+Done = tie.At-match-came Inv-loop μ-loop
+
+abbrev Stored : Type 0
+Stored = tie.At-match2-came Inv-loop μ-loop
+
+abbrev Queued : Type 0
+Queued = tie.After-queued Inv-loop μ-loop
 
 abbrev Turned : Type 0
-Turned = tie.After-queued Inv-loop μ-loop
+Turned = tie.After-corner2 Inv-loop μ-loop
+
+abbrev Passed : Type 0
+Passed = tie.After-passed-over Inv-loop μ-loop
+
+abbrev handed : tie.After-corner Inv-loop μ-loop → tie.After-hand-of Inv-loop μ-loop
+handed c = c .before .before .before .before
+
+abbrev start : tie.After-hand-of Inv-loop μ-loop → tie.Start Inv-loop μ-loop
+start h = search
+
+abbrev laid : tie.After-hand-of Inv-loop μ-loop → tie.After-table Inv-loop μ-loop
+laid h = search
 
 abbrev entry : Loop → tie.Start Inv-loop μ-loop
-entry l = search
+entry l = start (handed (l .before))
 
 abbrev waits : Waits → Loop
 waits w = search
 
-abbrev drawn : tie.After-draw-work Inv-loop μ-loop → Loop
+abbrev drawn : tie.After-draw-work Inv-loop μ-loop → Waits
 drawn d = search
 
 abbrev idles : Idle → Loop
 idles e = search
 
-abbrev before : Stepped → Idle
+abbrev before : Read → Idle
 before q = search
 
-abbrev loop : Stepped → Loop
-loop q = search
+abbrev loop : Read → Loop
+loop q = idles (before q)
 
-abbrev stepped : Done → Stepped
-stepped a = search
+abbrev read : Done → Read
+read j = search
 
-abbrev acted : Turned → Done
-acted r = search
+abbrev did : Stored → Done
+did k = k .before
 
--- the machine that the parts make, and the byte that is taken
+abbrev kept : Queued → Stored
+kept r = r .before
+
+abbrev then : Turned → Queued
+then r = search
+
+abbrev turning : Passed → Turned
+turning p = search
+
+-- the machine that the parts make
 abbrev here : Loop → State
-here l = whole (l .loop .reader) (l .loop .core) (l .loop .store) (l .loop .work)
+here l = whole (l .loop .reader) (coreOf (l .loop .settings) (l .loop .hand) (l .loop .polygon)) (l .loop .store) (l .loop .work)
 
-abbrev byte : Loop → ℕ
-byte l = getD (entry l .args .bytes .now) (l .loop .at) 0
+-- ---- how far the loop is
 
--- the next one, with this reader
-abbrev next : Turned → Reader → State
-next r x =
-    let j : tie.Joined5 Inv-loop μ-loop = search in
-    whole x (acted r .act-on .result .core) (j .if5 .store) (r .queued .result)
+-- all that it does, from the machine with this hand
+abbrev From : Loop → Hand → Plot
+From l h =
+    let s = entry l .args in
+    gatherFrom (s .on) (whole (s .m .reader) (coreOf (s .m .core .settings) h (s .m .core .carriage .polygon)) (s .m .store) (s .m .work)) (drop (s .from) (s .bytes .now)) (s .from) (length (s .numbers .now) / 5)
 
-act-valid : (a : Done) → ValidActed (loop (stepped a) .loop .core) (a .act-on .result)
-act-valid a =
-    let q = stepped a in
-    let v = loop q .loop .inv .valid in
-    let e = a .act-on .ensures ∙ ap (λ (x : Step). actOn (loop q .loop .core) (x .event)) (q .step .ensures) in
-    subst (ValidActed (loop q .loop .core)) (sym e) (valid-event _ (v .core) (step-event (byte (loop q)) v))
+abbrev All : Loop → Plot
+All l = let s = entry l .args in gatherFrom (s .on) (s .m) (drop (s .from) (s .bytes .now)) (s .from) (length (s .numbers .now) / 5)
 
--- the store, whether it was changed or not
-edges : (j : tie.Joined5 Inv-loop μ-loop) → let a : Done = j .before .before in
-    let l = loop (stepped a) .loop in j .if5 .store .edges ≡ stored (l .store .edges) (l .core .carriage .polygon .edges) (a .act-on .result .action)
-edges j =
-    let a : Done = j .before .before in
-    let t = a .act-on .result .action in
-    let l = loop (stepped a) .loop in
-    ⊎-elim
-    (λ w. ap (λ (x : Store). x .edges) (w .3) ∙ w .2 .ensures ∙ ap (λ (x : ℕ). stored (l .store .edges) x t) (w .1 .ensures))
-    (λ w. ap (λ (x : Store). x .edges) (w .1) ∙ sym (store-kept (l .store .edges) (l .core .carriage .polygon .edges) t (sym (j .before .stores .ensures) ∙ w .0 .left)))
-    (j .if5 .came)
+-- the hand that it begins with is the machine's
+as-handed : (l : Loop) → From l (handed (l .before) .hand-of .result) ≡ All l
+as-handed l = ap (From l) (handed (l .before) .hand-of .ensures)
 
-turn : (r : Turned) {x : Reader} → let q = stepped (acted r) in
-    x ≡ readerAfter (q .step .result .reader) (acted r .act-on .result .number) → Turn (here (loop q)) (byte (loop q)) (q .step .result) (acted r .act-on .result) (next r x)
-turn r e =
-    let a = acted r in
-    let k : tie.After-edge-count2 Inv-loop μ-loop = search in
-    let j : tie.Joined5 Inv-loop μ-loop = search in
-    record {
-      step = stepped a .step .ensures;
-      act = a .act-on .ensures;
-      reader = e;
-      core = refl;
-      edges = edges j;
-      work = r .queued .ensures ∙ ap (λ (x : ℕ). queued x (a .act-on .result .action)) (k .edge-count2 .ensures);
-    }
+abbrev Goes : Loop → Plot → List ℤ → State → ℕ → ℕ → Type 0
+Goes l f numbers m at count = let s = entry l .args in Far (s .on) f (s .bytes .now) (s .numbers .now) numbers m at count
+
+far : (l : Loop) → Goes l (All l) (l .loop .numbers) (here l) (l .loop .at) (l .loop .count)
+far l = subst (λ (f : Plot). Goes l f (l .loop .numbers) (here l) (l .loop .at) (l .loop .count)) (as-handed l) (l .loop .inv .0)
+
+again : (l : Loop) {numbers : List ℤ} {m : State} {at count : ℕ} → Goes l (All l) numbers m at count → Goes l (From l (handed (l .before) .hand-of .result)) numbers m at count
+again l {numbers} {m} {at} {count} f = subst (λ (p : Plot). Goes l p numbers m at count) (sym (as-handed l)) f
 
 -- where a byte is taken no segment waits, and there is one
 idle : (e : Idle) → waiting (idles e .loop .work) ≡ 0
@@ -142,7 +172,7 @@ unstuck e = search
 
 free : (e : tie.Else2 Inv-loop μ-loop) → let l = unstuck e in
     (waiting (l .loop .work) ≡ 0 → entry l .args .on ≡ true) → l .loop .count < length (entry l .args .numbers .now) / 5
-free e f = far-free (unstuck e .loop .inv) (sym (e .before .stuck .ensures) ∙ e .if2 .left) f
+free e f = far-free (far (unstuck e)) (sym (e .before .stuck .ensures) ∙ e .if2 .left) f
 
 free-drawn : (w : Waits) → let l = waits w in l .loop .count < length (entry l .args .numbers .now) / 5
 free-drawn w = let e : tie.Else2 Inv-loop μ-loop = search in free e (λ z. absurd (omega (arith, z, waits-some w)))
@@ -150,59 +180,224 @@ free-drawn w = let e : tie.Else2 Inv-loop μ-loop = search in free e (λ z. absu
 free-taken : (e : Idle) → let l = idles e in entry l .args .on ≡ true → l .loop .count < length (entry l .args .numbers .now) / 5
 free-taken e o = let n : tie.Else2 Inv-loop μ-loop = search in free n (λ z. o)
 
--- the edge that is read is the one that waits first
-drew : (d : tie.After-draw-work Inv-loop μ-loop) → d .draw-work .result ≡ drawAnswer (here (drawn d))
-unfolding drawAnswer
+-- ---- a draw
+
+-- the edge that is read is the one that waits first, and the corners are its own
+drew : (d : tie.After-draw-work Inv-loop μ-loop) → d .draw-work .result ≡ drawAnswer (here (waits (drawn d)))
+unfolding drawAnswer frameOf
 drew d =
-    let l = drawn d in
+    let w = drawn d in
+    let l = waits w .loop in
     let p : tie.After-edge-place Inv-loop μ-loop = search in
+    let n : tie.After-next-corner Inv-loop μ-loop = search in
+    let t = l .settings .turn in
+    let m = here (waits w) in
     d .draw-work .ensures
-    ∙ ap (λ (k : ℕ). firstDrawn (l .loop .core) (getD (l .loop .store .edges) k noEdge) (l .loop .work)) (p .edge-place .ensures)
-    ∙ first-drawn (here l) (l .loop .work)
+    ∙ (λ i. drawnIn (l .inv .1 i .limits) t (l .hand .pen .number) (getD (l .store .edges) (p .edge-place .ensures i) noEdge) (l .work) (l .inv .2 (waits-some w) i) (n .next-corner .ensures i))
+    ∙ drawn-in (m .core) (getD (l .store .edges) (edgePlace (l .work)) noEdge) (l .work)
+    ∙ first-drawn m (l .work)
+
+-- ---- a byte
+
+-- the machine before the last byte that is read
+reached : (q : Read) → let l = loop q in
+    let s = entry l .args in
+    Reached (s .on) (All l) (s .bytes .now) (s .numbers .now) (l .loop .numbers) (here l) (l .loop .at) (l .loop .count) (q .next .result)
+reached q =
+    let l = loop q in
+    let s = entry l .args in
+    subst (Reached (s .on) (All l) (s .bytes .now) (s .numbers .now) (l .loop .numbers) (here l) (l .loop .at) (l .loop .count)) (sym (q .next .ensures))
+    (far-next (free-taken (before q)) (far l) (idle (before q)) (more (before q)))
+
+abbrev last : Read → State
+last q = whole (reached q .reader) (here (loop q) .core) (loop q .loop .store) (reached q .work)
+
+abbrev byte : Read → ℕ
+byte q = getD (entry (loop q) .args .bytes .now) (reached q .place) 0
+
+event-valid : (q : Read) → ValidEvent (here (loop q) .core) (q .next .result .event)
+event-valid q =
+    subst (ValidEvent (here (loop q) .core)) (sym (ap (λ (x : Step). x .event) (reached q .step))) (step-event {m = last q} (byte q) (reached q .far .valid))
+
+-- what the event did to the core
+abbrev act : Done → Acted
+act j = acting (j .match .settings) (j .match .hand) (j .match .polygon) (j .match .action) (j .match .number)
+
+record Did (j : Done) : Type 0 where
+  acts : act j ≡ actOn (here (loop (read j)) .core) (read j .next .result .event)
+  framed : j .match .frame ≡ frameOf (j .match .settings)
+
+by : (j : Done) {s : Settings} {f : Frame} {h : Hand} {g : Polygon} {a : Action} {n : ℕ} →
+    j .match .settings ≡ s → j .match .frame ≡ f → j .match .hand ≡ h → j .match .polygon ≡ g → j .match .action ≡ a → j .match .number ≡ n →
+    f ≡ frameOf s → {e : Event} → read j .next .result .event ≡ e → acting s h g a n ≡ actOn (here (loop (read j)) .core) e → Did j
+by j es ef eh eg ea en framed told acts = record {
+  acts = (λ i. acting (es i) (eh i) (eg i) (ea i) (en i)) ∙ acts ∙ ap (actOn (here (loop (read j)) .core)) (sym told);
+  framed = ef ∙ framed ∙ ap frameOf (sym es);
+}
+
+done : (j : Done) → Did j
+done j =
+    let l = loop (read j) .loop in
+    let s = l .settings in
+    let h = l .hand in
+    let g = l .polygon in
+    let framed = l .inv .1 in
+    ⊎-elim
+    (λ w. by j (w .2) (w .3) (w .4) (w .5) (w .6) (w .7) framed (w .1 .given .1) (none-acts s h g))
+    (⊎-elim
+    (λ w. by j (w .6) (w .7) (w .8) (w .9) (w .10) (w .11) framed (w .1 .given .1) (named-acts s h g _ (w .3 .ensures) (w .5 .result) (w .4 .taken) (w .5 .ensures g)))
+    (⊎-elim
+    (λ w. by j (w .5) (w .6) (w .7) (w .8) (w .9) (w .10) framed (w .1 .given .1) (unknown-acts s h g _ (w .3 .ensures) (w .4 .left)))
+    (⊎-elim
+    (λ w. by j (w .6) (w .7) (w .8) (w .9) (w .10) (w .11) framed (w .1 .given .1) (pair-acts s h g _ (w .3 .ensures s framed)))
+    (⊎-elim
+    (λ w. let t = w .5 .result in
+    by j (w .12) (w .13) (w .14) (w .15) (w .16) (w .17) (w .9 .ensures) refl
+    (ap (λ (to : Hand). acting (t .core .settings) to (t .core .carriage .polygon) (t .action) (t .number)) (w .10 .ensures)
+    ∙ w .5 .ensures
+    ∙ (λ i. actOn (w .4 .ensures i) (sym (w .1 .given .1) i))))
+    (⊎-elim
+    (λ w. by j (w .4) (w .5) (w .6) (w .7) (w .8) (w .9) framed (w .1 .given .1) (ended-acts s h g _ _ (w .3 .left)))
+    (λ w. by j (w .3) (w .4) (w .5) (w .6) (w .7) (w .8) framed (w .1 .given .1) (refused-acts s h g _)))))))
+    (j .match .came)
+
+act-valid : (j : Done) → ValidActed (here (loop (read j)) .core) (act j)
+act-valid j =
+    let q = read j in
+    subst (ValidActed (here (loop q) .core)) (sym (done j .acts)) (valid-event (q .next .result .event) (far (loop q) .valid .core) (event-valid q))
+
+-- the store, whether it was changed or not, and the action, which was looked at
+record Keeps (k : Stored) : Type 0 where
+  action : k .match2 .action ≡ did k .match .action
+  edges : k .match2 .store .edges ≡ stored (loop (read (did k)) .loop .store .edges) (loop (read (did k)) .loop .polygon .edges) (did k .match .action)
+
+keeps : (k : Stored) → Keeps k
+unfolding stored
+keeps k =
+    let l = loop (read (did k)) .loop in
+    let after = stored (l .store .edges) (l .polygon .edges) in
+    ⊎-elim
+    (λ w. record { action = w .3; edges = ap edges (w .2) ∙ ap after (sym (w .1 .given .1)) })
+    (⊎-elim
+    (λ w. record { action = w .3; edges = ap edges (w .2) ∙ ap after (sym (w .1 .given .1)) })
+    (⊎-elim
+    (λ w. record { action = w .3; edges = ap edges (w .2) ∙ ap after (sym (w .1 .given .1)) })
+    (⊎-elim
+    (λ w. record { action = w .4 ∙ sym (w .1 .given .1); edges = ap edges (w .3) ∙ ap after (sym (w .1 .given .1)) })
+    (⊎-elim
+    (λ w. record { action = w .3; edges = ap edges (w .2) ∙ ap after (sym (w .1 .given .1)) })
+    (λ w. record { action = w .4; edges = ap edges (w .3) ∙ w .2 .ensures })))))
+    (k .match2 .came)
+  where
+    edges : Store → List Edge
+    edges x = x .edges
+
+-- the next machine, with this reader
+abbrev next : Queued → Reader → State
+next r x = let j = did (kept r) .match in whole x (coreOf (j .settings) (j .hand) (j .polygon)) (kept r .match2 .store) (r .queued .result)
+
+turn : (r : Queued) {x : Reader} → let j = did (kept r) in
+    let q = read j in
+    x ≡ readerAfter (q .next .result .reader) (j .match .number) → Turn (last q) (byte q) (q .next .result .reader telling q .next .result .event) (act j) (next r x)
+turn r e =
+    let k = kept r in
+    let j = did k in
+    record {
+      step = reached (read j) .step;
+      act = done j .acts;
+      reader = e;
+      core = refl;
+      edges = keeps k .edges;
+      work = r .queued .ensures ∙ ap (λ (a : Action). queued (j .match .polygon .edges) a) (keeps k .action);
+    }
+
+next-valid : (r : Queued) → let j = did (kept r) in Valid (next r (readerAfter (read j .next .result .reader) (j .match .number)))
+next-valid r = let q = read (did (kept r)) in turn-valid _ _ _ _ _ (turn r refl) (reached q .idle) (reached q .far .valid)
 
 -- a byte that is not refused
-turned : (c : tie.Else6 Inv-loop μ-loop) → let r : Turned = c .before .before in
-    let q = stepped (acted r) in
+turned : (c : tie.Else6 Inv-loop μ-loop) → let r = then (c .before) in
+    let q = read (did (kept r)) in
     let l = loop q in
-    let s = entry l .args in
-    Far (s .on) (gatherFrom (s .on) (s .m) (drop (s .from) (s .bytes .now)) (s .from) (length (s .numbers .now) / 5)) (s .bytes .now) (s .numbers .now) (l .loop .numbers) (next r (q .step .result .reader)) (l .loop .at + 1) (l .loop .count)
+    Goes l (All l) (l .loop .numbers) (next r (q .next .result .reader)) (q .next .result .at) (l .loop .count)
 turned c =
-    let r : Turned = c .before .before in
-    let q = stepped (acted r) in
-    let z : acted r .act-on .result .number ≡ 0 = omega (arith, c .if6 .left) in
-    far-turn (loop q .loop .inv) (turn r (reader-on (q .step .result .reader) z)) (idle (before q)) (more (before q)) (free-taken (before q)) z
+    let r = then (c .before) in
+    let q = read (did (kept r)) in
+    let z : did (kept r) .match .number ≡ 0 = omega (arith, c .if6 .left) in
+    let l = loop q in
+    subst (λ (t : ℕ). Goes l (All l) (l .loop .numbers) (next r (q .next .result .reader)) t (l .loop .count)) (sym (reached q .ends))
+    (far-turn (reached q .far) (turn r (reader-on (q .next .result .reader) z)) (reached q .idle) (reached q .within) (free-taken (before q)) z)
 
 -- a byte that is refused
-abbrev Passed : Type 0
-Passed = tie.After-passed-over Inv-loop μ-loop
-
-abbrev did : Passed → Turned
-did p = search
-
-refused : (p : Passed) → acted (did p) .act-on .result .number ≡ 0 → ⊥
+refused : (p : Passed) → did (kept (then (turning p))) .match .number ≡ 0 → ⊥
 refused p e = let t : tie.Then6 Inv-loop μ-loop = search in omega (arith, e, t .if6 .taken)
 
-passed : (p : Passed) → p .passed-over .result ≡ readerAfter (stepped (acted (did p)) .step .result .reader) (acted (did p) .act-on .result .number)
-passed p = p .passed-over .ensures ∙ reader-off (stepped (acted (did p)) .step .result .reader) (refused p)
+passed : (p : Passed) → let j = did (kept (then (turning p))) in p .passed-over .result ≡ readerAfter (read j .next .result .reader) (j .match .number)
+passed p = p .passed-over .ensures ∙ reader-off _ (refused p)
 
 -- and stored
-stored-on : (c : tie.After-put-record Inv-loop μ-loop) → let p : Passed = search in
-    let r = did p in
-    let l = loop (stepped (acted r)) in
-    let s = entry l .args in
-    Far (s .on) (gatherFrom (s .on) (s .m) (drop (s .from) (s .bytes .now)) (s .from) (length (s .numbers .now) / 5)) (s .bytes .now) (s .numbers .now) (c .put-record .last .0) (next r (p .passed-over .result)) (l .loop .at + 1) (c .put-record .result)
+abbrev putting : tie.After-put-record Inv-loop μ-loop → Passed
+putting c = search
+
+stored-on : (c : tie.After-put-record Inv-loop μ-loop) → let p = putting c in
+    let r = then (turning p) in
+    let q = read (did (kept r)) in
+    let l = loop q in
+    Goes l (All l) (c .put-record .last .0) (next r (p .passed-over .result)) (q .next .result .at) (c .put-record .result)
 stored-on c =
-    let p : Passed = search in
+    let p = putting c in
     let t : tie.Then7 Inv-loop μ-loop = search in
     let k : tie.After-refusal-record Inv-loop μ-loop = search in
-    let r = did p in
-    let q = stepped (acted r) in
+    let r = then (turning p) in
+    let q = read (did (kept r)) in
     let l = loop q in
-    let e = c .put-record .ensures .1 ∙ ap (λ (x : Stroke). withStroke x (l .loop .count * 5) (l .loop .numbers)) (k .refusal-record .ensures) in
-    far-refusal (l .loop .inv) (turn r (passed p)) (idle (before q)) (more (before q)) (refused p) (t .if7 .taken) (free-taken (before q) (t .if7 .taken)) e (c .put-record .ensures .0)
+    let n = did (kept r) .match .number in
+    let e = k .refusal-record .ensures ∙ ap (λ (t : ℕ). recordOf (refusal n t)) (reached q .ends) in
+    subst (λ (t : ℕ). Goes l (All l) (c .put-record .last .0) (next r (p .passed-over .result)) t (c .put-record .result)) (sym (reached q .ends))
+    (far-refusal (reached q .far) (turn r (passed p)) (reached q .idle) (reached q .within) (refused p) (t .if7 .taken) (free-taken (before q) (t .if7 .taken))
+    (c .put-record .ensures .1 ∙ ap (λ (x : Stroke). withStroke x (l .loop .count * 5) (l .loop .numbers)) e) (c .put-record .ensures .0))
+
+-- ---- the needs
+
+-- there is a place for an edge that is joined
+joined : (a : tie.After-action Inv-loop μ-loop) → loop (read (a .before .before)) .loop .polygon .edges < mostEdges
+joined a =
+    let j = a .before .before in
+    subst (ValidAction (loop (read j) .loop .polygon .edges)) (a .action .given .1) (act-valid j .action) .1
+
+sines-long : (h : tie.After-hand-of Inv-loop μ-loop) → 901 ≡ length (laid h .table .result)
+sines-long h = sym (ap length (laid h .table .ensures) ∙ entries)
+
+table-requires : tie.Need-table-requires Inv-loop μ-loop
+table-requires c κs = search needs
+
+frame-of-requires : tie.Need-frame-of-requires Inv-loop μ-loop
+frame-of-requires c κs = let s : tie.Start Inv-loop μ-loop = search in s .pre .core .settings
+
+hand-of-requires : tie.Need-hand-of-requires Inv-loop μ-loop
+hand-of-requires c κs = search needs
+
+slice-aggregate-corner : tie.Need-slice-aggregate-corner Inv-loop μ-loop
+slice-aggregate-corner c = let h : tie.After-hand-of Inv-loop μ-loop = search in sines-long h
+
+corner-requires : tie.Need-corner-requires Inv-loop μ-loop
+corner-requires c κs =
+    let h : tie.After-hand-of Inv-loop μ-loop = search in
+    let v = start h .pre in
+    (v .core .settings .turn, v .work, laid h .table .ensures)
 
 loop-holds : tie.Need-loop-holds Inv-loop μ-loop
-loop-holds c = let s : tie.Start Inv-loop μ-loop = search in far-start (s .args .on) (s .args .m) (s .args .bytes .now) (s .args .numbers .now) (s .args .from) (s .pre)
+loop-holds c =
+    let h = handed c in
+    let s = start h in
+    let f : tie.After-frame-of Inv-loop μ-loop = search in (
+      subst
+          (λ (k : Hand). let m = whole (s .args .m .reader) (coreOf (s .args .m .core .settings) k (s .args .m .core .carriage .polygon)) (s .args .m .store) (s .args .m .work) in
+          Far (s .args .on) (gatherFrom (s .args .on) m (drop (s .args .from) (s .args .bytes .now)) (s .args .from) (length (s .args .numbers .now) / 5)) (s .args .bytes .now) (s .args .numbers .now) (s .args .numbers .now) m (s .args .from) 0)
+          (sym (h .hand-of .ensures))
+          (far-start (s .args .on) (s .args .m) (s .args .bytes .now) (s .args .numbers .now) (s .args .from) (s .pre)),
+      f .frame-of .ensures,
+      λ w. c .corner .ensures,
+    )
 
 remains-requires : tie.Need-remains-requires Inv-loop μ-loop
 remains-requires c κs = search needs
@@ -210,19 +405,24 @@ remains-requires c κs = search needs
 stuck-requires : tie.Need-stuck-requires Inv-loop μ-loop
 stuck-requires c κs = search needs
 
+core-of-requires : tie.Need-core-of-requires Inv-loop μ-loop
+core-of-requires c κs = search needs
+
 gathered-requires : tie.Need-gathered-requires Inv-loop μ-loop
 gathered-requires c κs = search needs
 
 same-length : tie.Need-same-length Inv-loop μ-loop
-same-length c = let l : Loop = search in l .loop .inv .long
+same-length c = let l : Loop = search in far l .long
 
 returns : tie.Need-returns Inv-loop μ-loop
 returns c =
     let l : Loop = search in
     let o : tie.Then1 Inv-loop μ-loop = search in
     let t : tie.Then2 Inv-loop μ-loop = search in
-    let f = far-full (l .loop .inv) (sym (o .before .remains .ensures) ∙ o .if1 .taken) (sym (t .before .stuck .ensures) ∙ t .if2 .taken) in
-    (c .gathered .ensures ∙ f .0, f .1)
+    let p : tie.After-core-of Inv-loop μ-loop = search in
+    let f = far-full (far l) (sym (o .before .remains .ensures) ∙ o .if1 .taken) (sym (t .before .stuck .ensures) ∙ t .if2 .taken) in
+    let e = ap (λ (k : Core). gatheredAs (whole (l .loop .reader) k (l .loop .store) (l .loop .work)) (l .loop .at) (l .loop .count) listFull) (p .core-of .ensures) in
+    (c .gathered .ensures ∙ e ∙ f .0, f .1)
 
 waiting-requires : tie.Need-waiting-requires Inv-loop μ-loop
 waiting-requires c κs = search needs
@@ -233,155 +433,237 @@ edge-place-requires c κs = search needs
 mul-e : tie.Need-mul-e Inv-loop μ-loop
 mul-e c =
     let l : Loop = search in
-    let h = place-within (l .loop .work) (l .loop .inv .valid .work) in
+    let h = place-within (l .loop .work) (far l .valid .work) in
     record { fits = omega (arith, h, c .edge-place .ensures) }
 
 element-copy-out-e : tie.Need-element-copy-out-e Inv-loop μ-loop
 element-copy-out-e c =
     let l : Loop = search in
-    let h = place-within (l .loop .work) (l .loop .inv .valid .work) in
+    let h = place-within (l .loop .work) (far l .valid .work) in
     omega (arith, h, c .edge-place .ensures)
 
+slice-aggregate-next-corner : tie.Need-slice-aggregate-next-corner Inv-loop μ-loop
+slice-aggregate-next-corner c = let w : Waits = search in sines-long (handed (waits w .before))
+
+next-corner-requires : tie.Need-next-corner-requires Inv-loop μ-loop
+next-corner-requires c κs =
+    let w : Waits = search in
+    let v = far (waits w) .valid in
+    (v .core .settings .turn, v .work, laid (handed (waits w .before)) .table .ensures)
+
 draw-work-requires : tie.Need-draw-work-requires Inv-loop μ-loop
+unfolding frameOf
 draw-work-requires c κs =
-    let l : Loop = search in
-    let v = l .loop .inv .valid in
-    (v .core .settings, edge-small (v .edges) _, v .work)
+    let w : Waits = search in
+    let l = waits w in
+    let v = far l .valid in
+    let t = v .core .settings .turn in (
+      subst (λ (f : Frame). SmallRect (f .limits)) (sym (l .loop .inv .1)) (limits-small (v .core .settings)),
+      t,
+      edge-small (v .edges) _,
+      v .work,
+      rw (l .loop .inv .2 (waits-some w)) (corner-small (l .loop .work) t (v .work)),
+      rw (c .next-corner .ensures) (next-corner-small (l .loop .work) t (v .work)),
+    )
 
 put-requires : tie.Need-put-requires Inv-loop μ-loop
-put-requires c κs =
-    let l : Loop = search in
-    let w : Waits = search in
-    far-fits (l .loop .inv) (free-drawn w)
+put-requires c κs = let w : Waits = search in far-fits (far (waits w)) (free-drawn w)
 
 work-after-requires : tie.Need-work-after-requires Inv-loop μ-loop
-work-after-requires c κs = let l : Loop = search in l .loop .inv .valid .work
+work-after-requires c κs = let w : Waits = search in far (waits w) .valid .work
 
 loop-less : tie.Need-loop-less Inv-loop μ-loop
 loop-less c =
-    let l : Loop = search in
-    let w : Waits = search in
-    omega (arith, waits-less (here l) (c .work-after .result) (waits-some w) (c .work-after .ensures))
+    let d : tie.After-draw-work Inv-loop μ-loop = search in
+    let w = drawn d in
+    omega (arith, waits-less (here (waits w)) (c .work-after .result) (waits-some w) (c .work-after .ensures))
 
 loop-again : tie.Need-loop-again Inv-loop μ-loop
 loop-again c =
-    let l : Loop = search in
-    let w : Waits = search in
     let d : tie.After-draw-work Inv-loop μ-loop = search in
     let u : tie.After-put Inv-loop μ-loop = search in
-    far-draw (l .loop .inv) (waits-some w) (free-drawn w) (drew d) (u .put .ensures .1) (u .put .ensures .0) (c .work-after .ensures)
+    let n : tie.After-next-corner Inv-loop μ-loop = search in
+    let w = drawn d in
+    let l = waits w in (
+      again l (far-draw (far l) (waits-some w) (free-drawn w) (drew d) (u .put .ensures .1) (u .put .ensures .0) (c .work-after .ensures)),
+      l .loop .inv .1,
+      λ h. n .next-corner .ensures ∙ corner-carried (l .loop .settings .turn) (l .loop .work) (rw (c .work-after .ensures) at h) ∙ ap (cornerOf (l .loop .settings .turn)) (sym (c .work-after .ensures)),
+    )
 
-shared-slice-read-step : tie.Need-shared-slice-read-step Inv-loop μ-loop
-shared-slice-read-step c = more (c .before)
+next-requires : tie.Need-next-requires Inv-loop μ-loop
+next-requires c κs = search needs
 
-step-requires : tie.Need-step-requires Inv-loop μ-loop
-step-requires c κs = search needs
+enum-told : tie.Need-enum-told Inv-loop μ-loop
+enum-told c = search needs
 
-add-at : tie.Need-add-at Inv-loop μ-loop
-add-at c =
-    let g = entry (loop c) .good .1 .0 in
-    record { fits = omega (arith, g, more (before c)) }
+enum-known-event : tie.Need-enum-known-event Inv-loop μ-loop
+enum-known-event c = search needs
 
-quiet-requires : tie.Need-quiet-requires Inv-loop μ-loop
-quiet-requires c κs = search needs
+name-number-requires : tie.Need-name-number-requires Inv-loop μ-loop
+name-number-requires c κs = search needs
 
-loop-less-2 : tie.Need-loop-less-2 Inv-loop μ-loop
-unfolding waiting
-loop-less-2 c = let q : Stepped = search in omega (arith, more (before q))
+letters-requires : tie.Need-letters-requires Inv-loop μ-loop
+letters-requires c κs = search needs
 
-loop-again-2 : tie.Need-loop-again-2 Inv-loop μ-loop
-unfolding done
-loop-again-2 c =
-    let q : Stepped = search in
-    let l = loop q in
-    let u = quiet-turn (here l) (byte l) (q .step .result) (q .step .ensures) (sym (c .before .quiet .ensures) ∙ c .if4 .taken) in
-    far-turn (l .loop .inv) u (idle (before q)) (more (before q)) (free-taken (before q)) refl
+enum-known-event-2 : tie.Need-enum-known-event-2 Inv-loop μ-loop
+enum-known-event-2 c = search needs
+
+pair-requires : tie.Need-pair-requires Inv-loop μ-loop
+pair-requires c κs =
+    let q : Read = search in
+    let l = loop q in (
+      record { settings = l .loop .settings; frame = l .loop .inv .1; core = far l .valid .core },
+      subst (ValidEvent (here l .core)) (c .before .event2 .given .1) (event-valid q),
+    )
+
+enum-known-event-3 : tie.Need-enum-known-event-3 Inv-loop μ-loop
+enum-known-event-3 c = search needs
+
+core-of-requires-2 : tie.Need-core-of-requires-2 Inv-loop μ-loop
+core-of-requires-2 c κs = search needs
 
 act-on-requires : tie.Need-act-on-requires Inv-loop μ-loop
 act-on-requires c κs =
-    let q : Stepped = search in
-    let v = loop q .loop .inv .valid in
-    rw (q .step .ensures) (v .core, step-event (byte (loop q)) v)
+    let q : Read = search in
+    let e : tie.After-event3 Inv-loop μ-loop = search in
+    rw (c .core-of2 .ensures) (far (loop q) .valid .core, subst (ValidEvent (here (loop q) .core)) (e .event3 .given .1) (event-valid q))
 
-stores-requires : tie.Need-stores-requires Inv-loop μ-loop
-stores-requires c κs = search needs
+frame-of-requires-2 : tie.Need-frame-of-requires-2 Inv-loop μ-loop
+frame-of-requires-2 c κs =
+    let t : tie.After-act-on Inv-loop μ-loop = search in
+    let k = t .before in
+    let q : Read = search in
+    let n : tie.After-event3 Inv-loop μ-loop = search in
+    let e = t .act-on .ensures ∙ (λ i. actOn (k .core-of2 .ensures i) (sym (n .event3 .given .1) i)) in
+    subst (λ (t : Acted). ValidSettings (t .core .settings)) (sym e) (valid-event (q .next .result .event) (far (loop q) .valid .core) (event-valid q) .core .settings)
 
-edge-count-requires : tie.Need-edge-count-requires Inv-loop μ-loop
-edge-count-requires c κs = search needs
+hand-of-requires-2 : tie.Need-hand-of-requires-2 Inv-loop μ-loop
+hand-of-requires-2 c κs = search needs
+
+enum-known-event-4 : tie.Need-enum-known-event-4 Inv-loop μ-loop
+enum-known-event-4 c = search needs
+
+enum-told-2 : tie.Need-enum-told-2 Inv-loop μ-loop
+enum-told-2 c = search needs
+
+enum-told-3 : tie.Need-enum-told-3 Inv-loop μ-loop
+enum-told-3 c = search needs
+
+enum-told-4 : tie.Need-enum-told-4 Inv-loop μ-loop
+enum-told-4 c = search needs
+
+enum-known-action : tie.Need-enum-known-action Inv-loop μ-loop
+enum-known-action c = search needs
+
+cast-k : tie.Need-cast-k Inv-loop μ-loop
+cast-k c = let j : Done = search in omega (arith, far (loop (read j)) .valid .core .polygon .edges)
+
+mul-e-2 : tie.Need-mul-e-2 Inv-loop μ-loop
+mul-e-2 c = record { fits = omega (arith, joined (c .before)) }
+
+element-set-from-e : tie.Need-element-set-from-e Inv-loop μ-loop
+element-set-from-e c = omega (arith, joined (c .before))
+
+enum-told-5 : tie.Need-enum-told-5 Inv-loop μ-loop
+enum-told-5 c = search needs
+
+enum-told-6 : tie.Need-enum-told-6 Inv-loop μ-loop
+enum-told-6 c = search needs
 
 stored-requires : tie.Need-stored-requires Inv-loop μ-loop
-stored-requires c κs =
-    let a : Done = search in
-    rw (c .edge-count .ensures) (act-valid a .action)
-
-edge-count-requires-2 : tie.Need-edge-count-requires-2 Inv-loop μ-loop
-edge-count-requires-2 c κs = search needs
+stored-requires c κs = let j : Done = search in act-valid j .action
 
 queued-requires : tie.Need-queued-requires Inv-loop μ-loop
-queued-requires c κs =
-    let a : Done = search in
-    action-alone (loop (stepped a) .loop .core .carriage .polygon .edges) (a .act-on .result .action) (act-valid a .action)
+queued-requires c κs = rw (keeps c .action) (action-alone (loop (read (did c)) .loop .polygon .edges) (did c .match .action) (act-valid (did c) .action))
+
+slice-aggregate-corner-2 : tie.Need-slice-aggregate-corner-2 Inv-loop μ-loop
+slice-aggregate-corner-2 c = sines-long (handed (loop (read (did (kept (c .before)))) .before))
+
+corner-requires-2 : tie.Need-corner-requires-2 Inv-loop μ-loop
+corner-requires-2 c κs =
+    let v = next-valid (c .before) in
+    (v .core .settings .turn, v .work, laid (handed (loop (read (did (kept (c .before)))) .before)) .table .ensures)
 
 passed-over-requires : tie.Need-passed-over-requires Inv-loop μ-loop
 passed-over-requires c κs = search needs
 
 refusal-record-requires : tie.Need-refusal-record-requires Inv-loop μ-loop
 refusal-record-requires c κs =
-    let q : Stepped = search in
+    let t : tie.Then7 Inv-loop μ-loop = search in
+    let q = read (did (kept (then (turning (t .before))))) in
     let g = entry (loop q) .good .1 .0 .1 in
-    omega (arith, g, more (before q))
+    omega (arith, g, reached q .within, reached q .ends)
 
 put-record-requires : tie.Need-put-record-requires Inv-loop μ-loop
 put-record-requires c κs =
-    let p : Passed = search in
     let t : tie.Then7 Inv-loop μ-loop = search in
-    let q = stepped (acted (did p)) in
-    far-fits (loop q .loop .inv) (free-taken (before q) (t .if7 .taken))
+    let q = read (did (kept (then (turning (t .before))))) in
+    far-fits (far (loop q)) (free-taken (before q) (t .if7 .taken))
 
-loop-less-3 : tie.Need-loop-less-3 Inv-loop μ-loop
-loop-less-3 c =
-    let r : Turned = search in
-    omega (arith, more (before (stepped (acted r))), waits-most (r .queued .result) (stored-on (c .before) .valid .work))
+loop-less-2 : tie.Need-loop-less-2 Inv-loop μ-loop
+loop-less-2 c =
+    let r = then (turning (putting (c .before))) in
+    let q = read (did (kept r)) in
+    omega (arith, reached q .within, reached q .further, reached q .ends, waits-most (r .queued .result) (next-valid r .work))
 
-loop-again-3 : tie.Need-loop-again-3 Inv-loop μ-loop
-loop-again-3 c = stored-on (c .before)
+loop-again-2 : tie.Need-loop-again-2 Inv-loop μ-loop
+loop-again-2 c =
+    let t = turning (putting (c .before)) in
+    let j = did (kept (then t)) in
+    (again (loop (read j)) (stored-on (c .before)), done j .framed, λ h. t .corner2 .ensures)
+
+core-of-requires-3 : tie.Need-core-of-requires-3 Inv-loop μ-loop
+core-of-requires-3 c κs = search needs
 
 gathered-requires-2 : tie.Need-gathered-requires-2 Inv-loop μ-loop
 gathered-requires-2 c κs = search needs
 
 same-length-2 : tie.Need-same-length-2 Inv-loop μ-loop
-same-length-2 c = let r : Turned = search in loop (stepped (acted r)) .loop .inv .long
+same-length-2 c = let e : tie.Else7 Inv-loop μ-loop = search in far (loop (read (did (kept (then (turning (e .before))))))) .long
 
 returns-2 : tie.Need-returns-2 Inv-loop μ-loop
 returns-2 c =
-    let r : Turned = search in
-    let q = stepped (acted r) in
-    let p : Passed = search in
     let e : tie.Else7 Inv-loop μ-loop = search in
-    let f = far-refused (loop q .loop .inv) (turn r (passed p)) (idle (before q)) (more (before q)) (refused p) (e .if7 .left) in
-    (c .gathered2 .ensures ∙ f .0, f .1)
+    let k : tie.After-core-of3 Inv-loop μ-loop = search in
+    let p = e .before in
+    let r = then (turning p) in
+    let q = read (did (kept r)) in
+    let f = far-refused (reached q .far) (turn r (passed p)) (reached q .idle) (reached q .within) (refused p) (e .if7 .left) in (
+      c .gathered2 .ensures
+          ∙ (λ i. gatheredAs (whole (p .passed-over .result) (k .core-of3 .ensures i) (kept r .match2 .store) (r .queued .result)) (reached q .ends i) (loop q .loop .count) (did (kept r) .match .number))
+          ∙ f .0,
+      f .1,
+    )
 
-loop-less-4 : tie.Need-loop-less-4 Inv-loop μ-loop
-loop-less-4 c =
-    let r : Turned = search in
-    omega (arith, more (before (stepped (acted r))), waits-most (r .queued .result) (turned c .valid .work))
+loop-less-3 : tie.Need-loop-less-3 Inv-loop μ-loop
+loop-less-3 c =
+    let r = then (c .before) in
+    let q = read (did (kept r)) in
+    omega (arith, reached q .within, reached q .further, reached q .ends, waits-most (r .queued .result) (next-valid r .work))
 
-loop-again-4 : tie.Need-loop-again-4 Inv-loop μ-loop
-loop-again-4 c = turned c
+loop-again-3 : tie.Need-loop-again-3 Inv-loop μ-loop
+loop-again-3 c =
+    let j = did (kept (then (c .before))) in
+    (again (loop (read j)) (turned c), done j .framed, λ h. c .before .corner2 .ensures)
+
+core-of-requires-4 : tie.Need-core-of-requires-4 Inv-loop μ-loop
+core-of-requires-4 c κs = search needs
 
 gathered-requires-3 : tie.Need-gathered-requires-3 Inv-loop μ-loop
 gathered-requires-3 c κs = search needs
 
 same-length-3 : tie.Need-same-length-3 Inv-loop μ-loop
-same-length-3 c = let l : Loop = search in l .loop .inv .long
+same-length-3 c = let l : Loop = search in far l .long
 
 returns-3 : tie.Need-returns-3 Inv-loop μ-loop
 returns-3 c =
     let l : Loop = search in
     let e : tie.Else1 Inv-loop μ-loop = search in
+    let p : tie.After-core-of4 Inv-loop μ-loop = search in
     let n = none-remains (l .loop .work) _ _ (sym (e .before .remains .ensures) ∙ e .if1 .left) in
-    let f = far-end (l .loop .inv) (n .0) (n .1) in
-    (c .gathered3 .ensures ∙ f .0, f .1)
+    let f = far-end (far l) (n .0) (n .1) in
+    let k = ap (λ (k : Core). gatheredAs (whole (l .loop .reader) k (l .loop .store) (l .loop .work)) (l .loop .at) (l .loop .count) 0) (p .core-of4 .ensures) in
+    (c .gathered3 .ensures ∙ k ∙ f .0, f .1)
 
 pub gather-spec : {M : Type 1} → statement M
 gather-spec =
@@ -389,9 +671,15 @@ gather-spec =
     (tie.spec
     Inv-loop
     μ-loop
+    table-requires
+    frame-of-requires
+    hand-of-requires
+    slice-aggregate-corner
+    corner-requires
     loop-holds
     remains-requires
     stuck-requires
+    core-of-requires
     gathered-requires
     same-length
     returns
@@ -399,33 +687,51 @@ gather-spec =
     edge-place-requires
     mul-e
     element-copy-out-e
+    slice-aggregate-next-corner
+    next-corner-requires
     draw-work-requires
     put-requires
     work-after-requires
     loop-less
     loop-again
-    shared-slice-read-step
-    step-requires
-    add-at
-    quiet-requires
-    loop-less-2
-    loop-again-2
+    next-requires
+    enum-told
+    enum-known-event
+    name-number-requires
+    letters-requires
+    enum-known-event-2
+    pair-requires
+    enum-known-event-3
+    core-of-requires-2
     act-on-requires
-    stores-requires
-    edge-count-requires
+    frame-of-requires-2
+    hand-of-requires-2
+    enum-known-event-4
+    enum-told-2
+    enum-told-3
+    enum-told-4
+    enum-known-action
+    cast-k
+    mul-e-2
+    element-set-from-e
+    enum-told-5
+    enum-told-6
     stored-requires
-    edge-count-requires-2
     queued-requires
+    slice-aggregate-corner-2
+    corner-requires-2
     passed-over-requires
     refusal-record-requires
     put-record-requires
-    loop-less-3
-    loop-again-3
+    loop-less-2
+    loop-again-2
+    core-of-requires-3
     gathered-requires-2
     same-length-2
     returns-2
-    loop-less-4
-    loop-again-4
+    loop-less-3
+    loop-again-3
+    core-of-requires-4
     gathered-requires-3
     same-length-3
     returns-3)
