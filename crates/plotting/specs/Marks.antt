@@ -1,13 +1,13 @@
 -- The marks of a plot: a stroke's pen is not 0, which tells it from a refusal, and a refusal's place is within the bytes.
 -- Why: rule by rule, a segment is queued only where the pen is not 0; and a place is the count of bytes taken.
-use mathlib.Core.Path.{_≡_, refl}
+use mathlib.Core.Path.{_≡_}
 use mathlib.Core.Bool.{Bool, true, false, cond, not, _&&_}
 use mathlib.Core.List.{List, [], _∷_}
 use Prim.Native.Nat.{ℕ, zero, suc, _+_, _≤_, _<_}
 use native.Mathlib.Omega.{arith}
 use borrow.Author.Tests.{eq-eqb}
 use lib.Dec.{leb, eqb}
-use lib.IntN.{ℤ, pos}
+use lib.IntN.{pos}
 use lib.ListN.{length, getD}
 use Rattle.exact.specs.Whole.{_≡?_, _≤?_}
 use Rattle.clip.specs.Clip.{clip}
