@@ -1,7 +1,6 @@
 // The parts of a core that a loop over bytes keeps apart: its settings, the polygon, and a hand, which is the rest of the carriage.
 ghost use mathlib.Core.Path.{_≡_};
-ghost use Rattle.instructions.specs.Hand.{handOf, coreOf, actedOf};
-use hpgl::Acted;
+ghost use Rattle.instructions.specs.Hand.{handOf, coreOf};
 use hpgl::Action;
 use hpgl::Carriage;
 use hpgl::Core;
@@ -51,19 +50,5 @@ pub fn core_of(s: Settings, h: Hand, g: Polygon) -> Core
             relative: h.relative,
             polygon: g,
         },
-    }
-}
-
-// What a pair does, with the settings, which stay.
-pub fn acted_of(s: Settings, t: Paired) -> Acted
-    ensures { λ r. ⌜ r ≡ actedOf s t ⌝ }
-{
-    let hand = t.hand;
-    let polygon = t.polygon;
-    let action = t.action;
-    Acted {
-        core: core_of(s, hand, polygon),
-        action: action,
-        number: t.number,
     }
 }

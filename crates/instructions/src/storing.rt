@@ -1,4 +1,4 @@
-// What an action leaves in the store and in the waiting work, and what a byte does to the state.
+// What an action leaves in the store and in the waiting work, and a fresh state.
 ghost use mathlib.Core.Path.{_≡_};
 ghost use Prim.Native.Nat.{_<_};
 ghost use lib.ListN.{set};
@@ -9,9 +9,7 @@ use super::settings::fresh_core;
 use super::settings::hard_limits;
 use clip::Point;
 use clip::Rect;
-use hpgl::Acted;
 use hpgl::Action;
-use hpgl::Core;
 use hpgl::Edge;
 use hpgl::MOST_EDGES;
 use hpgl::State;
@@ -102,25 +100,6 @@ pub fn waiting(w: Work) -> u16
     }
 }
 
-// After a refusal the rest of the instruction is passed over.
-pub fn reader_after(r: Reader, number: u8) -> Reader
-    ensures { λ q. ⌜ q ≡ M.readerAfter r number ⌝ }
-{
-    if number == 0 {
-        return r;
-    }
-    r.passed_over()
-}
-
-// How many edges the polygon of a core counts.
-pub fn edge_count(c: Core) -> u8
-    ensures { λ r. ⌜ r ≡ c .carriage .polygon .edges ⌝ }
-{
-    let carriage = c.carriage;
-    let polygon = carriage.polygon;
-    polygon.edges
-}
-
 // A fresh machine's state.
 pub fn fresh_state(r: Rect) -> State
     ensures { λ s. ⌜ s ≡ M.freshState r ⌝ }
@@ -138,25 +117,5 @@ pub fn fresh_state(r: Rect) -> State
             edges: [none; MOST_EDGES],
         },
         work: Work::Nothing,
-    }
-}
-
-// The state after what a byte did: r is the reader past it.
-pub fn applied(m: State, r: Reader, t: Acted) -> State
-    requires { ⌜ ValidAction (m .core .carriage .polygon .edges) (t .action) ⌝ }
-    ensures { λ s. ⌜ s ≡ M.applied m r t ⌝ }
-{
-    let before = m.core;
-    let store = m.store;
-    let core = t.core;
-    let action = t.action;
-    let reader = reader_after(r, t.number);
-    let edges = stored(store, edge_count(before), action);
-    let work = queued(edge_count(core), action);
-    State {
-        reader: reader,
-        core: core,
-        store: edges,
-        work: work,
     }
 }

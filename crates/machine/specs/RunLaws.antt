@@ -106,3 +106,13 @@ run-feeds m (b ∷ bs) at = by (waiting (m .work)) refl (run-feeds (takeState m 
     by (suc k) e h =
         let w : 0 < waiting (m .work) = omega (arith, e) in
         waits-run m (b ∷ bs) at w ∙ rw (at-full m (b ∷ bs) at w) refl
+
+-- ---- a byte is a run of one
+
+pub run-one : (m : State) (b : ℕ) → waiting (m .work) ≡ 0 → runOf m (b ∷ []) 0 ≡ ranOf (takeState m b) 1 (takeNumber m b)
+unfolding runOf
+run-one m b h = rw (eq-eqb (waiting (m .work)) 0 h) (go (eqb (takeNumber m b) 0) refl)
+  where
+    go : (t : Bool) → eqb (takeNumber m b) 0 ≡ t → cond t (ranOf (takeState m b) 1 0) (ranOf (takeState m b) 1 (takeNumber m b)) ≡ ranOf (takeState m b) 1 (takeNumber m b)
+    go true e = ap (ranOf (takeState m b) 1) (sym (eqb-true (takeNumber m b) 0 e))
+    go false e = refl

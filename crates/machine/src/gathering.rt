@@ -20,7 +20,7 @@ use instructions::drawing::draw_work;
 use instructions::drawing::edge_place;
 use instructions::drawing::next_corner;
 use instructions::drawing::work_after;
-use instructions::events::act_on;
+use instructions::events::end_rule;
 use instructions::hand::core_of;
 use instructions::hand::hand_of;
 use instructions::moves::letters;
@@ -200,10 +200,10 @@ pub fn gather(m: State, bytes: &[u8], from: usize, numbers: &mut [i64], on: bool
                 action = t.action;
                 number = t.number;
             }
-            Event::Ended(op, _) => {
+            Event::Ended(op, n) => {
                 // PU, PD, PA and PR have done their work
                 if op < PU {
-                    let t = act_on(core_of(settings, hand, polygon), event);
+                    let t = end_rule(core_of(settings, hand, polygon), op, n);
                     let c = t.core;
                     let k = c.carriage;
                     settings = c.settings;

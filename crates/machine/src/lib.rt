@@ -22,13 +22,11 @@ pub use hpgl::Stroke;
 use instructions::drawing::draw_first;
 use instructions::drawing::edge_place;
 use instructions::drawing::work_after;
-use instructions::events::act_on;
 use instructions::numbers::BAD_LIMITS;
 use instructions::numbers::BUSY;
 use instructions::numbers::LIST_FULL;
 use instructions::places::located;
 use instructions::settings::good_limits;
-use instructions::storing::applied;
 use instructions::storing::fresh_state;
 use instructions::storing::waiting;
 use saving::load;
@@ -95,7 +93,7 @@ impl Machine {
         }
     }
 
-    // One byte.
+    // One byte: a run of one.
     pub fn take(self, byte: u8) -> Taken
         requires { ⌜ Made (self .state) ⌝ }
         ensures { λ r. ⌜ r ≡ takenOf (self .state) byte ⌝ }
@@ -103,16 +101,12 @@ impl Machine {
         let m = self.state;
         let work = m.work;
         if waiting(work) == 0 {
-            let reader = m.reader;
-            let core = m.core;
-            let q = reader.step(byte);
-            let next = q.reader;
-            let event = q.event;
-            let t = act_on(core, event);
-            let state = applied(m, next, t);
+            let one = [byte; 1];
+            let ran = self.run(&one, 0);
+            let machine = ran.machine;
             return Taken {
-                machine: Machine { state: state },
-                number: t.number,
+                machine: machine,
+                number: ran.number,
             };
         }
         Taken {

@@ -155,7 +155,12 @@ pub extern "C" fn vutaroi_feed(
 }
 
 #[no_mangle]
-pub extern "C" fn vutaroi_plot(state: &mut [i64], bytes: &[u8], records: &mut [i64], answer: &mut [u64]) -> u8
+pub extern "C" fn vutaroi_plot(
+    state: &mut [i64],
+    bytes: &[u8],
+    records: &mut [i64],
+    answer: &mut [u64],
+) -> u8
     requires { ⌜ Held (now state) × (2 ≤ length (now answer)) ⌝ }
     ensures { λ r. ⌜ r ≡ plotFrom (loadedOf (now (state .entry))) (now (bytes .entry)) 0 (length (now (records .entry)) / 5) .number ⌝ }
     ensures { λ _. ⌜ now (state .exit) ≡ savedOf (plotFrom (loadedOf (now (state .entry))) (now (bytes .entry)) 0 (length (now (records .entry)) / 5) .state) ⌝ }

@@ -236,6 +236,7 @@ by j es ef eh eg ea en framed told acts = record {
 }
 
 done : (j : Done) → Did j
+unfolding actOn
 done j =
     let l = loop (read j) .loop in
     let s = l .settings in
@@ -522,19 +523,20 @@ enum-known-event-3 c = search needs
 core-of-requires-2 : tie.Need-core-of-requires-2 Inv-loop μ-loop
 core-of-requires-2 c κs = search needs
 
-act-on-requires : tie.Need-act-on-requires Inv-loop μ-loop
-act-on-requires c κs =
+end-rule-requires : tie.Need-end-rule-requires Inv-loop μ-loop
+end-rule-requires c κs =
     let q : Read = search in
     let e : tie.After-event3 Inv-loop μ-loop = search in
-    rw (c .core-of2 .ensures) (far (loop q) .valid .core, subst (ValidEvent (here (loop q) .core)) (e .event3 .given .1) (event-valid q))
+    rw (c .core-of2 .ensures) (far (loop q) .valid .core, subst (ValidEvent (here (loop q) .core)) (e .event3 .given .1) (event-valid q) .0 .numbers)
 
 frame-of-requires-2 : tie.Need-frame-of-requires-2 Inv-loop μ-loop
+unfolding actOn
 frame-of-requires-2 c κs =
-    let t : tie.After-act-on Inv-loop μ-loop = search in
+    let t : tie.After-end-rule Inv-loop μ-loop = search in
     let k = t .before in
     let q : Read = search in
     let n : tie.After-event3 Inv-loop μ-loop = search in
-    let e = t .act-on .ensures ∙ (λ i. actOn (k .core-of2 .ensures i) (sym (n .event3 .given .1) i)) in
+    let e = t .end-rule .ensures ∙ (λ i. actOn (k .core-of2 .ensures i) (sym (n .event3 .given .1) i)) in
     subst (λ (t : Acted). ValidSettings (t .core .settings)) (sym e) (valid-event (q .next .result .event) (far (loop q) .valid .core) (event-valid q) .core .settings)
 
 hand-of-requires-2 : tie.Need-hand-of-requires-2 Inv-loop μ-loop
@@ -703,7 +705,7 @@ gather-spec =
     pair-requires
     enum-known-event-3
     core-of-requires-2
-    act-on-requires
+    end-rule-requires
     frame-of-requires-2
     hand-of-requires-2
     enum-known-event-4
