@@ -15,14 +15,13 @@ use Rattle.reader.specs.Step.{stepOf, passedOver}
 use Rattle.reader.specs.Table.{PU}
 use Rattle.hpgl.specs.declared.Settings.{Settings}
 use Rattle.hpgl.specs.declared.Polygon.{Polygon}
-use Rattle.hpgl.specs.declared.Carriage.{Carriage}
 use Rattle.hpgl.specs.declared.Core.{Core}
 use Rattle.hpgl.specs.declared.Action.{Action}
 use Rattle.hpgl.specs.declared.Action.the-variants.{Keep}
 use Rattle.hpgl.specs.declared.Acted.{Acted}
 use Rattle.hpgl.specs.declared.Work.the-variants.{Nothing}
 use Rattle.hpgl.specs.declared.State.{State}
-use Rattle.hpgl.specs.Rules.{done, refuse, letters, pairRule, actOn}
+use Rattle.hpgl.specs.Rules.{done, refuse, letters, pairRule, endRule, actOn}
 use Rattle.hpgl.specs.Machine.{waiting, stored, queued, readerAfter, applied, acted, takeState, takeNumber}
 use Rattle.hpgl.specs.Valid.{Valid}
 use Rattle.hpgl.specs.ValidKept.{valid-take}
@@ -104,6 +103,10 @@ module _ (s : Settings) (h : Hand) (g : Polygon) where
   pub ended-acts : (op : ℕ) (n : Numbers) → PU ≤ op → acting s h g Keep 0 ≡ actOn (coreOf s h g) (event.Ended op n)
   unfolding actOn done
   ended-acts op n l = sym (pairs-end (coreOf s h g) op n l)
+
+  pub settled-acts : {c : Core} {t : Acted} (op : ℕ) (n : Numbers) → c ≡ coreOf s h g → t ≡ endRule c op n → t ≡ actOn (coreOf s h g) (event.Ended op n)
+  unfolding actOn
+  settled-acts op n e d = d ∙ ap (λ (c : Core). endRule c op n) e
 
   pub pair-acts : {t : Acted} (n : Coordinates) → t ≡ pairRule (coreOf s h g) n → t ≡ actOn (coreOf s h g) (event.Pair n)
   unfolding actOn

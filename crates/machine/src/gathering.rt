@@ -1,5 +1,4 @@
-// Feed and plot into a list of plain numbers: the machine is taken apart once, the reader goes by itself, and core, store and work are touched by events alone.
-// (A byte that means nothing yet leaves no work: an outline of no edges may have been there.)
+// Feed and plot into a list of plain numbers: the machine is taken apart once, and a part is touched by the events that change it alone.
 ghost use mathlib.Core.Path.{_≡_};
 ghost use Prim.Native.Nat.{_/_, _*_, _+_, _^_, _<_, _≤_};
 ghost use lib.ListN.{length, drop};
@@ -143,10 +142,10 @@ pub fn gather(m: State, bytes: &[u8], from: usize, numbers: &mut [i64], on: bool
     ensures { λ r. ⌜ S.Gathers (S.gatherFrom on m (drop from (now (bytes .entry))) from (length (now (numbers .entry)) / 5)) (now (numbers .entry)) (now (numbers .exit)) r ⌝ }
 {
     let sines = table();
-    let core = m.core;
-    let carriage = core.carriage;
+    let first = m.core;
+    let carriage = first.carriage;
     let mut reader = m.reader;
-    let mut settings = core.settings;
+    let mut settings = first.settings;
     let mut frame = frame_of(settings);
     let mut hand = hand_of(carriage);
     let mut polygon = carriage.polygon;
@@ -157,15 +156,8 @@ pub fn gather(m: State, bytes: &[u8], from: usize, numbers: &mut [i64], on: bool
     let mut count = 0;
     while remains(work, at, bytes.len()) {
         if stuck(on, work, count, numbers.len() / NUMBERS) {
-            return gathered(
-                reader,
-                core_of(settings, hand, polygon),
-                store,
-                work,
-                at,
-                count,
-                LIST_FULL,
-            );
+            let core = core_of(settings, hand, polygon);
+            return gathered(reader, core, store, work, at, count, LIST_FULL);
         }
         if 0 < waiting(work) {
             let e = store.edges[edge_place(work)];
@@ -240,24 +232,10 @@ pub fn gather(m: State, bytes: &[u8], from: usize, numbers: &mut [i64], on: bool
                 count = put_record(numbers, count, refusal_record(number, at));
                 continue;
             }
-            return gathered(
-                reader,
-                core_of(settings, hand, polygon),
-                store,
-                work,
-                at,
-                count,
-                number,
-            );
+            let core = core_of(settings, hand, polygon);
+            return gathered(reader, core, store, work, at, count, number);
         }
     }
-    gathered(
-        reader,
-        core_of(settings, hand, polygon),
-        store,
-        work,
-        at,
-        count,
-        0,
-    )
+    let core = core_of(settings, hand, polygon);
+    gathered(reader, core, store, work, at, count, 0)
 }

@@ -6,10 +6,10 @@ use mathlib.Core.Path.{_≡_, refl, sym, ap, subst, _∙_}
 use mathlib.Core.Bool.{true}
 use mathlib.Core.List.{List}
 use mathlib.Core.Logic.{⊎-elim}
-use Prim.Native.Nat.{ℕ, _+_, _*_, _-_, _/_, _≤_, _<_}
+use Prim.Native.Nat.{ℕ, _+_, _*_, _-_, _/_, _<_}
 use native.Mathlib.Omega.{arith}
 use lib.IntN.{ℤ}
-use lib.ListN.{length, getD, set, drop}
+use lib.ListN.{length, getD, drop}
 use Rattle.clip.specs.Reach.{SmallRect}
 use Rattle.sines.specs.Rules.{entries}
 use Rattle.reader.specs.declared.Reader.{Reader}
@@ -29,7 +29,6 @@ use Rattle.hpgl.specs.Numbers.{listFull, mostEdges}
 use Rattle.hpgl.specs.Plot.{Plot, refusal}
 use Rattle.hpgl.specs.Rules.{actOn}
 use Rattle.hpgl.specs.Machine.{noEdge, waiting, stored, queued, readerAfter, drawAnswer}
-use Rattle.hpgl.specs.Place.{limits}
 use Rattle.hpgl.specs.Valid.{Valid, ValidSettings, ValidActed, ValidEvent, ValidAction}
 use Rattle.hpgl.specs.ValidFacts.{edge-small, limits-small}
 use Rattle.hpgl.specs.ReaderKept.{step-event}
@@ -41,7 +40,7 @@ use Rattle.instructions.specs.First.{edgePlace, place-within, first-drawn}
 use Rattle.instructions.specs.Corners.{cornerOf, drawnIn, drawn-in, corner-carried, corner-small, next-corner-small}
 use Rattle.instructions.specs.Hand.{frameOf, coreOf}
 use Rattle.machine.specs.Gather.{whole, gatheredAs, gatherFrom, withStroke, recordOf}
-use Rattle.machine.proofs.Turns.{Turn, reader-on, reader-off, turn-valid, acting, none-acts, refused-acts, ended-acts, pair-acts, named-acts, unknown-acts}
+use Rattle.machine.proofs.Turns.{Turn, reader-on, reader-off, turn-valid, acting, none-acts, refused-acts, ended-acts, settled-acts, pair-acts, named-acts, unknown-acts}
 use Rattle.machine.proofs.Gathers.{Far, Reached, waits-most, waits-less, byte-remains, none-remains, far-start, far-free, far-fits, far-full, far-end, far-draw, far-turn, far-refusal, far-refused, far-next}
 use Rattle.machine.proofs.gathering.gather.Statement.{statement}
 use Rattle.machine.proofs.gathering.gather.Tie as tie
@@ -236,7 +235,6 @@ by j es ef eh eg ea en framed told acts = record {
 }
 
 done : (j : Done) → Did j
-unfolding actOn
 done j =
     let l = loop (read j) .loop in
     let s = l .settings in
@@ -253,10 +251,9 @@ done j =
     (λ w. by j (w .6) (w .7) (w .8) (w .9) (w .10) (w .11) framed (w .1 .given .1) (pair-acts s h g _ (w .3 .ensures s framed)))
     (⊎-elim
     (λ w. let t = w .5 .result in
-    by j (w .12) (w .13) (w .14) (w .15) (w .16) (w .17) (w .9 .ensures) refl
+    by j (w .12) (w .13) (w .14) (w .15) (w .16) (w .17) (w .9 .ensures) (w .1 .given .1)
     (ap (λ (to : Hand). acting (t .core .settings) to (t .core .carriage .polygon) (t .action) (t .number)) (w .10 .ensures)
-    ∙ w .5 .ensures
-    ∙ (λ i. actOn (w .4 .ensures i) (sym (w .1 .given .1) i))))
+    ∙ settled-acts s h g _ _ (w .4 .ensures) (w .5 .ensures)))
     (⊎-elim
     (λ w. by j (w .4) (w .5) (w .6) (w .7) (w .8) (w .9) framed (w .1 .given .1) (ended-acts s h g _ _ (w .3 .left)))
     (λ w. by j (w .3) (w .4) (w .5) (w .6) (w .7) (w .8) framed (w .1 .given .1) (refused-acts s h g _)))))))
@@ -530,13 +527,13 @@ end-rule-requires c κs =
     rw (c .core-of2 .ensures) (far (loop q) .valid .core, subst (ValidEvent (here (loop q) .core)) (e .event3 .given .1) (event-valid q) .0 .numbers)
 
 frame-of-requires-2 : tie.Need-frame-of-requires-2 Inv-loop μ-loop
-unfolding actOn
 frame-of-requires-2 c κs =
     let t : tie.After-end-rule Inv-loop μ-loop = search in
     let k = t .before in
     let q : Read = search in
     let n : tie.After-event3 Inv-loop μ-loop = search in
-    let e = t .end-rule .ensures ∙ (λ i. actOn (k .core-of2 .ensures i) (sym (n .event3 .given .1) i)) in
+    let l = loop q .loop in
+    let e = settled-acts (l .settings) (l .hand) (l .polygon) _ _ (k .core-of2 .ensures) (t .end-rule .ensures) ∙ ap (actOn (here (loop q) .core)) (sym (n .event3 .given .1)) in
     subst (λ (t : Acted). ValidSettings (t .core .settings)) (sym e) (valid-event (q .next .result .event) (far (loop q) .valid .core) (event-valid q) .core .settings)
 
 hand-of-requires-2 : tie.Need-hand-of-requires-2 Inv-loop μ-loop
