@@ -153,6 +153,8 @@ pub fn clip(r: Rect, a: Point, b: Point) -> Clipped
         if inside(r, b) {
             return Clipped::Stroke(a, b);
         }
+        // called at two places, so that it stays a call, and what divides is not built into the loops that draw
+        return part(r, a, b);
     }
     part(r, a, b)
 }

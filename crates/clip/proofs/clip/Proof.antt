@@ -22,5 +22,11 @@ part-requires c κs = search needs
 returns-2 : tie.Need-returns-2
 returns-2 c = search needs
 
+part-requires-2 : tie.Need-part-requires-2
+part-requires-2 c κs = search needs
+
+returns-3 : tie.Need-returns-3
+returns-3 c = search needs
+
 pub clip-spec : {M : Type 1} → statement M
-clip-spec = tie.close (tie.spec inside-requires inside-requires-2 returns part-requires returns-2)
+clip-spec = tie.close (tie.spec inside-requires inside-requires-2 returns part-requires returns-2 part-requires-2 returns-3)
