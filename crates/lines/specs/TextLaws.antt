@@ -1,6 +1,6 @@
 -- Laws of the texts: a number's digits, how long a text is, and one text after another.
 use mathlib.Core.Bool.{Bool, true, false, cond}
-use mathlib.Core.List.{List, [], _∷_, _++_}
+use mathlib.Core.List.{List, [], _∷_, _++_, append-assoc}
 use mathlib.Core.Path.{_≡_, refl, sym, ap, _∙_, subst}
 use Prim.Native.Char.{code}
 use Prim.Native.Nat.{ℕ, zero, suc, _+_, _*_, _/_, _%_, _^_, _≤_, _<_}
@@ -45,10 +45,52 @@ decimal-more n h = first n h ∙ ap (λ (s : List ℕ). s ++ (digit (n % 10) ∷
     second zero h = absurd (omega arith)
     second (suc n) h = enough n (suc n / 10) (suc n / 10) (omega arith) (omega arith)
 
+-- ---- digits by twos and fours
+
+abbrev pub two : ℕ → List ℕ
+two n = digit (n / 10) ∷ digit (n % 10) ∷ []
+
+abbrev pub four : ℕ → List ℕ
+four n = two (n / 100) ++ two (n % 100)
+
+pub decimal-two : (n : ℕ) → 10 ≤ n → n < 100 → decimal n ≡ two n
+decimal-two n h k = decimal-more n h ∙ ap (λ (s : List ℕ). s ++ (digit (n % 10) ∷ [])) (decimal-one (n / 10) (omega arith))
+
+-- the digits before the last two, and these
+pub decimal-twos : (n : ℕ) → 100 ≤ n → decimal n ≡ decimal (n / 100) ++ two (n % 100)
+decimal-twos n h =
+    let t : n / 10 / 10 ≡ n / 100 = omega arith in
+    let d : n / 10 % 10 ≡ n % 100 / 10 = omega arith in
+    let e : n % 10 ≡ n % 100 % 10 = omega arith in
+    decimal-more n (omega arith)
+    ∙ ap (λ (s : List ℕ). s ++ (digit (n % 10) ∷ [])) (decimal-more (n / 10) (omega arith))
+    ∙ append-assoc (decimal (n / 10 / 10)) (digit (n / 10 % 10) ∷ []) (digit (n % 10) ∷ [])
+    ∙ (λ i. decimal (t i) ++ (digit (d i) ∷ digit (e i) ∷ []))
+
+pub decimal-three : (n : ℕ) → 100 ≤ n → n < 1000 → decimal n ≡ digit (n / 100) ∷ two (n % 100)
+decimal-three n h k = decimal-twos n h ∙ ap (λ (s : List ℕ). s ++ two (n % 100)) (decimal-one (n / 100) (omega arith))
+
+pub decimal-four : (n : ℕ) → 1000 ≤ n → n < 10000 → decimal n ≡ four n
+decimal-four n h k = decimal-twos n (omega arith) ∙ ap (λ (s : List ℕ). s ++ two (n % 100)) (decimal-two (n / 100) (omega arith) (omega arith))
+
+-- the digits before the last four, and these
+pub decimal-fours : (n : ℕ) → 10000 ≤ n → decimal n ≡ decimal (n / 10000) ++ four (n % 10000)
+decimal-fours n h =
+    let t : n / 100 / 100 ≡ n / 10000 = omega arith in
+    let d : n / 100 % 100 ≡ n % 10000 / 100 = omega arith in
+    let e : n % 100 ≡ n % 10000 % 100 = omega arith in
+    decimal-twos n (omega arith)
+    ∙ ap (λ (s : List ℕ). s ++ two (n % 100)) (decimal-twos (n / 100) (omega arith))
+    ∙ append-assoc (decimal (n / 100 / 100)) (two (n / 100 % 100)) (two (n % 100))
+    ∙ (λ i. decimal (t i) ++ (two (d i) ++ two (e i)))
+
 -- ---- lengths
 
 pub more-length : (n : ℕ) → 10 ≤ n → length (decimal n) ≡ length (decimal (n / 10)) + 1
 more-length n h = ap length (decimal-more n h) ∙ length-append (decimal (n / 10)) (digit (n % 10) ∷ [])
+
+pub fours-length : (n : ℕ) → 10000 ≤ n → length (decimal n) ≡ length (decimal (n / 10000)) + 4
+fours-length n h = ap length (decimal-fours n h) ∙ length-append (decimal (n / 10000)) (four (n % 10000))
 
 pub decimal-length : (k n : ℕ) → n < 10 ^ suc k → length (decimal n) ≤ suc k
 decimal-length zero n h = rw (decimal-one n (omega arith)) (omega arith)

@@ -6,6 +6,7 @@ ghost use lib.IntN.{natAbs};
 ghost use lib.ListN.{length};
 ghost use Rattle.lines.specs.Text.{decimal, natural, sign, whole, strokeAt, refusalText, markAt, marksBelow, longest, Puts};
 ghost use Rattle.lines.specs.Text.{digit as digitOf};
+ghost use Rattle.lines.specs.TextLaws.{two, four};
 
 pub mod word;
 
@@ -28,16 +29,55 @@ fn digit_code(digit: u64) -> u8
     b'0' + digit as u8
 }
 
-// The digits of a number: those of its tenth, and the last one.
-fn put_decimal(out: &mut [u8], at: usize, n: u64) -> usize
+// Two digits, the first of which may be a zero.
+fn put_two(out: &mut [u8], at: usize, n: u64) -> usize
+    requires { ⌜ n < 100 ⌝ }
+    requires { ⌜ at + 2 ≤ length (now out) ⌝ }
+    ensures { λ r. ⌜ Puts (two n) (now (out .entry)) (now (out .exit)) at r ⌝ }
+{
+    let next = put_byte(out, at, digit_code(n / 10));
+    put_byte(out, next, digit_code(n % 10))
+}
+
+// Four digits.
+fn put_four(out: &mut [u8], at: usize, n: u64) -> usize
+    requires { ⌜ n < 10000 ⌝ }
+    requires { ⌜ at + 4 ≤ length (now out) ⌝ }
+    ensures { λ r. ⌜ Puts (four n) (now (out .entry)) (now (out .exit)) at r ⌝ }
+{
+    let next = put_two(out, at, n / 100);
+    put_two(out, next, n % 100)
+}
+
+// The digits of a number below 10,000, as most numbers of a sheet are.
+fn put_short(out: &mut [u8], at: usize, n: u64) -> usize
+    requires { ⌜ n < 10000 ⌝ }
     requires { ⌜ at + length (decimal n) ≤ length (now out) ⌝ }
     ensures { λ r. ⌜ Puts (decimal n) (now (out .entry)) (now (out .exit)) at r ⌝ }
 {
     if n < 10 {
         return put_byte(out, at, digit_code(n));
     }
-    let next = put_decimal(out, at, n / 10);
-    put_byte(out, next, digit_code(n % 10))
+    if n < 100 {
+        return put_two(out, at, n);
+    }
+    if n < 1000 {
+        let next = put_byte(out, at, digit_code(n / 100));
+        return put_two(out, next, n % 100);
+    }
+    put_four(out, at, n)
+}
+
+// The digits of a number: those before the last four, and these.
+fn put_decimal(out: &mut [u8], at: usize, n: u64) -> usize
+    requires { ⌜ at + length (decimal n) ≤ length (now out) ⌝ }
+    ensures { λ r. ⌜ Puts (decimal n) (now (out .entry)) (now (out .exit)) at r ⌝ }
+{
+    if n < 10000 {
+        return put_short(out, at, n);
+    }
+    let next = put_decimal(out, at, n / 10000);
+    put_four(out, next, n % 10000)
 }
 
 // A text as it is.
