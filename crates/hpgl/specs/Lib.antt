@@ -36,3 +36,4 @@ pub mod VerticesKept
 pub mod ReaderKept
 pub mod ValidKept
 pub mod StrokePens
+pub mod Segment

@@ -152,6 +152,13 @@ pub struct Stroke {
     pub y1: i64,
 }
 
+// What waits first, before it is clipped: nothing; an edge whose second end was reached pen up; a line between two page points.
+pub enum Segment {
+    Nothing,
+    PenUp,
+    Line(Point, Point),
+}
+
 // What draw answers.
 pub enum Drawn {
     Idle,

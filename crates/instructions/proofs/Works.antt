@@ -1,16 +1,17 @@
--- The work by its count: what is left of it, what is drawn of it, and the place of its edge. Why: a count is 0, 1 or more.
+-- The work by its count: what is left of it, the segment that waits first, and the place of its edge. Why: a count is 0, 1 or more.
 use mathlib.Core.Path.{_≡_, refl, ap}
 use Prim.Native.Nat.{ℕ, zero, suc, _+_, _-_, _<_, _≤_}
 use native.Mathlib.Omega.{arith}
 use borrow.Author.Tests.{eq-eqb, ne-eqb}
 use Rattle.clip.specs.declared.Point.{Point}
-use Rattle.clip.specs.declared.Rect.{Rect}
+use Rattle.plane.specs.declared.turn.Rows.{Rows}
 use Rattle.hpgl.specs.declared.Edge.{Edge}
 use Rattle.hpgl.specs.declared.Circle.{Circle}
 use Rattle.hpgl.specs.declared.Work.the-variants.{Nothing, Chords, Edges}
+use Rattle.hpgl.specs.declared.Segment.the-variants as segment
 use Rattle.hpgl.specs.Machine.{workAfter}
 use Rattle.instructions.specs.First.{edgePlace}
-use Rattle.instructions.specs.Corners.{shownIn, edgeShownIn, drawnIn}
+use Rattle.instructions.specs.Corners.{edgeIn, segmentIn}
 
 pub last-chord : (o : Circle) (i n : ℕ) → n ≤ 1 → workAfter (Chords o i n) ≡ Nothing
 unfolding workAfter
@@ -32,15 +33,25 @@ unfolding workAfter
 more-edges i zero h = absurd (omega arith)
 more-edges i (suc n) h = rw (ne-eqb n 0 (λ e. omega arith)) (ap (Edges (i + 1)) (omega arith))
 
-pub draw-chord : (r : Rect) (t pen : ℕ) (e : Edge) (o : Circle) (i n : ℕ) (p q : Point) → (n ≡ 0 → ⊥) → drawnIn r t pen e (Chords o i n) p q ≡ shownIn r pen p q
-unfolding drawnIn
-draw-chord r t pen e o i zero p q h = absurd (h refl)
-draw-chord r t pen e o i (suc n) p q h = refl
+pub no-chord : (r : Rows) (e : Edge) (o : Circle) (i n : ℕ) (p q : Point) → n ≡ 0 → segmentIn r e (Chords o i n) p q ≡ segment.Nothing
+unfolding segmentIn
+no-chord r e o i zero p q h = refl
+no-chord r e o i (suc n) p q h = absurd (omega arith)
 
-pub draw-edge : (r : Rect) (t pen : ℕ) (e : Edge) (i n : ℕ) (p q : Point) → (n ≡ 0 → ⊥) → drawnIn r t pen e (Edges i n) p q ≡ edgeShownIn r t pen e
-unfolding drawnIn
-draw-edge r t pen e i zero p q h = absurd (h refl)
-draw-edge r t pen e i (suc n) p q h = refl
+pub some-chord : (r : Rows) (e : Edge) (o : Circle) (i n : ℕ) (p q : Point) → (n ≡ 0 → ⊥) → segmentIn r e (Chords o i n) p q ≡ segment.Line p q
+unfolding segmentIn
+some-chord r e o i zero p q h = absurd (h refl)
+some-chord r e o i (suc n) p q h = refl
+
+pub no-edge : (r : Rows) (e : Edge) (i n : ℕ) (p q : Point) → n ≡ 0 → segmentIn r e (Edges i n) p q ≡ segment.Nothing
+unfolding segmentIn
+no-edge r e i zero p q h = refl
+no-edge r e i (suc n) p q h = absurd (omega arith)
+
+pub some-edge : (r : Rows) (e : Edge) (i n : ℕ) (p q : Point) → (n ≡ 0 → ⊥) → segmentIn r e (Edges i n) p q ≡ edgeIn r e
+unfolding segmentIn
+some-edge r e i zero p q h = absurd (h refl)
+some-edge r e i (suc n) p q h = refl
 
 pub place-none : (i n : ℕ) → n ≡ 0 → edgePlace (Edges i n) ≡ 0
 unfolding edgePlace

@@ -1,11 +1,12 @@
-// draw: one waiting segment is worked off, and clipped to the limits in force.
+// draw: the segment that waits first, and what is left of it within the limits in force.
 ghost use mathlib.Core.Path.{_≡_};
-ghost use Prim.Native.Nat.{_<_};
-ghost use Rattle.clip.specs.Reach.{SmallPoint, SmallRect};
+ghost use Rattle.clip.specs.Reach.{SmallRect};
 ghost use Rattle.sines.specs.Table as T;
-ghost use Rattle.plane.specs.Turn.{turnCount};
+ghost use Rattle.plane.specs.Bounds.{UnitRows};
 ghost use Rattle.hpgl.specs.Machine as M;
-ghost use Rattle.hpgl.specs.Valid.{ValidSettings, SmallEdge, ValidCircle, ValidWork};
+ghost use Rattle.hpgl.specs.Place as P;
+ghost use Rattle.hpgl.specs.Segment as G;
+ghost use Rattle.hpgl.specs.Valid.{ValidSettings, SmallEdge, ValidCircle, ValidAction, ValidWork};
 ghost use Rattle.instructions.specs.First as S;
 ghost use Rattle.instructions.specs.Corners as C;
 use super::places::limits_of;
@@ -13,15 +14,19 @@ use clip::Clipped;
 use clip::Point;
 use clip::Rect;
 use clip::clip;
+use hpgl::Action;
 use hpgl::Circle;
 use hpgl::Core;
 use hpgl::Drawn;
 use hpgl::Edge;
+use hpgl::Segment;
 use hpgl::Stroke;
 use hpgl::Work;
 use plane::circle::vertex_angle;
 use plane::circle::vertex_point;
-use plane::turn::turned;
+use plane::turn::Rows;
+use plane::turn::rows_of;
+use plane::turn::turned_by;
 
 fn stroke_of(pen: u8, c: Clipped) -> Drawn
     ensures { λ r. ⌜ r ≡ M.strokeOf pen c ⌝ }
@@ -38,39 +43,16 @@ fn stroke_of(pen: u8, c: Clipped) -> Drawn
     }
 }
 
-// A segment between two page points.
-fn shown(limits: Rect, pen: u8, a: Point, b: Point) -> Drawn
-    requires { ⌜ SmallRect limits × SmallPoint a × SmallPoint b ⌝ }
-    ensures { λ r. ⌜ r ≡ C.shownIn limits pen a b ⌝ }
-{
-    stroke_of(pen, clip(limits, a, b))
-}
-
 // A vertex of a circle, on the page.
-fn vertex(turn: usize, o: Circle, i: u16, sines: &[u32]) -> Point
-    requires { ⌜ (turn < turnCount) × ValidCircle o × (now sines ≡ T.sines) ⌝ }
-    ensures { λ r. ⌜ r ≡ C.vertexAt turn o i ⌝ }
+fn vertex(rows: Rows, o: Circle, i: u16, sines: &[u32]) -> Point
+    requires { ⌜ UnitRows rows × ValidCircle o × (now sines ≡ T.sines) ⌝ }
+    ensures { λ r. ⌜ r ≡ C.vertexAt rows o i ⌝ }
 {
     let x = o.x;
     let y = o.y;
     let radius = o.radius;
     let angle = vertex_angle(o.angle as usize, i as usize);
-    turned(vertex_point(x, y, radius, sines, angle), turn)
-}
-
-// An edge of the store: hidden where its second end was reached pen up.
-fn edge_shown(limits: Rect, turn: usize, pen: u8, e: Edge) -> Drawn
-    requires { ⌜ SmallRect limits × (turn < turnCount) × SmallEdge e ⌝ }
-    ensures { λ r. ⌜ r ≡ C.edgeShownIn limits turn pen e ⌝ }
-{
-    let from = e.from;
-    let to = e.to;
-    if e.down {
-        let a = turned(from, turn);
-        let b = turned(to, turn);
-        return shown(limits, pen, a, b);
-    }
-    Drawn::Hidden
+    turned_by(rows, vertex_point(x, y, radius, sines, angle))
 }
 
 // The work without its first segment.
@@ -114,72 +96,106 @@ pub fn edge_place(w: Work) -> usize
 }
 
 // Where the first waiting chord begins, on the page; of other work the origin.
-pub fn corner(turn: usize, w: Work, sines: &[u32]) -> Point
-    requires { ⌜ (turn < turnCount) × ValidWork w × (now sines ≡ T.sines) ⌝ }
-    ensures { λ r. ⌜ r ≡ C.cornerOf turn w ⌝ }
+pub fn corner(rows: Rows, w: Work, sines: &[u32]) -> Point
+    requires { ⌜ UnitRows rows × ValidWork w × (now sines ≡ T.sines) ⌝ }
+    ensures { λ r. ⌜ r ≡ C.cornerOf rows w ⌝ }
 {
     match w {
         Work::Nothing => Point { x: 0, y: 0 },
         Work::Line(_, _) => Point { x: 0, y: 0 },
-        Work::Chords(o, i, _) => vertex(turn, o, i, sines),
+        Work::Chords(o, i, _) => vertex(rows, o, i, sines),
         Work::Edges(_, _) => Point { x: 0, y: 0 },
     }
 }
 
 // Where it ends, and the next one begins.
-pub fn next_corner(turn: usize, w: Work, sines: &[u32]) -> Point
-    requires { ⌜ (turn < turnCount) × ValidWork w × (now sines ≡ T.sines) ⌝ }
-    ensures { λ r. ⌜ r ≡ C.nextCornerOf turn w ⌝ }
+pub fn next_corner(rows: Rows, w: Work, sines: &[u32]) -> Point
+    requires { ⌜ UnitRows rows × ValidWork w × (now sines ≡ T.sines) ⌝ }
+    ensures { λ r. ⌜ r ≡ C.nextCornerOf rows w ⌝ }
 {
     match w {
         Work::Nothing => Point { x: 0, y: 0 },
         Work::Line(_, _) => Point { x: 0, y: 0 },
-        Work::Chords(o, i, _) => vertex(turn, o, i + 1, sines),
+        Work::Chords(o, i, _) => vertex(rows, o, i + 1, sines),
         Work::Edges(_, _) => Point { x: 0, y: 0 },
     }
 }
 
-// What is drawn of the first segment. e is the edge at its place, so that the store, which is large, is not handed on; from and to are its corners.
-pub fn draw_work(
-    limits: Rect,
-    turn: usize,
-    pen: u8,
-    e: Edge,
-    w: Work,
-    from: Point,
-    to: Point,
-) -> Drawn
-    requires { ⌜ SmallRect limits × (turn < turnCount) × SmallEdge e × ValidWork w × SmallPoint from × SmallPoint to ⌝ }
-    ensures { λ r. ⌜ r ≡ C.drawnIn limits turn pen e w from to ⌝ }
+// Where the first chord of an action begins, once it waits; of other actions the origin.
+pub fn first_corner(rows: Rows, a: Action, sines: &[u32]) -> Point
+    requires { ⌜ UnitRows rows × ValidAction 0 a × (now sines ≡ T.sines) ⌝ }
+    ensures { λ r. ⌜ r ≡ C.firstCornerOf rows a ⌝ }
+{
+    match a {
+        Action::Keep => Point { x: 0, y: 0 },
+        Action::Line(_, _) => Point { x: 0, y: 0 },
+        Action::Chords(o) => vertex(rows, o, 0, sines),
+        Action::Join(_) => Point { x: 0, y: 0 },
+        Action::Outline => Point { x: 0, y: 0 },
+        Action::Rectangle(_, _, _) => Point { x: 0, y: 0 },
+    }
+}
+
+// The segment that waits first. e is the edge at its place, so that the store, which is large, is not handed on; a chord goes from `from` to `to`.
+pub fn segment(rows: Rows, e: Edge, w: Work, from: Point, to: Point) -> Segment
+    requires { ⌜ UnitRows rows × SmallEdge e ⌝ }
+    ensures { λ r. ⌜ r ≡ C.segmentIn rows e w from to ⌝ }
 {
     match w {
-        Work::Nothing => Drawn::Idle,
-        Work::Line(a, b) => shown(limits, pen, a, b),
+        Work::Nothing => Segment::Nothing,
+        Work::Line(a, b) => Segment::Line(a, b),
         Work::Chords(_, _, n) => {
             if n == 0 {
-                return Drawn::Idle;
+                return Segment::Nothing;
             }
-            shown(limits, pen, from, to)
+            Segment::Line(from, to)
         }
         Work::Edges(_, n) => {
             if n == 0 {
-                return Drawn::Idle;
+                return Segment::Nothing;
             }
-            edge_shown(limits, turn, pen, e)
+            if e.down {
+                let a = turned_by(rows, e.from);
+                let b = turned_by(rows, e.to);
+                return Segment::Line(a, b);
+            }
+            Segment::PenUp
         }
     }
 }
 
-// What is drawn of the first segment by itself, with the limits, the turn, the pen and the corners looked up for it alone.
+// What is drawn of a segment.
+pub fn drawn_of(limits: Rect, pen: u8, s: Segment) -> Drawn
+    requires { ⌜ SmallRect limits × G.SmallSegment s ⌝ }
+    ensures { λ r. ⌜ r ≡ G.drawnOf limits pen s ⌝ }
+{
+    match s {
+        Segment::Nothing => Drawn::Idle,
+        Segment::PenUp => Drawn::Hidden,
+        Segment::Line(a, b) => stroke_of(pen, clip(limits, a, b)),
+    }
+}
+
+// The segment that waits first, by itself: the table of the turn and the corners are looked up for it alone.
+pub fn first_segment(c: Core, e: Edge, w: Work, sines: &[u32]) -> Segment
+    requires { ⌜ ValidSettings (c .settings) × SmallEdge e × ValidWork w × (now sines ≡ T.sines) ⌝ }
+    ensures { λ r. ⌜ r ≡ C.firstSegment (c .settings) e w ⌝ }
+{
+    let settings = c.settings;
+    let rows = rows_of(settings.turn);
+    let from = corner(rows, w, sines);
+    let to = next_corner(rows, w, sines);
+    segment(rows, e, w, from, to)
+}
+
+// What is drawn of it.
 pub fn draw_first(c: Core, e: Edge, w: Work, sines: &[u32]) -> Drawn
     requires { ⌜ ValidSettings (c .settings) × SmallEdge e × ValidWork w × (now sines ≡ T.sines) ⌝ }
-    ensures { λ r. ⌜ r ≡ S.firstDrawn c e w ⌝ }
+    ensures { λ r. ⌜ r ≡ G.drawnOf (P.limits (c .settings)) (c .carriage .pen .number) (C.firstSegment (c .settings) e w) ⌝ }
 {
     let settings = c.settings;
     let carriage = c.carriage;
     let pen = carriage.pen;
-    let turn = settings.turn;
-    let from = corner(turn, w, sines);
-    let to = next_corner(turn, w, sines);
-    draw_work(limits_of(settings), turn, pen.number, e, w, from, to)
+    let s = first_segment(c, e, w, sines);
+    drawn_of(limits_of(settings), pen.number, s)
 }

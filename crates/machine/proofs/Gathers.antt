@@ -154,14 +154,9 @@ far-start on m s entry at v = record {
 }
 
 module _ {on : Bool} {all : Plot} {s : List ℕ} {entry now : List ℤ} {m : State} {at count : ℕ} (far : Far on all s entry now m at count) where
-  far-long : length now / 5 ≡ length entry / 5
-  far-long = ap (λ (n : ℕ). n / 5) (far .long)
-
   -- there is room for a further mark, and for its numbers
-  pub far-free : stuckOf on (m .work) count (length now / 5) ≡ false → (waiting (m .work) ≡ 0 → on ≡ true) → count < length entry / 5
-  far-free h f =
-      let z : count ≡ length entry / 5 → ⊥ = λ e. one-free (m .work) count (length now / 5) on h f (e ∙ sym far-long) in
-      omega (arith, z, far .room)
+  pub far-free : stuckOf on (m .work) count (length entry / 5) ≡ false → (waiting (m .work) ≡ 0 → on ≡ true) → count < length entry / 5
+  far-free h f = omega (arith, one-free (m .work) count (length entry / 5) on h f, far .room)
 
   pub far-fits : count < length entry / 5 → count * 5 + 5 ≤ length now
   far-fits h = omega (arith, mul-div-le (length entry) 5, far .long)
@@ -179,16 +174,15 @@ module _ {on : Bool} {all : Plot} {s : List ℕ} {entry now : List ℤ} {m : Sta
         far .laid ∙ sym (ap (λ (f : Plot). laidMarks (f .marks) entry) w ∙ ap (λ (ks : List Mark). laidMarks ks entry) z),
       )
 
-  pub far-full : remainsOf (m .work) at (length s) ≡ true → stuckOf on (m .work) count (length now / 5) ≡ true → Gathers all entry now (gatheredAs m at count listFull)
+  pub far-full : remainsOf (m .work) at (length s) ≡ true → stuckOf on (m .work) count (length entry / 5) ≡ true → Gathers all entry now (gatheredAs m at count listFull)
   far-full h k =
-      let e = used-all (m .work) count (length now / 5) on k in
-      let z : length entry / 5 - count ≡ 0 = omega (arith, e ∙ far-long) in
+      let z : length entry / 5 - count ≡ 0 = omega (arith, used-all (m .work) count (length entry / 5) on k) in
       far-stop m at listFull (ap (λ (r : ℕ). gatherFrom on m (drop at s) at r) z ∙ full (waiting (m .work)) refl)
     where
       full : (n : ℕ) → waiting (m .work) ≡ n → gatherFrom on m (drop at s) at 0 ≡ stop m at listFull
       full zero z =
           ap (λ (bs : List ℕ). gatherFrom on m bs at 0) (bytes-left (byte-remains (m .work) at (length s) h z))
-          ∙ at-stuck m at z (getD s at 0) (drop (at + 1) s) (stuck-on (m .work) count (length now / 5) on k z)
+          ∙ at-stuck m at z (getD s at 0) (drop (at + 1) s) (stuck-on (m .work) count (length entry / 5) on k z)
       full (suc n) z = at-full m (drop at s) at (omega (arith, z)) on
 
   pub far-end : waiting (m .work) ≡ 0 → length s ≤ at → Gathers all entry now (gatheredAs m at count 0)

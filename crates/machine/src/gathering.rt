@@ -15,9 +15,11 @@ use hpgl::Store;
 use hpgl::Stroke;
 use hpgl::Work;
 use instructions::drawing::corner;
-use instructions::drawing::draw_work;
+use instructions::drawing::drawn_of;
 use instructions::drawing::edge_place;
+use instructions::drawing::first_corner;
 use instructions::drawing::next_corner;
+use instructions::drawing::segment;
 use instructions::drawing::work_after;
 use instructions::events::end_rule;
 use instructions::hand::core_of;
@@ -151,20 +153,21 @@ pub fn gather(m: State, bytes: &[u8], from: usize, numbers: &mut [i64], on: bool
     let mut polygon = carriage.polygon;
     let mut store = m.store;
     let mut work = m.work;
-    let mut vertex = corner(settings.turn, work, &sines);
+    let mut vertex = corner(frame.rows, work, &sines);
     let mut at = from;
     let mut count = 0;
+    let room = numbers.len() / NUMBERS;
     while remains(work, at, bytes.len()) {
-        if stuck(on, work, count, numbers.len() / NUMBERS) {
+        if stuck(on, work, count, room) {
             let core = core_of(settings, hand, polygon);
             return gathered(reader, core, store, work, at, count, LIST_FULL);
         }
         if 0 < waiting(work) {
             let e = store.edges[edge_place(work)];
-            let limits = frame.limits;
             let pen = hand.pen;
-            let next = next_corner(settings.turn, work, &sines);
-            let drawn = draw_work(limits, settings.turn, pen.number, e, work, vertex, next);
+            let next = next_corner(frame.rows, work, &sines);
+            let s = segment(frame.rows, e, work, vertex, next);
+            let drawn = drawn_of(frame.limits, pen.number, s);
             count = put(numbers, count, drawn);
             work = work_after(work);
             vertex = next;
@@ -204,6 +207,8 @@ pub fn gather(m: State, bytes: &[u8], from: usize, numbers: &mut [i64], on: bool
                     polygon = k.polygon;
                     action = t.action;
                     number = t.number;
+                    // no other event leaves chords
+                    vertex = first_corner(frame.rows, action, &sines);
                 }
             }
             Event::Refused(k) => {
@@ -225,7 +230,6 @@ pub fn gather(m: State, bytes: &[u8], from: usize, numbers: &mut [i64], on: bool
             }
         }
         work = queued(polygon.edges, action);
-        vertex = corner(settings.turn, work, &sines);
         if number > 0 {
             reader = reader.passed_over();
             if on {

@@ -3,6 +3,7 @@ ghost use mathlib.Core.Path.{_≡_};
 ghost use Prim.Native.Nat.{_/_};
 ghost use lib.ListN.{length, drop};
 ghost use Rattle.hpgl.specs.Machine as M;
+ghost use Rattle.hpgl.specs.Segment.{segmentOf};
 ghost use Rattle.hpgl.specs.Feed.{feedFrom, laidNumbers};
 ghost use Rattle.hpgl.specs.Plot.{plotFrom, laidMarks};
 ghost use Rattle.hpgl.specs.Made.{Made};
@@ -17,10 +18,12 @@ use clip::Rect;
 use gathering::gather;
 pub use hpgl::Drawn;
 pub use hpgl::Look;
+pub use hpgl::Segment;
 use hpgl::State;
 pub use hpgl::Stroke;
 use instructions::drawing::draw_first;
 use instructions::drawing::edge_place;
+use instructions::drawing::first_segment;
 use instructions::drawing::work_after;
 use instructions::numbers::BAD_LIMITS;
 use instructions::numbers::BUSY;
@@ -140,6 +143,20 @@ impl Machine {
             },
             drawn: drawn,
         }
+    }
+
+    // The segment that waits first, before it is clipped. It changes nothing.
+    pub fn segment(self) -> Segment
+        requires { ⌜ Made (self .state) ⌝ }
+        ensures { λ r. ⌜ r ≡ segmentOf (self .state) ⌝ }
+    {
+        let m = self.state;
+        let core = m.core;
+        let store = m.store;
+        let work = m.work;
+        let sines = table();
+        let edge = store.edges[edge_place(work)];
+        first_segment(core, edge, work, &sines)
     }
 
     // Where the carriage is, and with what. It changes nothing.

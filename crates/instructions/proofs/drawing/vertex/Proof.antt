@@ -3,8 +3,7 @@ use borrow.Author.Needs.{needs}
 use mathlib.Core.Path.{_≡_, ap, _∙_}
 use mir.Syntax.{w64}
 use Rattle.exact.specs.Fit.{got}
-use Rattle.clip.specs.declared.Point.{Point}
-use Rattle.plane.specs.Turn.{turnedOf}
+use Rattle.plane.specs.Turn.{turnedBy}
 use Rattle.plane.specs.Circle.{angleOf, pointFromCentre}
 use Rattle.instructions.specs.Corners.{vertexAt}
 use Rattle.instructions.proofs.drawing.vertex.Statement.{statement}
@@ -29,17 +28,17 @@ place c =
     let a : tie.After-vertex-angle = search in
     c .vertex-point .ensures ∙ ap (pointFromCentre (s .args .o .x) (s .args .o .y) (s .args .o .radius)) (got w64 (a .vertex-angle .ok) ∙ a .vertex-angle .ensures)
 
-turned-requires : tie.Need-turned-requires
-turned-requires c κs =
+turned-by-requires : tie.Need-turned-by-requires
+turned-by-requires c κs =
     let s : tie.Start = search in
-    rw (place c) (s .pre .1 .vertices (s .args .i), s .pre .0)
+    (s .pre .0, rw (place c) (s .pre .1 .vertices (s .args .i)))
 
 returns : tie.Need-returns
 unfolding vertexAt
 returns c =
     let s : tie.Start = search in
     let p : tie.After-vertex-point = search in
-    c .turned .ensures ∙ ap (λ (q : Point). turnedOf q (s .args .turn)) (place p)
+    c .turned-by .ensures ∙ ap (turnedBy (s .args .rows)) (place p)
 
 pub vertex-spec : {M : Type 1} → statement M
 vertex-spec =
@@ -48,5 +47,5 @@ vertex-spec =
     cast-vertex-angle
     vertex-angle-requires
     vertex-point-requires
-    turned-requires
+    turned-by-requires
     returns)

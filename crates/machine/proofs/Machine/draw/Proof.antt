@@ -1,13 +1,16 @@
 -- The proof of `draw`: the edge that is read is the one that waits first.
 use borrow.Author.Needs.{needs}
-use mathlib.Core.Path.{ap, _∙_}
+use mathlib.Core.Path.{sym, ap, _∙_}
 use Prim.Native.Nat.{ℕ}
 use native.Mathlib.Omega.{arith}
 use lib.ListN.{getD}
+use Rattle.hpgl.specs.Place.{limits}
 use Rattle.hpgl.specs.Machine as M
+use Rattle.hpgl.specs.Segment.{segmentOf, drawnOf, segment-drawn}
 use Rattle.hpgl.specs.ValidFacts.{edge-small}
 use Rattle.hpgl.specs.ValidKept.{made-valid}
-use Rattle.instructions.specs.First.{firstDrawn, place-within, first-drawn}
+use Rattle.instructions.specs.First.{place-within}
+use Rattle.instructions.specs.Corners.{firstSegment, first-segment}
 use Rattle.machine.specs.Calls.{workedOf}
 use Rattle.machine.proofs.Machine.draw.Statement.{statement}
 use Rattle.machine.proofs.Machine.draw.Tie as tie
@@ -46,13 +49,14 @@ work-after-requires : tie.Need-work-after-requires
 work-after-requires c κs = let s : tie.Start = search in made-valid (s .pre) .work
 
 returns : tie.Need-returns
-unfolding workedOf M.drawState M.drawAnswer
+unfolding workedOf M.drawState segmentOf
 returns c =
     let s : tie.Start = search in
     let m = s .args .self .state in
     let d : tie.After-draw-first = search in
     let p : tie.After-edge-place = search in
-    let e = d .draw-first .ensures ∙ ap (λ (k : ℕ). firstDrawn (m .core) (getD (m .store .edges) k M.noEdge) (m .work)) (p .edge-place .ensures) ∙ first-drawn m (m .work) in
+    let first = ap (λ (k : ℕ). firstSegment (m .core .settings) (getD (m .store .edges) k M.noEdge) (m .work)) (p .edge-place .ensures) ∙ first-segment m (m .work) in
+    let e = d .draw-first .ensures ∙ ap (drawnOf (limits (m .core .settings)) (m .core .carriage .pen .number)) first ∙ sym (segment-drawn m) in
     λ i. record {
       machine = record { state = record { reader = m .reader; core = m .core; store = m .store; work = c .work-after .ensures i } };
       drawn = e i;

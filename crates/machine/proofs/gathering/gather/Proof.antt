@@ -1,5 +1,5 @@
 -- The proof of `gather`. The invariant is `Far` (Gathers.antt): the marks so far stand in the list, and what is left of feed or plot follows them; with it the
--- frame is that of the settings, and where a segment waits the vertex is its corner.
+-- frame is that of the settings, and where a chord waits the vertex is where it begins.
 -- The measure: what waits, and for each byte left one more than can wait after it, which is at most the 720 chords of a circle.
 use borrow.Author.Needs.{needs}
 use mathlib.Core.Path.{_≡_, refl, sym, ap, subst, _∙_}
@@ -11,6 +11,10 @@ use native.Mathlib.Omega.{arith}
 use lib.IntN.{ℤ}
 use lib.ListN.{length, getD, drop}
 use Rattle.clip.specs.Reach.{SmallRect}
+use Rattle.clip.specs.declared.Point.{Point}
+use Rattle.plane.specs.Bounds.{UnitRows}
+use Rattle.plane.specs.Turn.{rowsOf}
+use Rattle.plane.specs.TurnLaws.{rows-unit}
 use Rattle.sines.specs.Rules.{entries}
 use Rattle.reader.specs.declared.Reader.{Reader}
 use Rattle.reader.specs.declared.Event.{Event}
@@ -23,21 +27,23 @@ use Rattle.hpgl.specs.declared.Edge.{Edge}
 use Rattle.hpgl.specs.declared.Action.{Action}
 use Rattle.hpgl.specs.declared.Acted.{Acted}
 use Rattle.hpgl.specs.declared.Store.{Store}
+use Rattle.hpgl.specs.declared.Work.{Work}
 use Rattle.hpgl.specs.declared.State.{State}
 use Rattle.hpgl.specs.declared.Stroke.{Stroke}
 use Rattle.hpgl.specs.Numbers.{listFull, mostEdges}
 use Rattle.hpgl.specs.Plot.{Plot, refusal}
 use Rattle.hpgl.specs.Rules.{actOn}
 use Rattle.hpgl.specs.Machine.{noEdge, waiting, stored, queued, readerAfter, drawAnswer}
-use Rattle.hpgl.specs.Valid.{Valid, ValidSettings, ValidActed, ValidEvent, ValidAction}
+use Rattle.hpgl.specs.Segment.{segmentOf, drawnOf, segment-drawn, SmallSegment, segment-small}
+use Rattle.hpgl.specs.Valid.{Valid, ValidActed, ValidEvent, ValidAction}
 use Rattle.hpgl.specs.ValidFacts.{edge-small, limits-small}
 use Rattle.hpgl.specs.ReaderKept.{step-event}
 use Rattle.hpgl.specs.ValidKept.{valid-event}
 use Rattle.instructions.specs.declared.places.Frame.{Frame}
 use Rattle.instructions.specs.declared.hand.Hand.{Hand}
 use Rattle.instructions.specs.Alone.{action-alone}
-use Rattle.instructions.specs.First.{edgePlace, place-within, first-drawn}
-use Rattle.instructions.specs.Corners.{cornerOf, drawnIn, drawn-in, corner-carried, corner-small, next-corner-small}
+use Rattle.instructions.specs.First.{place-within}
+use Rattle.instructions.specs.Corners.{segmentIn, BeginsAt, segment-waits, corner-begins, next-begins, action-begins, pair-begins}
 use Rattle.instructions.specs.Hand.{frameOf, coreOf}
 use Rattle.machine.specs.Gather.{whole, gatheredAs, gatherFrom, withStroke, recordOf}
 use Rattle.machine.proofs.Turns.{Turn, reader-on, reader-off, turn-valid, acting, none-acts, refused-acts, ended-acts, settled-acts, pair-acts, named-acts, unknown-acts}
@@ -46,13 +52,13 @@ use Rattle.machine.proofs.gathering.gather.Statement.{statement}
 use Rattle.machine.proofs.gathering.gather.Tie as tie
 
 abbrev Inv-loop : tie.InvT-loop
-Inv-loop bytes from numbers₀ on sines reader₀ settings₀ frame₀ hand₀ polygon₀ store₀ work₀ vertex₀ at₀ count₀ numbers reader settings frame hand polygon store work vertex at count =
+Inv-loop bytes from numbers₀ on sines reader₀ settings₀ frame₀ hand₀ polygon₀ store₀ work₀ vertex₀ at₀ count₀ room numbers reader settings frame hand polygon store work vertex at count =
     Far on (gatherFrom on (whole reader₀ (coreOf settings₀ hand₀ polygon₀) store₀ work₀) (drop from bytes) from (length numbers₀ / 5)) bytes numbers₀ numbers (whole reader (coreOf settings hand polygon) store work) at count
     × (frame ≡ frameOf settings)
-    × (0 < waiting work → vertex ≡ cornerOf (settings .turn) work)
+    × BeginsAt (frame .rows) work vertex
 
 abbrev μ-loop : tie.MeasureT-loop
-μ-loop bytes from numbers₀ on sines reader₀ settings₀ frame₀ hand₀ polygon₀ store₀ work₀ vertex₀ at₀ count₀ numbers reader settings frame hand polygon store work vertex at count = (length bytes - at) * 721 + waiting work
+μ-loop bytes from numbers₀ on sines reader₀ settings₀ frame₀ hand₀ polygon₀ store₀ work₀ vertex₀ at₀ count₀ room numbers reader settings frame hand polygon store work vertex at count = (length bytes - at) * 721 + waiting work
 
 -- ---- the places of a turn
 
@@ -77,9 +83,6 @@ Stored = tie.At-match2-came Inv-loop μ-loop
 abbrev Queued : Type 0
 Queued = tie.After-queued Inv-loop μ-loop
 
-abbrev Turned : Type 0
-Turned = tie.After-corner2 Inv-loop μ-loop
-
 abbrev Passed : Type 0
 Passed = tie.After-passed-over Inv-loop μ-loop
 
@@ -98,8 +101,11 @@ entry l = start (handed (l .before))
 abbrev waits : Waits → Loop
 waits w = search
 
-abbrev drawn : tie.After-draw-work Inv-loop μ-loop → Waits
+abbrev drawn : tie.After-drawn-of Inv-loop μ-loop → Waits
 drawn d = search
+
+abbrev segmented : tie.After-segment Inv-loop μ-loop → Waits
+segmented g = search
 
 abbrev idles : Idle → Loop
 idles e = search
@@ -119,10 +125,7 @@ did k = k .before
 abbrev kept : Queued → Stored
 kept r = r .before
 
-abbrev then : Turned → Queued
-then r = search
-
-abbrev turning : Passed → Turned
+abbrev turning : Passed → Queued
 turning p = search
 
 -- the machine that the parts make
@@ -181,20 +184,33 @@ free-taken e o = let n : tie.Else2 Inv-loop μ-loop = search in free n (λ z. o)
 
 -- ---- a draw
 
--- the edge that is read is the one that waits first, and the corners are its own
-drew : (d : tie.After-draw-work Inv-loop μ-loop) → d .draw-work .result ≡ drawAnswer (here (waits (drawn d)))
-unfolding drawAnswer frameOf
-drew d =
-    let w = drawn d in
+-- by the table of the settings
+rows : (l : Loop) → l .loop .frame .rows ≡ rowsOf (l .loop .settings .turn)
+unfolding frameOf
+rows l = ap (λ (f : Frame). f .rows) (l .loop .inv .1)
+
+rows-small : (l : Loop) → UnitRows (l .loop .frame .rows)
+rows-small l = rw (rows l) (rows-unit (far l .valid .core .settings .turn))
+
+-- the edge that is read is the one that waits first, and a chord begins at the vertex
+waited : (g : tie.After-segment Inv-loop μ-loop) → g .segment .result ≡ segmentOf (here (waits (segmented g)))
+waited g =
+    let w = segmented g in
     let l = waits w .loop in
     let p : tie.After-edge-place Inv-loop μ-loop = search in
     let n : tie.After-next-corner Inv-loop μ-loop = search in
-    let t = l .settings .turn in
-    let m = here (waits w) in
-    d .draw-work .ensures
-    ∙ (λ i. drawnIn (l .inv .1 i .limits) t (l .hand .pen .number) (getD (l .store .edges) (p .edge-place .ensures i) noEdge) (l .work) (l .inv .2 (waits-some w) i) (n .next-corner .ensures i))
-    ∙ drawn-in (m .core) (getD (l .store .edges) (edgePlace (l .work)) noEdge) (l .work)
-    ∙ first-drawn m (l .work)
+    g .segment .ensures
+    ∙ (λ i. segmentIn (l .frame .rows) (getD (l .store .edges) (p .edge-place .ensures i) noEdge) (l .work) (l .vertex) (n .next-corner .ensures i))
+    ∙ segment-waits (here (waits w)) (l .vertex) (rows (waits w)) (l .inv .2)
+
+drew : (d : tie.After-drawn-of Inv-loop μ-loop) → d .drawn-of .result ≡ drawAnswer (here (waits (drawn d)))
+unfolding frameOf
+drew d =
+    let l = waits (drawn d) in
+    let g : tie.After-segment Inv-loop μ-loop = search in
+    d .drawn-of .ensures
+    ∙ (λ i. drawnOf (l .loop .inv .1 i .limits) (l .loop .hand .pen .number) (waited g i))
+    ∙ sym (segment-drawn (here l))
 
 -- ---- a byte
 
@@ -225,16 +241,19 @@ act j = acting (j .match .settings) (j .match .hand) (j .match .polygon) (j .mat
 record Did (j : Done) : Type 0 where
   acts : act j ≡ actOn (here (loop (read j)) .core) (read j .next .result .event)
   framed : j .match .frame ≡ frameOf (j .match .settings)
+  begins : BeginsAt (j .match .frame .rows) (queued (j .match .polygon .edges) (j .match .action)) (j .match .vertex)
 
-by : (j : Done) {s : Settings} {f : Frame} {h : Hand} {g : Polygon} {a : Action} {n : ℕ} →
-    j .match .settings ≡ s → j .match .frame ≡ f → j .match .hand ≡ h → j .match .polygon ≡ g → j .match .action ≡ a → j .match .number ≡ n →
-    f ≡ frameOf s → {e : Event} → read j .next .result .event ≡ e → acting s h g a n ≡ actOn (here (loop (read j)) .core) e → Did j
-by j es ef eh eg ea en framed told acts = record {
+by : (j : Done) {s : Settings} {f : Frame} {h : Hand} {g : Polygon} {v : Point} {a : Action} {n : ℕ} →
+    j .match .settings ≡ s → j .match .frame ≡ f → j .match .hand ≡ h → j .match .polygon ≡ g → j .match .vertex ≡ v → j .match .action ≡ a → j .match .number ≡ n →
+    f ≡ frameOf s → BeginsAt (f .rows) (queued (g .edges) a) v → {e : Event} → read j .next .result .event ≡ e → acting s h g a n ≡ actOn (here (loop (read j)) .core) e → Did j
+by j es ef eh eg ev ea en framed begins told acts = record {
   acts = (λ i. acting (es i) (eh i) (eg i) (ea i) (en i)) ∙ acts ∙ ap (actOn (here (loop (read j)) .core)) (sym told);
   framed = ef ∙ framed ∙ ap frameOf (sym es);
+  begins = subst (λ (T : Type 0). T) (λ i. BeginsAt (sym ef i .rows) (queued (sym eg i .edges) (sym ea i)) (sym ev i)) begins;
 }
 
 done : (j : Done) → Did j
+unfolding queued
 done j =
     let l = loop (read j) .loop in
     let s = l .settings in
@@ -242,21 +261,26 @@ done j =
     let g = l .polygon in
     let framed = l .inv .1 in
     ⊎-elim
-    (λ w. by j (w .2) (w .3) (w .4) (w .5) (w .6) (w .7) framed (w .1 .given .1) (none-acts s h g))
+    (λ w. by j (w .2) (w .3) (w .4) (w .5) (w .6) (w .7) (w .8) framed tt (w .1 .given .1) (none-acts s h g))
     (⊎-elim
-    (λ w. by j (w .6) (w .7) (w .8) (w .9) (w .10) (w .11) framed (w .1 .given .1) (named-acts s h g _ (w .3 .ensures) (w .5 .result) (w .4 .taken) (w .5 .ensures g)))
+    (λ w. by j (w .6) (w .7) (w .8) (w .9) (w .10) (w .11) (w .12) framed tt (w .1 .given .1) (named-acts s h g _ (w .3 .ensures) (w .5 .result) (w .4 .taken) (w .5 .ensures g)))
     (⊎-elim
-    (λ w. by j (w .5) (w .6) (w .7) (w .8) (w .9) (w .10) framed (w .1 .given .1) (unknown-acts s h g _ (w .3 .ensures) (w .4 .left)))
+    (λ w. by j (w .5) (w .6) (w .7) (w .8) (w .9) (w .10) (w .11) framed tt (w .1 .given .1) (unknown-acts s h g _ (w .3 .ensures) (w .4 .left)))
     (⊎-elim
-    (λ w. by j (w .6) (w .7) (w .8) (w .9) (w .10) (w .11) framed (w .1 .given .1) (pair-acts s h g _ (w .3 .ensures s framed)))
+    (λ w. let e = w .3 .ensures s framed in
+    by j (w .6) (w .7) (w .8) (w .9) (w .10) (w .11) (w .12) framed
+    (subst (λ (t : Acted). BeginsAt (l .frame .rows) (queued (w .3 .result .polygon .edges) (t .action)) (l .vertex)) (sym e) (pair-begins (l .frame .rows) _ _ (l .vertex) _))
+    (w .1 .given .1) (pair-acts s h g _ e))
     (⊎-elim
     (λ w. let t = w .5 .result in
-    by j (w .12) (w .13) (w .14) (w .15) (w .16) (w .17) (w .9 .ensures) (w .1 .given .1)
+    by j (w .14) (w .15) (w .16) (w .17) (w .18) (w .19) (w .20) (w .9 .ensures)
+    (rw (w .13 .ensures) (action-begins (w .9 .result .rows) (t .core .carriage .polygon .edges) (t .action)))
+    (w .1 .given .1)
     (ap (λ (to : Hand). acting (t .core .settings) to (t .core .carriage .polygon) (t .action) (t .number)) (w .10 .ensures)
     ∙ settled-acts s h g _ _ (w .4 .ensures) (w .5 .ensures)))
     (⊎-elim
-    (λ w. by j (w .4) (w .5) (w .6) (w .7) (w .8) (w .9) framed (w .1 .given .1) (ended-acts s h g _ _ (w .3 .left)))
-    (λ w. by j (w .3) (w .4) (w .5) (w .6) (w .7) (w .8) framed (w .1 .given .1) (refused-acts s h g _)))))))
+    (λ w. by j (w .4) (w .5) (w .6) (w .7) (w .8) (w .9) (w .10) framed tt (w .1 .given .1) (ended-acts s h g _ _ (w .3 .left)))
+    (λ w. by j (w .3) (w .4) (w .5) (w .6) (w .7) (w .8) (w .9) framed tt (w .1 .given .1) (refused-acts s h g _)))))))
     (j .match .came)
 
 act-valid : (j : Done) → ValidActed (here (loop (read j)) .core) (act j)
@@ -309,16 +333,20 @@ turn r e =
       work = r .queued .ensures ∙ ap (λ (a : Action). queued (j .match .polygon .edges) a) (keeps k .action);
     }
 
+-- where its chords begin, if it has any
+begins : (r : Queued) → let j = did (kept r) .match in BeginsAt (j .frame .rows) (r .queued .result) (j .vertex)
+begins r = let j = did (kept r) in subst (λ (w : Work). BeginsAt (j .match .frame .rows) w (j .match .vertex)) (sym (turn r refl .work)) (done j .begins)
+
 next-valid : (r : Queued) → let j = did (kept r) in Valid (next r (readerAfter (read j .next .result .reader) (j .match .number)))
 next-valid r = let q = read (did (kept r)) in turn-valid _ _ _ _ _ (turn r refl) (reached q .idle) (reached q .far .valid)
 
 -- a byte that is not refused
-turned : (c : tie.Else6 Inv-loop μ-loop) → let r = then (c .before) in
+turned : (c : tie.Else6 Inv-loop μ-loop) → let r = c .before in
     let q = read (did (kept r)) in
     let l = loop q in
     Goes l (All l) (l .loop .numbers) (next r (q .next .result .reader)) (q .next .result .at) (l .loop .count)
 turned c =
-    let r = then (c .before) in
+    let r = c .before in
     let q = read (did (kept r)) in
     let z : did (kept r) .match .number ≡ 0 = omega (arith, c .if6 .left) in
     let l = loop q in
@@ -326,10 +354,10 @@ turned c =
     (far-turn (reached q .far) (turn r (reader-on (q .next .result .reader) z)) (reached q .idle) (reached q .within) (free-taken (before q)) z)
 
 -- a byte that is refused
-refused : (p : Passed) → did (kept (then (turning p))) .match .number ≡ 0 → ⊥
+refused : (p : Passed) → did (kept (turning p)) .match .number ≡ 0 → ⊥
 refused p e = let t : tie.Then6 Inv-loop μ-loop = search in omega (arith, e, t .if6 .taken)
 
-passed : (p : Passed) → let j = did (kept (then (turning p))) in p .passed-over .result ≡ readerAfter (read j .next .result .reader) (j .match .number)
+passed : (p : Passed) → let j = did (kept (turning p)) in p .passed-over .result ≡ readerAfter (read j .next .result .reader) (j .match .number)
 passed p = p .passed-over .ensures ∙ reader-off _ (refused p)
 
 -- and stored
@@ -337,7 +365,7 @@ abbrev putting : tie.After-put-record Inv-loop μ-loop → Passed
 putting c = search
 
 stored-on : (c : tie.After-put-record Inv-loop μ-loop) → let p = putting c in
-    let r = then (turning p) in
+    let r = turning p in
     let q = read (did (kept r)) in
     let l = loop q in
     Goes l (All l) (c .put-record .last .0) (next r (p .passed-over .result)) (q .next .result .at) (c .put-record .result)
@@ -345,7 +373,7 @@ stored-on c =
     let p = putting c in
     let t : tie.Then7 Inv-loop μ-loop = search in
     let k : tie.After-refusal-record Inv-loop μ-loop = search in
-    let r = then (turning p) in
+    let r = turning p in
     let q = read (did (kept r)) in
     let l = loop q in
     let n = did (kept r) .match .number in
@@ -353,6 +381,18 @@ stored-on c =
     subst (λ (t : ℕ). Goes l (All l) (c .put-record .last .0) (next r (p .passed-over .result)) t (c .put-record .result)) (sym (reached q .ends))
     (far-refusal (reached q .far) (turn r (passed p)) (reached q .idle) (reached q .within) (refused p) (t .if7 .taken) (free-taken (before q) (t .if7 .taken))
     (c .put-record .ensures .1 ∙ ap (λ (x : Stroke). withStroke x (l .loop .count * 5) (l .loop .numbers)) e) (c .put-record .ensures .0))
+
+-- what an instruction that ends does
+abbrev ending : tie.After-end-rule Inv-loop μ-loop → Read
+ending t = search
+
+settled : (t : tie.After-end-rule Inv-loop μ-loop) → ValidActed (here (loop (ending t)) .core) (t .end-rule .result)
+settled t =
+    let q = ending t in
+    let n : tie.After-event3 Inv-loop μ-loop = search in
+    let l = loop q .loop in
+    let e = settled-acts (l .settings) (l .hand) (l .polygon) _ _ (t .before .core-of2 .ensures) (t .end-rule .ensures) ∙ ap (actOn (here (loop q) .core)) (sym (n .event3 .given .1)) in
+    subst (ValidActed (here (loop q) .core)) (sym e) (valid-event (q .next .result .event) (far (loop q) .valid .core) (event-valid q))
 
 -- ---- the needs
 
@@ -378,10 +418,12 @@ slice-aggregate-corner : tie.Need-slice-aggregate-corner Inv-loop μ-loop
 slice-aggregate-corner c = let h : tie.After-hand-of Inv-loop μ-loop = search in sines-long h
 
 corner-requires : tie.Need-corner-requires Inv-loop μ-loop
+unfolding frameOf
 corner-requires c κs =
     let h : tie.After-hand-of Inv-loop μ-loop = search in
+    let f : tie.After-frame-of Inv-loop μ-loop = search in
     let v = start h .pre in
-    (v .core .settings .turn, v .work, laid h .table .ensures)
+    (rw (f .frame-of .ensures) (rows-unit (v .core .settings .turn)), v .work, laid h .table .ensures)
 
 loop-holds : tie.Need-loop-holds Inv-loop μ-loop
 loop-holds c =
@@ -394,7 +436,7 @@ loop-holds c =
           (sym (h .hand-of .ensures))
           (far-start (s .args .on) (s .args .m) (s .args .bytes .now) (s .args .numbers .now) (s .args .from) (s .pre)),
       f .frame-of .ensures,
-      λ w. c .corner .ensures,
+      rw (c .corner .ensures) (corner-begins (f .frame-of .result .rows) (s .args .m .work)),
     )
 
 remains-requires : tie.Need-remains-requires Inv-loop μ-loop
@@ -446,22 +488,18 @@ slice-aggregate-next-corner c = let w : Waits = search in sines-long (handed (wa
 next-corner-requires : tie.Need-next-corner-requires Inv-loop μ-loop
 next-corner-requires c κs =
     let w : Waits = search in
-    let v = far (waits w) .valid in
-    (v .core .settings .turn, v .work, laid (handed (waits w .before)) .table .ensures)
+    (rows-small (waits w), far (waits w) .valid .work, laid (handed (waits w .before)) .table .ensures)
 
-draw-work-requires : tie.Need-draw-work-requires Inv-loop μ-loop
+segment-requires : tie.Need-segment-requires Inv-loop μ-loop
+segment-requires c κs = let w : Waits = search in (rows-small (waits w), edge-small (far (waits w) .valid .edges) _)
+
+drawn-of-requires : tie.Need-drawn-of-requires Inv-loop μ-loop
 unfolding frameOf
-draw-work-requires c κs =
-    let w : Waits = search in
-    let l = waits w in
-    let v = far l .valid in
-    let t = v .core .settings .turn in (
+drawn-of-requires c κs =
+    let l = waits (segmented c) in
+    let v = far l .valid in (
       subst (λ (f : Frame). SmallRect (f .limits)) (sym (l .loop .inv .1)) (limits-small (v .core .settings)),
-      t,
-      edge-small (v .edges) _,
-      v .work,
-      rw (l .loop .inv .2 (waits-some w)) (corner-small (l .loop .work) t (v .work)),
-      rw (c .next-corner .ensures) (next-corner-small (l .loop .work) t (v .work)),
+      subst SmallSegment (sym (waited c)) (segment-small v),
     )
 
 put-requires : tie.Need-put-requires Inv-loop μ-loop
@@ -472,20 +510,20 @@ work-after-requires c κs = let w : Waits = search in far (waits w) .valid .work
 
 loop-less : tie.Need-loop-less Inv-loop μ-loop
 loop-less c =
-    let d : tie.After-draw-work Inv-loop μ-loop = search in
+    let d : tie.After-drawn-of Inv-loop μ-loop = search in
     let w = drawn d in
     omega (arith, waits-less (here (waits w)) (c .work-after .result) (waits-some w) (c .work-after .ensures))
 
 loop-again : tie.Need-loop-again Inv-loop μ-loop
 loop-again c =
-    let d : tie.After-draw-work Inv-loop μ-loop = search in
+    let d : tie.After-drawn-of Inv-loop μ-loop = search in
     let u : tie.After-put Inv-loop μ-loop = search in
     let n : tie.After-next-corner Inv-loop μ-loop = search in
     let w = drawn d in
     let l = waits w in (
       again l (far-draw (far l) (waits-some w) (free-drawn w) (drew d) (u .put .ensures .1) (u .put .ensures .0) (c .work-after .ensures)),
       l .loop .inv .1,
-      λ h. n .next-corner .ensures ∙ corner-carried (l .loop .settings .turn) (l .loop .work) (rw (c .work-after .ensures) at h) ∙ ap (cornerOf (l .loop .settings .turn)) (sym (c .work-after .ensures)),
+      rw (c .work-after .ensures, n .next-corner .ensures) (next-begins (l .loop .frame .rows) (l .loop .work)),
     )
 
 next-requires : tie.Need-next-requires Inv-loop μ-loop
@@ -527,17 +565,22 @@ end-rule-requires c κs =
     rw (c .core-of2 .ensures) (far (loop q) .valid .core, subst (ValidEvent (here (loop q) .core)) (e .event3 .given .1) (event-valid q) .0 .numbers)
 
 frame-of-requires-2 : tie.Need-frame-of-requires-2 Inv-loop μ-loop
-frame-of-requires-2 c κs =
-    let t : tie.After-end-rule Inv-loop μ-loop = search in
-    let k = t .before in
-    let q : Read = search in
-    let n : tie.After-event3 Inv-loop μ-loop = search in
-    let l = loop q .loop in
-    let e = settled-acts (l .settings) (l .hand) (l .polygon) _ _ (k .core-of2 .ensures) (t .end-rule .ensures) ∙ ap (actOn (here (loop q) .core)) (sym (n .event3 .given .1)) in
-    subst (λ (t : Acted). ValidSettings (t .core .settings)) (sym e) (valid-event (q .next .result .event) (far (loop q) .valid .core) (event-valid q) .core .settings)
+frame-of-requires-2 c κs = let t : tie.After-end-rule Inv-loop μ-loop = search in settled t .core .settings
 
 hand-of-requires-2 : tie.Need-hand-of-requires-2 Inv-loop μ-loop
 hand-of-requires-2 c κs = search needs
+
+slice-aggregate-first-corner : tie.Need-slice-aggregate-first-corner Inv-loop μ-loop
+slice-aggregate-first-corner c = let t : tie.After-end-rule Inv-loop μ-loop = search in sines-long (handed (loop (ending t) .before))
+
+first-corner-requires : tie.Need-first-corner-requires Inv-loop μ-loop
+unfolding frameOf
+first-corner-requires c κs =
+    let t : tie.After-end-rule Inv-loop μ-loop = search in
+    let f : tie.After-frame-of2 Inv-loop μ-loop = search in
+    let v = settled t in
+    let k = loop (ending t) .loop .polygon .edges in
+    (rw (f .frame-of2 .ensures) (rows-unit (v .core .settings .turn)), action-alone k (t .end-rule .result .action) (v .action), laid (handed (loop (ending t) .before)) .table .ensures)
 
 enum-known-event-4 : tie.Need-enum-known-event-4 Inv-loop μ-loop
 enum-known-event-4 c = search needs
@@ -575,41 +618,33 @@ stored-requires c κs = let j : Done = search in act-valid j .action
 queued-requires : tie.Need-queued-requires Inv-loop μ-loop
 queued-requires c κs = rw (keeps c .action) (action-alone (loop (read (did c)) .loop .polygon .edges) (did c .match .action) (act-valid (did c) .action))
 
-slice-aggregate-corner-2 : tie.Need-slice-aggregate-corner-2 Inv-loop μ-loop
-slice-aggregate-corner-2 c = sines-long (handed (loop (read (did (kept (c .before)))) .before))
-
-corner-requires-2 : tie.Need-corner-requires-2 Inv-loop μ-loop
-corner-requires-2 c κs =
-    let v = next-valid (c .before) in
-    (v .core .settings .turn, v .work, laid (handed (loop (read (did (kept (c .before)))) .before)) .table .ensures)
-
 passed-over-requires : tie.Need-passed-over-requires Inv-loop μ-loop
 passed-over-requires c κs = search needs
 
 refusal-record-requires : tie.Need-refusal-record-requires Inv-loop μ-loop
 refusal-record-requires c κs =
     let t : tie.Then7 Inv-loop μ-loop = search in
-    let q = read (did (kept (then (turning (t .before))))) in
+    let q = read (did (kept (turning (t .before)))) in
     let g = entry (loop q) .good .1 .0 .1 in
     omega (arith, g, reached q .within, reached q .ends)
 
 put-record-requires : tie.Need-put-record-requires Inv-loop μ-loop
 put-record-requires c κs =
     let t : tie.Then7 Inv-loop μ-loop = search in
-    let q = read (did (kept (then (turning (t .before))))) in
+    let q = read (did (kept (turning (t .before)))) in
     far-fits (far (loop q)) (free-taken (before q) (t .if7 .taken))
 
 loop-less-2 : tie.Need-loop-less-2 Inv-loop μ-loop
 loop-less-2 c =
-    let r = then (turning (putting (c .before))) in
+    let r = turning (putting (c .before)) in
     let q = read (did (kept r)) in
     omega (arith, reached q .within, reached q .further, reached q .ends, waits-most (r .queued .result) (next-valid r .work))
 
 loop-again-2 : tie.Need-loop-again-2 Inv-loop μ-loop
 loop-again-2 c =
-    let t = turning (putting (c .before)) in
-    let j = did (kept (then t)) in
-    (again (loop (read j)) (stored-on (c .before)), done j .framed, λ h. t .corner2 .ensures)
+    let r = turning (putting (c .before)) in
+    let j = did (kept r) in
+    (again (loop (read j)) (stored-on (c .before)), done j .framed, begins r)
 
 core-of-requires-3 : tie.Need-core-of-requires-3 Inv-loop μ-loop
 core-of-requires-3 c κs = search needs
@@ -618,14 +653,14 @@ gathered-requires-2 : tie.Need-gathered-requires-2 Inv-loop μ-loop
 gathered-requires-2 c κs = search needs
 
 same-length-2 : tie.Need-same-length-2 Inv-loop μ-loop
-same-length-2 c = let e : tie.Else7 Inv-loop μ-loop = search in far (loop (read (did (kept (then (turning (e .before))))))) .long
+same-length-2 c = let e : tie.Else7 Inv-loop μ-loop = search in far (loop (read (did (kept (turning (e .before)))))) .long
 
 returns-2 : tie.Need-returns-2 Inv-loop μ-loop
 returns-2 c =
     let e : tie.Else7 Inv-loop μ-loop = search in
     let k : tie.After-core-of3 Inv-loop μ-loop = search in
     let p = e .before in
-    let r = then (turning p) in
+    let r = turning p in
     let q = read (did (kept r)) in
     let f = far-refused (reached q .far) (turn r (passed p)) (reached q .idle) (reached q .within) (refused p) (e .if7 .left) in (
       c .gathered2 .ensures
@@ -636,14 +671,14 @@ returns-2 c =
 
 loop-less-3 : tie.Need-loop-less-3 Inv-loop μ-loop
 loop-less-3 c =
-    let r = then (c .before) in
+    let r = c .before in
     let q = read (did (kept r)) in
     omega (arith, reached q .within, reached q .further, reached q .ends, waits-most (r .queued .result) (next-valid r .work))
 
 loop-again-3 : tie.Need-loop-again-3 Inv-loop μ-loop
 loop-again-3 c =
-    let j = did (kept (then (c .before))) in
-    (again (loop (read j)) (turned c), done j .framed, λ h. c .before .corner2 .ensures)
+    let j = did (kept (c .before)) in
+    (again (loop (read j)) (turned c), done j .framed, begins (c .before))
 
 core-of-requires-4 : tie.Need-core-of-requires-4 Inv-loop μ-loop
 core-of-requires-4 c κs = search needs
@@ -688,7 +723,8 @@ gather-spec =
     element-copy-out-e
     slice-aggregate-next-corner
     next-corner-requires
-    draw-work-requires
+    segment-requires
+    drawn-of-requires
     put-requires
     work-after-requires
     loop-less
@@ -705,6 +741,8 @@ gather-spec =
     end-rule-requires
     frame-of-requires-2
     hand-of-requires-2
+    slice-aggregate-first-corner
+    first-corner-requires
     enum-known-event-4
     enum-told-2
     enum-told-3
@@ -717,8 +755,6 @@ gather-spec =
     enum-told-6
     stored-requires
     queued-requires
-    slice-aggregate-corner-2
-    corner-requires-2
     passed-over-requires
     refusal-record-requires
     put-record-requires
