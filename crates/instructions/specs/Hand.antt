@@ -18,7 +18,10 @@ use Rattle.hpgl.specs.declared.Polygon.{Polygon}
 use Rattle.hpgl.specs.declared.Carriage.{Carriage}
 use Rattle.hpgl.specs.declared.Core.{Core}
 use Rattle.hpgl.specs.declared.Acted.{Acted}
-use Rattle.hpgl.specs.declared.Action.the-variants.{Keep}
+use Rattle.hpgl.specs.declared.Action.{Action}
+use Rattle.hpgl.specs.declared.Action.the-variants.{Keep, Line}
+use Rattle.hpgl.specs.declared.Segment.{Segment}
+use Rattle.hpgl.specs.declared.Segment.the-variants as segment
 use Rattle.hpgl.specs.Numbers.{unknown}
 use Rattle.hpgl.specs.Place.{point, axisX, axisY, location, pagePoint, limits}
 use Rattle.hpgl.specs.Rules.{done, refuse, letters, nameRule, endRule}
@@ -26,6 +29,7 @@ use Rattle.hpgl.specs.Valid.{ValidCore}
 use Rattle.instructions.specs.declared.places.Frame.{Frame}
 use Rattle.instructions.specs.declared.hand.Hand.{Hand}
 use Rattle.instructions.specs.declared.hand.Paired.{Paired}
+use Rattle.instructions.specs.declared.hand.Shifted.{Shifted}
 
 -- ---- the parts
 
@@ -45,6 +49,16 @@ coreOf s h g = record { settings = s; carriage = carriageOf h g }
 abbrev pub actedOf : Settings → Paired → Acted
 actedOf s t = record { core = coreOf s (t .hand) (t .polygon); action = t .action; number = t .number }
 
+-- a line to draw waits as one
+unfoldable pub lineOf : Segment → Action
+lineOf segment.Nothing = Keep
+lineOf segment.PenUp = Keep
+lineOf (segment.Line a b) = Line a b
+
+-- outside polygon mode, beside a polygon
+abbrev pub shiftedOf : Settings → Polygon → Shifted → Acted
+shiftedOf s g t = record { core = coreOf s (t .hand) g; action = lineOf (t .segment); number = t .number }
+
 -- the location of a position, by the frame
 abbrev pub locationIn : Frame → Position → Point
 locationIn f p = point (locationOf (f .x) (p .x)) (locationOf (f .y) (p .y))
@@ -54,6 +68,11 @@ pub record ValidParts (f : Frame) (h : Hand) (g : Polygon) : Type 0 where
   pub settings : Settings
   pub frame : f ≡ frameOf settings
   pub core : ValidCore (coreOf settings h g)
+
+-- and without the polygon
+pub record ValidHand (f : Frame) (h : Hand) : Type 0 where
+  pub polygon : Polygon
+  pub parts : ValidParts f h polygon
 
 -- nothing is lost
 pub core-parts : (c : Core) → coreOf (c .settings) (handOf (c .carriage)) (c .carriage .polygon) ≡ c

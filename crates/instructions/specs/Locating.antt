@@ -2,18 +2,19 @@
 -- And what it needs of the parts of one.
 use mathlib.Core.Path.{_≡_}
 use mathlib.Core.Bool.{true}
+use Rattle.exact.specs.Fit.{Bd}
 use Rattle.clip.specs.Reach.{SmallPoint}
 use Rattle.reader.specs.declared.Coordinates.{Coordinates}
 use Rattle.reader.specs.declared.Numbers.{Numbers}
 use Rattle.reader.specs.Sizes.{Small, SmallPair}
-use Rattle.plane.specs.Bounds.{AxisBounds, Locatable, UnitRows}
+use Rattle.plane.specs.Bounds.{AxisBounds, Locatable, UnitRows, mostProduct}
 use Rattle.plane.specs.TurnLaws.{rows-unit}
 use Rattle.hpgl.specs.declared.Position.{Position}
 use Rattle.hpgl.specs.declared.Polygon.{Polygon}
 use Rattle.hpgl.specs.declared.Core.{Core}
 use Rattle.hpgl.specs.Rules.{firstTwo, aimed}
 use Rattle.hpgl.specs.Valid.{LocatablePosition, ValidCore}
-use Rattle.hpgl.specs.ValidFacts.{axis-bounds-x, axis-bounds-y, placed-locatable, aimed-locatable}
+use Rattle.hpgl.specs.ValidFacts.{axis-bounds-x, axis-bounds-y, placed-locatable, placed-offset, aimed-locatable}
 use Rattle.instructions.specs.declared.places.Frame.{Frame}
 use Rattle.instructions.specs.declared.hand.Hand.{Hand}
 use Rattle.instructions.specs.Hand.{frameOf, coreOf, locationIn, location-in, ValidParts}
@@ -53,6 +54,9 @@ module _ {f : Frame} {h : Hand} {g : Polygon} (w : ValidParts f h g) where
   hand-near = rw (location-in (w .settings) (h .position) (w .frame)) (w .core .position .near)
 
   -- where a pair aims
+  pub aim-needs : {n : Coordinates} → SmallPair n → (AxisBounds (f .x) × AxisBounds (f .y) × SmallPair n) × (Bd (h .position .x .offset) mostProduct × Bd (h .position .y .offset) mostProduct)
+  aim-needs k = let a = frame-axes in ((a .0, a .1, k), placed-offset (w .core .settings) (w .core .position))
+
   pub aim-locatable : {p : Position} {n : Coordinates} → SmallPair n → p ≡ aimed (coreOf (w .settings) h g) n →
       Locatable (f .x) (p .x) × Locatable (f .y) (p .y)
   aim-locatable k e = frame-locatable (rw e (aimed-locatable (w .core) k))

@@ -7,6 +7,7 @@ use hpgl::Core;
 use hpgl::Pen;
 use hpgl::Polygon;
 use hpgl::Position;
+use hpgl::Segment;
 use hpgl::Settings;
 
 // A carriage without its polygon, which is large and seldom changes.
@@ -14,6 +15,13 @@ pub struct Hand {
     pub position: Position,
     pub pen: Pen,
     pub relative: bool,
+}
+
+// What a pair outside polygon mode does: the new hand, the segment to draw, and 01's number (0 for none).
+pub struct Shifted {
+    pub hand: Hand,
+    pub segment: Segment,
+    pub number: u8,
 }
 
 // What a pair does: the new hand and polygon, the action, and 01's number (0 for none).

@@ -1,7 +1,7 @@
 // Names and pairs: what PU, PD, PA and PR do, outside polygon mode and in it. They are the most of a drawing, so that they take of a core what they need:
 // the frame of its settings, the hand, the polygon.
 ghost use mathlib.Core.Path.{_≡_};
-ghost use mathlib.Core.Bool.{not};
+ghost use mathlib.Core.Bool.{true, false, not};
 ghost use Prim.Native.Nat.{_+_, _≤_};
 ghost use lib.Dec.{eqb};
 ghost use Rattle.exact.specs.Fit.{Bd};
@@ -12,9 +12,10 @@ ghost use Rattle.hpgl.specs.Numbers.{polygonBytes, mostEdges};
 ghost use Rattle.hpgl.specs.Place as P;
 ghost use Rattle.hpgl.specs.Rules as R;
 ghost use Rattle.hpgl.specs.Valid.{LocatablePosition, ValidCore};
-ghost use Rattle.instructions.specs.Hand.{frameOf, carriageOf, coreOf, actedOf, ValidParts, nameNumber};
+ghost use Rattle.instructions.specs.Hand.{frameOf, carriageOf, coreOf, actedOf, shiftedOf, lineOf, ValidParts, ValidHand, nameNumber};
 use super::hand::Hand;
 use super::hand::Paired;
+use super::hand::Shifted;
 use super::numbers::PEN_BYTES;
 use super::numbers::POINT_BYTES;
 use super::numbers::POLYGON_BYTES;
@@ -34,6 +35,7 @@ use hpgl::Edge;
 use hpgl::Pen;
 use hpgl::Polygon;
 use hpgl::Position;
+use hpgl::Segment;
 use hpgl::Settings;
 use plane::turn::turned_by;
 use reader::Coordinates;
@@ -168,9 +170,9 @@ fn refused(h: Hand, g: Polygon, number: u8) -> Paired
 }
 
 // A move outside polygon mode, to p with its location. The page points are computed only for a line.
-fn move_to(f: Frame, h: Hand, g: Polygon, p: Position, to: Point) -> Paired
-    requires { ⌜ ValidParts f h g × SmallPoint to ⌝ }
-    ensures { λ r. ⌜ ((s : Settings) → f ≡ frameOf s → to ≡ P.location s p → actedOf s r ≡ R.moveTo (coreOf s h g) p) ⌝ }
+fn move_to(f: Frame, h: Hand, p: Position, to: Point) -> Shifted
+    requires { ⌜ ValidHand f h × SmallPoint to ⌝ }
+    ensures { λ r. ⌜ ((s : Settings) (g : Polygon) → f ≡ frameOf s → to ≡ P.location s p → shiftedOf s g r ≡ R.moveTo (coreOf s h g) p) ⌝ }
 {
     let there = moved(h, p);
     let pen = h.pen;
@@ -180,11 +182,23 @@ fn move_to(f: Frame, h: Hand, g: Polygon, p: Position, to: Point) -> Paired
             let rows = f.rows;
             let a = turned_by(rows, located_in(f, position));
             let b = turned_by(rows, to);
-            return carried_out(there, g, Action::Line(a, b));
+            return Shifted {
+                hand: there,
+                segment: Segment::Line(a, b),
+                number: 0,
+            };
         }
-        return carried_out(there, g, Action::Keep);
+        return Shifted {
+            hand: there,
+            segment: Segment::Nothing,
+            number: 0,
+        };
     }
-    carried_out(there, g, Action::Keep)
+    Shifted {
+        hand: there,
+        segment: Segment::Nothing,
+        number: 0,
+    }
 }
 
 // The bytes of a point.
@@ -282,18 +296,63 @@ fn aimed(f: Frame, h: Hand, n: Coordinates) -> Position
     absolute_on(x, y, n)
 }
 
-// A pair is complete: a move to its position, if the location is in range.
-pub fn pair(f: Frame, h: Hand, g: Polygon, n: Coordinates) -> Paired
-    requires { ⌜ ValidParts f h g × SmallPair n ⌝ }
-    ensures { λ r. ⌜ ((s : Settings) → f ≡ frameOf s → actedOf s r ≡ R.pairRule (coreOf s h g) n) ⌝ }
+// A pair outside polygon mode: a move to its position, if the location is in range.
+pub fn shift(f: Frame, h: Hand, n: Coordinates) -> Shifted
+    requires { ⌜ ValidHand f h × SmallPair n ⌝ }
+    ensures { λ r. ⌜ ((s : Settings) (g : Polygon) → f ≡ frameOf s → g .mode ≡ false → shiftedOf s g r ≡ R.pairRule (coreOf s h g) n) ⌝ }
 {
     let p = aimed(f, h, n);
     let to = located_in(f, p);
     if reachable(to) {
-        if g.mode {
-            return store_point(f, h, g, p, to);
-        }
-        return move_to(f, h, g, p, to);
+        return move_to(f, h, p, to);
+    }
+    Shifted {
+        hand: h,
+        segment: Segment::Nothing,
+        number: TOO_FAR,
+    }
+}
+
+// A line to draw waits as one.
+fn line_of(s: Segment) -> Action
+    ensures { λ r. ⌜ r ≡ lineOf s ⌝ }
+{
+    match s {
+        Segment::Nothing => Action::Keep,
+        Segment::PenUp => Action::Keep,
+        Segment::Line(a, b) => Action::Line(a, b),
+    }
+}
+
+// A pair in polygon mode: a point at its position, if the location is in range.
+fn point(f: Frame, h: Hand, g: Polygon, n: Coordinates) -> Paired
+    requires { ⌜ ValidParts f h g × SmallPair n ⌝ }
+    ensures { λ r. ⌜ ((s : Settings) → f ≡ frameOf s → g .mode ≡ true → actedOf s r ≡ R.pairRule (coreOf s h g) n) ⌝ }
+{
+    let p = aimed(f, h, n);
+    let to = located_in(f, p);
+    if reachable(to) {
+        return store_point(f, h, g, p, to);
     }
     refused(h, g, TOO_FAR)
+}
+
+// A pair is complete.
+pub fn pair(f: Frame, h: Hand, g: Polygon, n: Coordinates) -> Paired
+    requires { ⌜ ValidParts f h g × SmallPair n ⌝ }
+    ensures { λ r. ⌜ ((s : Settings) → f ≡ frameOf s → actedOf s r ≡ R.pairRule (coreOf s h g) n) ⌝ }
+{
+    if g.mode {
+        return point(f, h, g, n);
+    }
+    let t = shift(f, h, n);
+    let there = t.hand;
+    let segment = t.segment;
+    let action = line_of(segment);
+    Paired {
+        hand: there,
+        polygon: g,
+        action: action,
+        number: t.number,
+    }
 }

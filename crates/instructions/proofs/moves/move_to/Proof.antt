@@ -3,8 +3,8 @@ use mathlib.Core.Path.{refl, sym, subst, ap, _∙_}
 use borrow.Author.Needs.{needs}
 use Rattle.clip.specs.Reach.{SmallPoint}
 use Rattle.plane.specs.Turn.{turnedBy}
-use Rattle.hpgl.specs.Rules.{inked, moveTo}
-use Rattle.instructions.specs.Hand.{location-in, page-in}
+use Rattle.hpgl.specs.Rules.{done, inked, moveTo}
+use Rattle.instructions.specs.Hand.{lineOf, location-in, page-in}
 use Rattle.instructions.specs.Locating.{frame-rows, hand-locatable, hand-near}
 use Rattle.instructions.proofs.moves.move_to.Statement.{statement}
 use Rattle.instructions.proofs.moves.move_to.Tie as tie
@@ -16,21 +16,19 @@ paints-requires : tie.Need-paints-requires
 paints-requires c κs = search needs
 
 located-in-requires : tie.Need-located-in-requires
-located-in-requires c κs = let s : tie.Start = search in hand-locatable (s .pre .0)
+located-in-requires c κs = let s : tie.Start = search in hand-locatable (s .pre .0 .parts)
 
 turned-by-requires : tie.Need-turned-by-requires
 turned-by-requires c κs =
     let s : tie.Start = search in
-    (frame-rows (s .pre .0), subst SmallPoint (sym (c .located-in .ensures)) (hand-near (s .pre .0)))
+    let w = s .pre .0 .parts in
+    (frame-rows w, subst SmallPoint (sym (c .located-in .ensures)) (hand-near w))
 
 turned-by-requires-2 : tie.Need-turned-by-requires-2
-turned-by-requires-2 c κs = let s : tie.Start = search in (frame-rows (s .pre .0), s .pre .1)
-
-carried-out-requires : tie.Need-carried-out-requires
-carried-out-requires c κs = search needs
+turned-by-requires-2 c κs = let s : tie.Start = search in (frame-rows (s .pre .0 .parts), s .pre .1)
 
 returns : tie.Need-returns
-unfolding moveTo inked
+unfolding moveTo inked done lineOf
 returns c =
     let l : tie.After-located-in = search in
     let u : tie.Then2 = search in
@@ -39,32 +37,23 @@ returns c =
     let k = m .before in
     let f = k .args .f in
     let from = k .args .h .position in
-    λ s e q.
-    let start = c .before .before .turned-by .ensures ∙ ap (turnedBy (f .rows)) (l .located-in .ensures ∙ location-in s from e) ∙ page-in s from e in
-    let end = c .before .turned-by2 .ensures ∙ ap (turnedBy (f .rows)) q ∙ page-in s (k .args .p) e in
-    c .carried-out .ensures s
-    ∙ simp (m .moved .ensures, start, end, t .if1 .taken, ← u .before .paints .ensures, u .if2 .taken) refl
-
-carried-out-requires-2 : tie.Need-carried-out-requires-2
-carried-out-requires-2 c κs = search needs
+    λ s g e q.
+    let start = c .before .turned-by .ensures ∙ ap (turnedBy (f .rows)) (l .located-in .ensures ∙ location-in s from e) ∙ page-in s from e in
+    let end = c .turned-by2 .ensures ∙ ap (turnedBy (f .rows)) q ∙ page-in s (k .args .p) e in
+    simp (m .moved .ensures, start, end, t .if1 .taken, ← u .before .paints .ensures, u .if2 .taken) refl
 
 returns-2 : tie.Need-returns-2
-unfolding moveTo inked
+unfolding moveTo inked done lineOf
 returns-2 c =
     let m : tie.After-moved = search in
     let t : tie.Then1 = search in
-    λ s e q.
-    c .carried-out2 .ensures s
-    ∙ simp (m .moved .ensures, t .if1 .taken, ← c .before .before .paints .ensures, c .before .if2 .left) refl
-
-carried-out-requires-3 : tie.Need-carried-out-requires-3
-carried-out-requires-3 c κs = search needs
+    λ s g e q. simp (m .moved .ensures, t .if1 .taken, ← c .before .paints .ensures, c .if2 .left) refl
 
 returns-3 : tie.Need-returns-3
-unfolding moveTo
+unfolding moveTo done lineOf
 returns-3 c =
     let m : tie.After-moved = search in
-    λ s e q. c .carried-out3 .ensures s ∙ simp (m .moved .ensures, c .before .if1 .left) refl
+    λ s g e q. simp (m .moved .ensures, c .if1 .left) refl
 
 pub move-to-spec : {M : Type 1} → statement M
 move-to-spec =
@@ -75,9 +64,6 @@ move-to-spec =
     located-in-requires
     turned-by-requires
     turned-by-requires-2
-    carried-out-requires
     returns
-    carried-out-requires-2
     returns-2
-    carried-out-requires-3
     returns-3)

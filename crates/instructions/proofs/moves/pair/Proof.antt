@@ -1,86 +1,31 @@
--- The proof of `pair`: by its tests; what a pair aims at may be located, and a location that was found in range may be turned.
-use mathlib.Core.Path.{refl, sym, _∙_}
+-- The proof of `pair`: by its test.
+use mathlib.Core.Path.{ap, _∙_}
 use borrow.Author.Needs.{needs}
-use Rattle.hpgl.specs.Rules.{goTo, pairRule}
-use Rattle.hpgl.specs.ValidFacts.{in-range-small, placed-offset}
-use Rattle.instructions.specs.Hand.{location-in}
-use Rattle.instructions.specs.Locating.{frame-axes, aim-locatable}
+use Rattle.hpgl.specs.declared.Action.{Action}
+use Rattle.hpgl.specs.declared.Acted.{Acted}
+use Rattle.instructions.specs.Hand.{coreOf}
 use Rattle.instructions.proofs.moves.pair.Statement.{statement}
 use Rattle.instructions.proofs.moves.pair.Tie as tie
 
-aimed-requires : tie.Need-aimed-requires
-aimed-requires c κs =
-    let k : tie.Start = search in
-    let w = k .pre .0 in
-    let a = frame-axes w in
-    ((a .0, a .1, k .pre .1), placed-offset (w .core .settings) (w .core .position))
-
-located-in-requires : tie.Need-located-in-requires
-located-in-requires c κs =
-    let k : tie.Start = search in
-    let w = k .pre .0 in
-    aim-locatable w (k .pre .1) (c .aimed .ensures (w .settings) (k .args .g) (w .frame))
-
-reachable-requires : tie.Need-reachable-requires
-reachable-requires c κs = search needs
-
-store-point-requires : tie.Need-store-point-requires
-store-point-requires c κs = search needs
+point-requires : tie.Need-point-requires
+point-requires c κs = search needs
 
 returns : tie.Need-returns
-unfolding pairRule goTo
-returns c =
-    let k : tie.Start = search in
-    let a : tie.After-aimed = search in
-    let l : tie.After-located-in = search in
-    let t : tie.Then1 = search in
-    λ s e.
-    let to = l .located-in .ensures ∙ location-in s (a .aimed .result) e in
-    c .store-point .ensures s e to
-    ∙ simp (← a .aimed .ensures s (k .args .g) e, ← to, ← t .before .reachable .ensures, t .if1 .taken, c .before .if2 .taken) refl
+returns c = λ s e. c .point .ensures s e (c .before .if1 .taken)
 
-move-to-requires : tie.Need-move-to-requires
-move-to-requires c κs =
-    let k : tie.Start = search in
-    let t : tie.Then1 = search in
-    (k .pre .0, in-range-small (sym (t .before .reachable .ensures) ∙ t .if1 .taken))
+shift-requires : tie.Need-shift-requires
+shift-requires c κs = let k : tie.Start = search in (record { polygon = k .args .g; parts = k .pre .0 }, k .pre .1)
+
+line-of-requires : tie.Need-line-of-requires
+line-of-requires c κs = search needs
 
 returns-2 : tie.Need-returns-2
-unfolding pairRule goTo
 returns-2 c =
     let k : tie.Start = search in
-    let a : tie.After-aimed = search in
-    let l : tie.After-located-in = search in
-    let t : tie.Then1 = search in
-    λ s e.
-    let to = l .located-in .ensures ∙ location-in s (a .aimed .result) e in
-    c .move-to .ensures s e to
-    ∙ simp (← a .aimed .ensures s (k .args .g) e, ← to, ← t .before .reachable .ensures, t .if1 .taken, c .before .if2 .left) refl
-
-refused-requires : tie.Need-refused-requires
-refused-requires c κs = search needs
-
-returns-3 : tie.Need-returns-3
-unfolding pairRule goTo
-returns-3 c =
-    let k : tie.Start = search in
-    let a : tie.After-aimed = search in
-    let l : tie.After-located-in = search in
-    λ s e.
-    let to = l .located-in .ensures ∙ location-in s (a .aimed .result) e in
-    c .refused .ensures s
-    ∙ simp (← a .aimed .ensures s (k .args .g) e, ← to, ← c .before .before .reachable .ensures, c .before .if1 .left) refl
+    let t : tie.After-shift = search in
+    let g = k .args .g in
+    let r = t .shift .result in
+    λ s e. ap (λ (a : Action). record { core = coreOf s (r .hand) g; action = a; number = r .number }) (c .line-of .ensures) ∙ t .shift .ensures s g e (t .before .if1 .left)
 
 pub pair-spec : {M : Type 1} → statement M
-pair-spec =
-    tie.close
-    (tie.spec
-    aimed-requires
-    located-in-requires
-    reachable-requires
-    store-point-requires
-    returns
-    move-to-requires
-    returns-2
-    refused-requires
-    returns-3)
+pair-spec = tie.close (tie.spec point-requires returns shift-requires line-of-requires returns-2)
