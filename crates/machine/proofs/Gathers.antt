@@ -36,6 +36,7 @@ use Rattle.hpgl.specs.Valid.{mostChords, ValidWork, Valid}
 use Rattle.hpgl.specs.Cases.{never}
 use Rattle.hpgl.specs.ValidKept.{valid-draw}
 use Rattle.machine.specs.Gather.{whole, gatheredAs, plottedOf, gatherFrom, Gathers, remainsOf, stuckOf, countAfter, withStroke, recordOf, putOf}
+use Rattle.machine.specs.Far.{before, Far, Reached}
 use Rattle.machine.specs.GatherLaws.{at-end, at-stuck, at-byte, at-refusal, at-refused, at-full, at-draw}
 use Rattle.machine.proofs.Turns.{Turn, nothing-is, quiet-turn, turn-number, turn-taken, turn-valid}
 
@@ -72,7 +73,7 @@ none-remains w at end = go (ltb at end) refl
 -- ---- whether a record is free
 
 module _ (w : Work) (k room : ℕ) where
-  used-all : (on : Bool) → stuckOf on w k room ≡ true → k ≡ room
+  pub used-all : (on : Bool) → stuckOf on w k room ≡ true → k ≡ room
   unfolding stuckOf
   used-all on = go (eqb k room) refl
     where
@@ -80,12 +81,12 @@ module _ (w : Work) (k room : ℕ) where
       go true e h = eqb-true k room e
       go false e h = never refl h
 
-  stuck-on : (on : Bool) → stuckOf on w k room ≡ true → waiting w ≡ 0 → on ≡ true
+  pub stuck-on : (on : Bool) → stuckOf on w k room ≡ true → waiting w ≡ 0 → on ≡ true
   unfolding stuckOf
   stuck-on true h z = refl
   stuck-on false h z = let l = rw (eq-eqb k room (used-all false h)) at h in absurd (omega (arith, z, ltb-true 0 (waiting w) l))
 
-  one-free : (on : Bool) → stuckOf on w k room ≡ false → (waiting w ≡ 0 → on ≡ true) → k ≡ room → ⊥
+  pub one-free : (on : Bool) → stuckOf on w k room ≡ false → (waiting w ≡ 0 → on ≡ true) → k ≡ room → ⊥
   unfolding stuckOf
   one-free true h f e = let l = rw (eq-eqb k room e) at h in never l refl
   one-free false h f e = let l = rw (eq-eqb k room e) at h in never refl (f (omega (arith, ltb-false 0 (waiting w) l)))
@@ -126,20 +127,6 @@ unfolding withStroke
 stroke-length s i zs = simp (length-set)
 
 -- ---- how far it is
-
--- marks that were stored before what f stores
-abbrev before : List Mark → Plot → Plot
-before ks f = record { state = f .state; taken = f .taken; marks = ks ++ f .marks; number = f .number }
-
--- all of it is `all`; the marks so far stand in the list, and what is left follows them
-pub record Far (on : Bool) (all : Plot) (s : List ℕ) (entry now : List ℤ) (m : State) (at count : ℕ) : Type 0 where
-  marks : List Mark
-  counted : length marks ≡ count
-  pub room : count ≤ length entry / 5
-  pub long : length now ≡ length entry
-  laid : now ≡ laidMarks marks entry
-  pub valid : Valid m
-  goes-on : all ≡ before marks (gatherFrom on m (drop at s) at (length entry / 5 - count))
 
 pub far-start : (on : Bool) (m : State) (s : List ℕ) (entry : List ℤ) (at : ℕ) → Valid m → Far on (gatherFrom on m (drop at s) at (length entry / 5)) s entry entry m at 0
 unfolding numbersOf
@@ -296,18 +283,6 @@ module _ {on : Bool} {all : Plot} {s : List ℕ} {entry now : List ℤ} {m : Sta
           ∙ (λ i. stop (state-is i) (at + 1) (number-is i)))
 
 -- ---- bytes that mean nothing yet, and then the last one that is read
-
--- the machine `next` has taken the bytes up to a place, core and store as they were, and q is what the byte there tells it
-pub record Reached (on : Bool) (all : Plot) (s : List ℕ) (entry now : List ℤ) (m : State) (at count : ℕ) (q : Next) : Type 0 where
-  pub reader : Reader
-  pub work : Work
-  pub place : ℕ
-  pub further : at ≤ place
-  pub within : place < length s
-  pub ends : q .at ≡ place + 1
-  pub step : (q .reader telling q .event) ≡ stepOf reader (getD s place 0)
-  pub idle : waiting work ≡ 0
-  pub far : Far on all s entry now (whole reader (m .core) (m .store) work) place count
 
 module _ {on : Bool} {all : Plot} {s : List ℕ} {entry now : List ℤ} {count : ℕ} (free : on ≡ true → count < length entry / 5) where
   -- one byte, and then the others

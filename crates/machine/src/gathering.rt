@@ -5,6 +5,7 @@ ghost use lib.ListN.{length, drop};
 ghost use Rattle.hpgl.specs.Plot.{refusal};
 ghost use Rattle.hpgl.specs.Valid.{Valid};
 ghost use Rattle.machine.specs.Gather as S;
+ghost use Rattle.machine.specs.Far as F;
 use super::Gathered;
 use super::Machine;
 use hpgl::Action;
@@ -22,12 +23,15 @@ use instructions::drawing::next_corner;
 use instructions::drawing::segment;
 use instructions::drawing::work_after;
 use instructions::events::end_rule;
+use instructions::hand::Hand;
 use instructions::hand::core_of;
 use instructions::hand::hand_of;
 use instructions::moves::letters;
 use instructions::moves::name_number;
 use instructions::moves::pair;
+use instructions::moves::shift;
 use instructions::numbers::LIST_FULL;
+use instructions::places::Frame;
 use instructions::places::frame_of;
 use instructions::storing::queued;
 use instructions::storing::stored;
@@ -137,6 +141,102 @@ fn stuck(on: bool, w: Work, count: usize, room: usize) -> bool
     false
 }
 
+// What moves come to: the reader, the hand, the event that is not a move's (Nothing where they ended between two bytes), the place and the count.
+struct Moved {
+    reader: Reader,
+    hand: Hand,
+    event: Event,
+    at: usize,
+    count: usize,
+}
+
+fn moved_to(reader: Reader, hand: Hand, event: Event, at: usize, count: usize) -> Moved
+    ensures { λ r. ⌜ r ≡ record { reader = reader; hand = hand; event = event; at = at; count = count } ⌝ }
+{
+    Moved {
+        reader: reader,
+        hand: hand,
+        event: event,
+        at: at,
+        count: count,
+    }
+}
+
+// Names and pairs of moves with their strokes, and refusals where they are stored, up to an event that asks for more, which is left to the caller,
+// up to the last byte, or one with no room for what it may leave.
+fn moves(
+    started: Reader,
+    core: Core,
+    frame: Frame,
+    bytes: &[u8],
+    from: usize,
+    numbers: &mut [i64],
+    before: usize,
+    on: bool,
+) -> Moved
+    requires { ⌜ F.Begun on (now bytes) (now numbers) started core frame from before ⌝ }
+    ensures { λ r. ⌜ from < r .at ⌝ }
+    ensures { λ r. ⌜ ((b : F.Begun on (now (bytes .entry)) (now (numbers .entry)) started core frame from before) → F.Came on (b .all) (now (bytes .entry)) (b .entry) (now (numbers .exit)) core (b .store) from r) ⌝ }
+{
+    let carriage = core.carriage;
+    let polygon = carriage.polygon;
+    let mode = polygon.mode;
+    let room = numbers.len() / NUMBERS;
+    let mut reader = started;
+    let mut hand = hand_of(carriage);
+    let mut at = from;
+    let mut count = before;
+    while at < bytes.len() {
+        if stuck(on, Work::Nothing, count, room) {
+            return moved_to(reader, hand, Event::Nothing, at, count);
+        }
+        let q = reader.next(bytes, at);
+        at = q.at;
+        reader = q.reader;
+        let event = q.event;
+        match event {
+            Event::Nothing => {}
+            Event::Named(op) => {
+                if 0 < name_number(mode, op) {
+                    return moved_to(reader, hand, event, at, count);
+                }
+                hand = letters(hand, op);
+            }
+            Event::Pair(n) => {
+                if mode {
+                    return moved_to(reader, hand, event, at, count);
+                }
+                if count == room {
+                    return moved_to(reader, hand, event, at, count);
+                }
+                let t = shift(frame, hand, n);
+                if 0 < t.number {
+                    return moved_to(reader, hand, event, at, count);
+                }
+                hand = t.hand;
+                let pen = hand.pen;
+                let segment = t.segment;
+                let drawn = drawn_of(frame.limits, pen.number, segment);
+                count = put(numbers, count, drawn);
+            }
+            Event::Ended(op, _) => {
+                if op < PU {
+                    return moved_to(reader, hand, event, at, count);
+                }
+            }
+            Event::Refused(k) => {
+                if on {
+                    reader = reader.passed_over();
+                    count = put_record(numbers, count, refusal_record(k, at));
+                } else {
+                    return moved_to(reader, hand, event, at, count);
+                }
+            }
+        }
+    }
+    moved_to(reader, hand, Event::Nothing, at, count)
+}
+
 // Draws while a segment waits, else takes bytes up to the next that means something, up to the last, or one with no room for what it may leave.
 // A byte that is refused ends it, or it goes on with the refusal stored.
 pub fn gather(m: State, bytes: &[u8], from: usize, numbers: &mut [i64], on: bool) -> Gathered
@@ -173,15 +273,21 @@ pub fn gather(m: State, bytes: &[u8], from: usize, numbers: &mut [i64], on: bool
             vertex = next;
             continue;
         }
-        let q = reader.next(bytes, at);
+        let whole = core_of(settings, hand, polygon);
+        let q = moves(reader, whole, frame, bytes, at, numbers, count, on);
         at = q.at;
+        count = q.count;
         reader = q.reader;
+        hand = q.hand;
         let event = q.event;
         let edges = polygon.edges;
         let mut action = Action::Keep;
         let mut number: u8 = 0;
         match event {
-            Event::Nothing => {}
+            Event::Nothing => {
+                work = Work::Nothing;
+                continue;
+            }
             Event::Named(op) => {
                 number = name_number(polygon.mode, op);
                 if number == 0 {
@@ -196,20 +302,17 @@ pub fn gather(m: State, bytes: &[u8], from: usize, numbers: &mut [i64], on: bool
                 number = t.number;
             }
             Event::Ended(op, n) => {
-                // PU, PD, PA and PR have done their work
-                if op < PU {
-                    let t = end_rule(core_of(settings, hand, polygon), op, n);
-                    let c = t.core;
-                    let k = c.carriage;
-                    settings = c.settings;
-                    frame = frame_of(settings);
-                    hand = hand_of(k);
-                    polygon = k.polygon;
-                    action = t.action;
-                    number = t.number;
-                    // no other event leaves chords
-                    vertex = first_corner(frame.rows, action, &sines);
-                }
+                let t = end_rule(core_of(settings, hand, polygon), op, n);
+                let c = t.core;
+                let k = c.carriage;
+                settings = c.settings;
+                frame = frame_of(settings);
+                hand = hand_of(k);
+                polygon = k.polygon;
+                action = t.action;
+                number = t.number;
+                // no other event leaves chords
+                vertex = first_corner(frame.rows, action, &sines);
             }
             Event::Refused(k) => {
                 number = k;

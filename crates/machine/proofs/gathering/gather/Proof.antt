@@ -1,9 +1,9 @@
 -- The proof of `gather`. The invariant is `Far` (Gathers.antt): the marks so far stand in the list, and what is left of feed or plot follows them; with it the
--- frame is that of the settings, and where a chord waits the vertex is where it begins.
+-- frame is that of the settings, and where a chord waits the vertex is where it begins. A turn that takes bytes does what moves come to, and then one event more.
 -- The measure: what waits, and for each byte left one more than can wait after it, which is at most the 720 chords of a circle.
 use borrow.Author.Needs.{needs}
 use mathlib.Core.Path.{_≡_, refl, sym, ap, subst, _∙_}
-use mathlib.Core.Bool.{true}
+use mathlib.Core.Bool.{true, false}
 use mathlib.Core.List.{List}
 use mathlib.Core.Logic.{⊎-elim}
 use Prim.Native.Nat.{ℕ, _+_, _*_, _-_, _/_, _<_}
@@ -20,6 +20,7 @@ use Rattle.reader.specs.declared.Reader.{Reader}
 use Rattle.reader.specs.declared.Event.{Event}
 use Rattle.reader.specs.declared.Step.{Step}
 use Rattle.reader.specs.Stream.{_telling_}
+use Rattle.reader.specs.Next.{isNothing}
 use Rattle.hpgl.specs.declared.Settings.{Settings}
 use Rattle.hpgl.specs.declared.Polygon.{Polygon}
 use Rattle.hpgl.specs.declared.Core.{Core}
@@ -28,6 +29,7 @@ use Rattle.hpgl.specs.declared.Action.{Action}
 use Rattle.hpgl.specs.declared.Acted.{Acted}
 use Rattle.hpgl.specs.declared.Store.{Store}
 use Rattle.hpgl.specs.declared.Work.{Work}
+use Rattle.hpgl.specs.declared.Work.the-variants.{Nothing}
 use Rattle.hpgl.specs.declared.State.{State}
 use Rattle.hpgl.specs.declared.Stroke.{Stroke}
 use Rattle.hpgl.specs.Numbers.{listFull, mostEdges}
@@ -35,7 +37,7 @@ use Rattle.hpgl.specs.Plot.{Plot, refusal}
 use Rattle.hpgl.specs.Rules.{actOn}
 use Rattle.hpgl.specs.Machine.{noEdge, waiting, stored, queued, readerAfter, drawAnswer}
 use Rattle.hpgl.specs.Segment.{segmentOf, drawnOf, segment-drawn, SmallSegment, segment-small}
-use Rattle.hpgl.specs.Valid.{Valid, ValidActed, ValidEvent, ValidAction}
+use Rattle.hpgl.specs.Valid.{Valid, ValidCore, ValidActed, ValidEvent, ValidAction}
 use Rattle.hpgl.specs.ValidFacts.{edge-small, limits-small}
 use Rattle.hpgl.specs.ReaderKept.{step-event}
 use Rattle.hpgl.specs.ValidKept.{valid-event}
@@ -46,8 +48,10 @@ use Rattle.instructions.specs.First.{place-within}
 use Rattle.instructions.specs.Corners.{segmentIn, BeginsAt, segment-waits, corner-begins, next-begins, action-begins, pair-begins}
 use Rattle.instructions.specs.Hand.{frameOf, coreOf}
 use Rattle.machine.specs.Gather.{whole, gatheredAs, gatherFrom, withStroke, recordOf}
-use Rattle.machine.proofs.Turns.{Turn, reader-on, reader-off, turn-valid, acting, none-acts, refused-acts, ended-acts, settled-acts, pair-acts, named-acts, unknown-acts}
-use Rattle.machine.proofs.Gathers.{Far, Reached, waits-most, waits-less, byte-remains, none-remains, far-start, far-free, far-fits, far-full, far-end, far-draw, far-turn, far-refusal, far-refused, far-next}
+use Rattle.machine.specs.Far.{Far, Reached, Begun, Came}
+use Rattle.machine.proofs.Turns.{Turn, reader-on, reader-off, turn-valid, acting, refused-acts, settled-acts, pair-acts, named-acts, unknown-acts}
+use Rattle.machine.proofs.Gathers.{waits-most, waits-less, byte-remains, none-remains, far-start, far-free, far-fits, far-full, far-end, far-draw, far-turn, far-refusal, far-refused}
+use Rattle.machine.proofs.Moving.{told-met}
 use Rattle.machine.proofs.gathering.gather.Statement.{statement}
 use Rattle.machine.proofs.gathering.gather.Tie as tie
 
@@ -72,7 +76,7 @@ abbrev Idle : Type 0
 Idle = tie.Else3 Inv-loop μ-loop
 
 abbrev Read : Type 0
-Read = tie.After-next Inv-loop μ-loop
+Read = tie.After-moves Inv-loop μ-loop
 
 abbrev Done : Type 0
 Done = tie.At-match-came Inv-loop μ-loop
@@ -110,11 +114,17 @@ segmented g = search
 abbrev idles : Idle → Loop
 idles e = search
 
-abbrev before : Read → Idle
-before q = search
+abbrev Cored : Type 0
+Cored = tie.After-core-of2 Inv-loop μ-loop
+
+abbrev before : Cored → Idle
+before k = search
+
+abbrev cored : Read → Cored
+cored q = search
 
 abbrev loop : Read → Loop
-loop q = idles (before q)
+loop q = idles (before (cored q))
 
 abbrev read : Done → Read
 read j = search
@@ -131,6 +141,10 @@ turning p = search
 -- the machine that the parts make
 abbrev here : Loop → State
 here l = whole (l .loop .reader) (coreOf (l .loop .settings) (l .loop .hand) (l .loop .polygon)) (l .loop .store) (l .loop .work)
+
+-- the list after moves
+abbrev stored-by : Read → List ℤ
+stored-by q = q .moves .last .1 .1 .1 .1 .1 .0
 
 -- ---- how far the loop is
 
@@ -212,42 +226,79 @@ drew d =
     ∙ (λ i. drawnOf (l .loop .inv .1 i .limits) (l .loop .hand .pen .number) (waited g i))
     ∙ sym (segment-drawn (here l))
 
--- ---- a byte
+-- ---- bytes
 
--- the machine before the last byte that is read
-reached : (q : Read) → let l = loop q in
+-- what moves begin with
+abbrev begins-moves : (k : Cored) → let l = idles (before k) in
     let s = entry l .args in
-    Reached (s .on) (All l) (s .bytes .now) (s .numbers .now) (l .loop .numbers) (here l) (l .loop .at) (l .loop .count) (q .next .result)
-reached q =
+    Begun (s .on) (s .bytes .now) (l .loop .numbers) (l .loop .reader) (k .core-of2 .result) (l .loop .frame) (l .loop .at) (l .loop .count)
+begins-moves k =
+    let e = before k in
+    let l = idles e in
+    record {
+      framed = l .loop .inv .1 ∙ ap (λ (c : Core). frameOf (c .settings)) (sym (k .core-of2 .ensures));
+      left = more e;
+      free = λ o. omega (arith, free-taken e o, ap (λ (n : ℕ). n / 5) (far l .long));
+      all = All l;
+      entry = entry l .args .numbers .now;
+      store = l .loop .store;
+      work = l .loop .work;
+      idle = idle e;
+      far = subst (λ (c : Core). Goes l (All l) (l .loop .numbers) (whole (l .loop .reader) c (l .loop .store) (l .loop .work)) (l .loop .at) (l .loop .count)) (sym (k .core-of2 .ensures)) (far l);
+    }
+
+-- and come to
+came : (q : Read) → let l = loop q in
+    let s = entry l .args in
+    Came (s .on) (All l) (s .bytes .now) (s .numbers .now) (stored-by q) (here l .core) (l .loop .store) (l .loop .at) (q .moves .result)
+came q =
+    let k = cored q in
     let l = loop q in
     let s = entry l .args in
-    subst (Reached (s .on) (All l) (s .bytes .now) (s .numbers .now) (l .loop .numbers) (here l) (l .loop .at) (l .loop .count)) (sym (q .next .ensures))
-    (far-next (free-taken (before q)) (far l) (idle (before q)) (more (before q)))
+    subst (λ (c : Core). Came (s .on) (All l) (s .bytes .now) (s .numbers .now) (stored-by q) c (l .loop .store) (l .loop .at) (q .moves .result)) (k .core-of2 .ensures) (q .moves .ensures .1 (begins-moves k))
 
-abbrev last : Read → State
-last q = whole (reached q .reader) (here (loop q) .core) (loop q .loop .store) (reached q .work)
+abbrev held : Read → Core
+held q = let l = loop q .loop in coreOf (l .settings) (q .moves .result .hand) (l .polygon)
 
-abbrev byte : Read → ℕ
-byte q = getD (entry (loop q) .args .bytes .now) (reached q .place) 0
+-- an event that is not a move's
+abbrev Other : Read → Type 0
+Other q = isNothing (q .moves .result .event) ≡ false
 
-event-valid : (q : Read) → ValidEvent (here (loop q) .core) (q .next .result .event)
-event-valid q =
-    subst (ValidEvent (here (loop q) .core)) (sym (ap (λ (x : Step). x .event) (reached q .step))) (step-event {m = last q} (byte q) (reached q .far .valid))
+-- the machine before the byte that tells it, and a record for its refusal
+met : (q : Read) → Other q → let l = loop q in
+    let s = entry l .args in
+    let r = q .moves .result in
+    Reached (s .on) (All l) (s .bytes .now) (s .numbers .now) (stored-by q) (whole (r .reader) (held q) (l .loop .store) Nothing) (l .loop .at) (r .count) (record { reader = r .reader; event = r .event; at = r .at })
+    × (s .on ≡ true → r .count < length (s .numbers .now) / 5)
+met q o = told-met _ _ (q .moves .result .event) o (came q)
+
+abbrev last : (q : Read) → Other q → State
+last q o = whole (met q o .0 .reader) (held q) (loop q .loop .store) (met q o .0 .work)
+
+abbrev byte : (q : Read) → Other q → ℕ
+byte q o = getD (entry (loop q) .args .bytes .now) (met q o .0 .place) 0
+
+core-valid : (q : Read) → Other q → ValidCore (held q)
+core-valid q o = met q o .0 .far .valid .core
+
+event-valid : (q : Read) → Other q → ValidEvent (held q) (q .moves .result .event)
+event-valid q o =
+    subst (ValidEvent (held q)) (sym (ap (λ (x : Step). x .event) (met q o .0 .step))) (step-event {m = last q o} (byte q o) (met q o .0 .far .valid))
 
 -- what the event did to the core
 abbrev act : Done → Acted
 act j = acting (j .match .settings) (j .match .hand) (j .match .polygon) (j .match .action) (j .match .number)
 
 record Did (j : Done) : Type 0 where
-  acts : act j ≡ actOn (here (loop (read j)) .core) (read j .next .result .event)
+  acts : act j ≡ actOn (held (read j)) (read j .moves .result .event)
   framed : j .match .frame ≡ frameOf (j .match .settings)
   begins : BeginsAt (j .match .frame .rows) (queued (j .match .polygon .edges) (j .match .action)) (j .match .vertex)
 
 by : (j : Done) {s : Settings} {f : Frame} {h : Hand} {g : Polygon} {v : Point} {a : Action} {n : ℕ} →
     j .match .settings ≡ s → j .match .frame ≡ f → j .match .hand ≡ h → j .match .polygon ≡ g → j .match .vertex ≡ v → j .match .action ≡ a → j .match .number ≡ n →
-    f ≡ frameOf s → BeginsAt (f .rows) (queued (g .edges) a) v → {e : Event} → read j .next .result .event ≡ e → acting s h g a n ≡ actOn (here (loop (read j)) .core) e → Did j
+    f ≡ frameOf s → BeginsAt (f .rows) (queued (g .edges) a) v → {e : Event} → read j .moves .result .event ≡ e → acting s h g a n ≡ actOn (held (read j)) e → Did j
 by j es ef eh eg ev ea en framed begins told acts = record {
-  acts = (λ i. acting (es i) (eh i) (eg i) (ea i) (en i)) ∙ acts ∙ ap (actOn (here (loop (read j)) .core)) (sym told);
+  acts = (λ i. acting (es i) (eh i) (eg i) (ea i) (en i)) ∙ acts ∙ ap (actOn (held (read j))) (sym told);
   framed = ef ∙ framed ∙ ap frameOf (sym es);
   begins = subst (λ (T : Type 0). T) (λ i. BeginsAt (sym ef i .rows) (queued (sym eg i .edges) (sym ea i)) (sym ev i)) begins;
 }
@@ -257,11 +308,9 @@ unfolding queued
 done j =
     let l = loop (read j) .loop in
     let s = l .settings in
-    let h = l .hand in
+    let h = read j .moves .result .hand in
     let g = l .polygon in
     let framed = l .inv .1 in
-    ⊎-elim
-    (λ w. by j (w .2) (w .3) (w .4) (w .5) (w .6) (w .7) (w .8) framed tt (w .1 .given .1) (none-acts s h g))
     (⊎-elim
     (λ w. by j (w .6) (w .7) (w .8) (w .9) (w .10) (w .11) (w .12) framed tt (w .1 .given .1) (named-acts s h g _ (w .3 .ensures) (w .5 .result) (w .4 .taken) (w .5 .ensures g)))
     (⊎-elim
@@ -272,21 +321,43 @@ done j =
     (subst (λ (t : Acted). BeginsAt (l .frame .rows) (queued (w .3 .result .polygon .edges) (t .action)) (l .vertex)) (sym e) (pair-begins (l .frame .rows) _ _ (l .vertex) _))
     (w .1 .given .1) (pair-acts s h g _ e))
     (⊎-elim
-    (λ w. let t = w .5 .result in
-    by j (w .14) (w .15) (w .16) (w .17) (w .18) (w .19) (w .20) (w .9 .ensures)
-    (rw (w .13 .ensures) (action-begins (w .9 .result .rows) (t .core .carriage .polygon .edges) (t .action)))
+    (λ w. let t = w .4 .result in
+    by j (w .13) (w .14) (w .15) (w .16) (w .17) (w .18) (w .19) (w .8 .ensures)
+    (rw (w .12 .ensures) (action-begins (w .8 .result .rows) (t .core .carriage .polygon .edges) (t .action)))
     (w .1 .given .1)
-    (ap (λ (to : Hand). acting (t .core .settings) to (t .core .carriage .polygon) (t .action) (t .number)) (w .10 .ensures)
-    ∙ settled-acts s h g _ _ (w .4 .ensures) (w .5 .ensures)))
-    (⊎-elim
-    (λ w. by j (w .4) (w .5) (w .6) (w .7) (w .8) (w .9) (w .10) framed tt (w .1 .given .1) (ended-acts s h g _ _ (w .3 .left)))
-    (λ w. by j (w .3) (w .4) (w .5) (w .6) (w .7) (w .8) (w .9) framed tt (w .1 .given .1) (refused-acts s h g _)))))))
+    (ap (λ (to : Hand). acting (t .core .settings) to (t .core .carriage .polygon) (t .action) (t .number)) (w .9 .ensures)
+    ∙ settled-acts s h g _ _ (w .3 .ensures) (w .4 .ensures)))
+    (λ w. by j (w .3) (w .4) (w .5) (w .6) (w .7) (w .8) (w .9) framed tt (w .1 .given .1) (refused-acts s h g _))))))
     (j .match .came)
 
-act-valid : (j : Done) → ValidActed (here (loop (read j)) .core) (act j)
+-- it is not a move's
+other : (j : Done) → Other (read j)
+unfolding isNothing
+other j =
+    ⊎-elim
+    (λ w. ap isNothing (w .1 .given .1))
+    (⊎-elim
+    (λ w. ap isNothing (w .1 .given .1))
+    (⊎-elim (λ w. ap isNothing (w .1 .given .1)) (⊎-elim (λ w. ap isNothing (w .1 .given .1)) (λ w. ap isNothing (w .1 .given .1)))))
+    (j .match .came)
+
+abbrev reached : (j : Done) → let q = read j in
+    let l = loop q in
+    let s = entry l .args in
+    let r = q .moves .result in
+    Reached (s .on) (All l) (s .bytes .now) (s .numbers .now) (stored-by q) (whole (r .reader) (held q) (l .loop .store) Nothing) (l .loop .at) (r .count) (record { reader = r .reader; event = r .event; at = r .at })
+reached j = met (read j) (other j) .0
+
+free-other : (j : Done) → let q = read j in
+    let s = entry (loop q) .args in
+    s .on ≡ true → q .moves .result .count < length (s .numbers .now) / 5
+free-other j = met (read j) (other j) .1
+
+act-valid : (j : Done) → ValidActed (held (read j)) (act j)
 act-valid j =
     let q = read j in
-    subst (ValidActed (here (loop q) .core)) (sym (done j .acts)) (valid-event (q .next .result .event) (far (loop q) .valid .core) (event-valid q))
+    let o = other j in
+    subst (ValidActed (held q)) (sym (done j .acts)) (valid-event (q .moves .result .event) (core-valid q o) (event-valid q o))
 
 -- the store, whether it was changed or not, and the action, which was looked at
 record Keeps (k : Stored) : Type 0 where
@@ -320,12 +391,13 @@ next r x = let j = did (kept r) .match in whole x (coreOf (j .settings) (j .hand
 
 turn : (r : Queued) {x : Reader} → let j = did (kept r) in
     let q = read j in
-    x ≡ readerAfter (q .next .result .reader) (j .match .number) → Turn (last q) (byte q) (q .next .result .reader telling q .next .result .event) (act j) (next r x)
+    let o = other j in
+    x ≡ readerAfter (q .moves .result .reader) (j .match .number) → Turn (last q o) (byte q o) (q .moves .result .reader telling q .moves .result .event) (act j) (next r x)
 turn r e =
     let k = kept r in
     let j = did k in
     record {
-      step = reached (read j) .step;
+      step = reached j .step;
       act = done j .acts;
       reader = e;
       core = refl;
@@ -337,27 +409,29 @@ turn r e =
 begins : (r : Queued) → let j = did (kept r) .match in BeginsAt (j .frame .rows) (r .queued .result) (j .vertex)
 begins r = let j = did (kept r) in subst (λ (w : Work). BeginsAt (j .match .frame .rows) w (j .match .vertex)) (sym (turn r refl .work)) (done j .begins)
 
-next-valid : (r : Queued) → let j = did (kept r) in Valid (next r (readerAfter (read j .next .result .reader) (j .match .number)))
-next-valid r = let q = read (did (kept r)) in turn-valid _ _ _ _ _ (turn r refl) (reached q .idle) (reached q .far .valid)
+next-valid : (r : Queued) → let j = did (kept r) in Valid (next r (readerAfter (read j .moves .result .reader) (j .match .number)))
+next-valid r = let k = reached (did (kept r)) in turn-valid _ _ _ _ _ (turn r refl) (k .idle) (k .far .valid)
 
 -- a byte that is not refused
-turned : (c : tie.Else6 Inv-loop μ-loop) → let r = c .before in
+turned : (c : tie.Else5 Inv-loop μ-loop) → let r = c .before in
     let q = read (did (kept r)) in
     let l = loop q in
-    Goes l (All l) (l .loop .numbers) (next r (q .next .result .reader)) (q .next .result .at) (l .loop .count)
+    Goes l (All l) (stored-by q) (next r (q .moves .result .reader)) (q .moves .result .at) (q .moves .result .count)
 turned c =
     let r = c .before in
-    let q = read (did (kept r)) in
-    let z : did (kept r) .match .number ≡ 0 = omega (arith, c .if6 .left) in
+    let j = did (kept r) in
+    let q = read j in
+    let k = reached j in
+    let z : j .match .number ≡ 0 = omega (arith, c .if5 .left) in
     let l = loop q in
-    subst (λ (t : ℕ). Goes l (All l) (l .loop .numbers) (next r (q .next .result .reader)) t (l .loop .count)) (sym (reached q .ends))
-    (far-turn (reached q .far) (turn r (reader-on (q .next .result .reader) z)) (reached q .idle) (reached q .within) (free-taken (before q)) z)
+    subst (λ (t : ℕ). Goes l (All l) (stored-by q) (next r (q .moves .result .reader)) t (q .moves .result .count)) (sym (k .ends))
+    (far-turn (k .far) (turn r (reader-on (q .moves .result .reader) z)) (k .idle) (k .within) (free-other j) z)
 
 -- a byte that is refused
 refused : (p : Passed) → did (kept (turning p)) .match .number ≡ 0 → ⊥
-refused p e = let t : tie.Then6 Inv-loop μ-loop = search in omega (arith, e, t .if6 .taken)
+refused p e = let t : tie.Then5 Inv-loop μ-loop = search in omega (arith, e, t .if5 .taken)
 
-passed : (p : Passed) → let j = did (kept (turning p)) in p .passed-over .result ≡ readerAfter (read j .next .result .reader) (j .match .number)
+passed : (p : Passed) → let j = did (kept (turning p)) in p .passed-over .result ≡ readerAfter (read j .moves .result .reader) (j .match .number)
 passed p = p .passed-over .ensures ∙ reader-off _ (refused p)
 
 -- and stored
@@ -368,31 +442,38 @@ stored-on : (c : tie.After-put-record Inv-loop μ-loop) → let p = putting c in
     let r = turning p in
     let q = read (did (kept r)) in
     let l = loop q in
-    Goes l (All l) (c .put-record .last .0) (next r (p .passed-over .result)) (q .next .result .at) (c .put-record .result)
+    Goes l (All l) (c .put-record .last .0) (next r (p .passed-over .result)) (q .moves .result .at) (c .put-record .result)
 stored-on c =
     let p = putting c in
-    let t : tie.Then7 Inv-loop μ-loop = search in
+    let t : tie.Then6 Inv-loop μ-loop = search in
     let k : tie.After-refusal-record Inv-loop μ-loop = search in
     let r = turning p in
-    let q = read (did (kept r)) in
+    let j = did (kept r) in
+    let q = read j in
     let l = loop q in
-    let n = did (kept r) .match .number in
-    let e = k .refusal-record .ensures ∙ ap (λ (t : ℕ). recordOf (refusal n t)) (reached q .ends) in
-    subst (λ (t : ℕ). Goes l (All l) (c .put-record .last .0) (next r (p .passed-over .result)) t (c .put-record .result)) (sym (reached q .ends))
-    (far-refusal (reached q .far) (turn r (passed p)) (reached q .idle) (reached q .within) (refused p) (t .if7 .taken) (free-taken (before q) (t .if7 .taken))
-    (c .put-record .ensures .1 ∙ ap (λ (x : Stroke). withStroke x (l .loop .count * 5) (l .loop .numbers)) e) (c .put-record .ensures .0))
+    let n = j .match .number in
+    let m = reached j in
+    let e = k .refusal-record .ensures ∙ ap (λ (t : ℕ). recordOf (refusal n t)) (m .ends) in
+    subst (λ (t : ℕ). Goes l (All l) (c .put-record .last .0) (next r (p .passed-over .result)) t (c .put-record .result)) (sym (m .ends))
+    (far-refusal (m .far) (turn r (passed p)) (m .idle) (m .within) (refused p) (t .if6 .taken) (free-other j (t .if6 .taken))
+    (c .put-record .ensures .1 ∙ ap (λ (x : Stroke). withStroke x (q .moves .result .count * 5) (stored-by q)) e) (c .put-record .ensures .0))
 
 -- what an instruction that ends does
 abbrev ending : tie.After-end-rule Inv-loop μ-loop → Read
 ending t = search
 
-settled : (t : tie.After-end-rule Inv-loop μ-loop) → ValidActed (here (loop (ending t)) .core) (t .end-rule .result)
+ends-other : (t : tie.After-end-rule Inv-loop μ-loop) → Other (ending t)
+unfolding isNothing
+ends-other t = let n : tie.After-event3 Inv-loop μ-loop = search in ap isNothing (n .event3 .given .1)
+
+settled : (t : tie.After-end-rule Inv-loop μ-loop) → ValidActed (held (ending t)) (t .end-rule .result)
 settled t =
     let q = ending t in
+    let o = ends-other t in
     let n : tie.After-event3 Inv-loop μ-loop = search in
     let l = loop q .loop in
-    let e = settled-acts (l .settings) (l .hand) (l .polygon) _ _ (t .before .core-of2 .ensures) (t .end-rule .ensures) ∙ ap (actOn (here (loop q) .core)) (sym (n .event3 .given .1)) in
-    subst (ValidActed (here (loop q) .core)) (sym e) (valid-event (q .next .result .event) (far (loop q) .valid .core) (event-valid q))
+    let e = settled-acts (l .settings) (q .moves .result .hand) (l .polygon) _ _ (t .before .core-of3 .ensures) (t .end-rule .ensures) ∙ ap (actOn (held q)) (sym (n .event3 .given .1)) in
+    subst (ValidActed (held q)) (sym e) (valid-event (q .moves .result .event) (core-valid q o) (event-valid q o))
 
 -- ---- the needs
 
@@ -526,11 +607,29 @@ loop-again c =
       rw (c .work-after .ensures, n .next-corner .ensures) (next-begins (l .loop .frame .rows) (l .loop .work)),
     )
 
-next-requires : tie.Need-next-requires Inv-loop μ-loop
-next-requires c κs = search needs
+core-of-requires-2 : tie.Need-core-of-requires-2 Inv-loop μ-loop
+core-of-requires-2 c κs = search needs
+
+moves-requires : tie.Need-moves-requires Inv-loop μ-loop
+moves-requires c κs = let k : Cored = search in begins-moves k
 
 enum-told : tie.Need-enum-told Inv-loop μ-loop
 enum-told c = search needs
+
+-- moves ended between two bytes
+loop-less-2 : tie.Need-loop-less-2 Inv-loop μ-loop
+unfolding waiting
+loop-less-2 c = let q : Read = search in omega (arith, q .moves .ensures .0, more (before (cored q)))
+
+loop-again-2 : tie.Need-loop-again-2 Inv-loop μ-loop
+loop-again-2 c =
+    let q : Read = search in
+    let e : tie.After-enum-told Inv-loop μ-loop = search in
+    let l = loop q in
+    let s = entry l .args in
+    let r = q .moves .result in
+    let f = subst (λ (x : Event). Came (s .on) (All l) (s .bytes .now) (s .numbers .now) (stored-by q) (here l .core) (l .loop .store) (l .loop .at) (record { reader = r .reader; hand = r .hand; event = x; at = r .at; count = r .count })) (e .enum-told .given .1) (came q) in
+    (again l f, l .loop .inv .1, tt)
 
 enum-known-event : tie.Need-enum-known-event Inv-loop μ-loop
 enum-known-event c = search needs
@@ -545,24 +644,30 @@ enum-known-event-2 : tie.Need-enum-known-event-2 Inv-loop μ-loop
 enum-known-event-2 c = search needs
 
 pair-requires : tie.Need-pair-requires Inv-loop μ-loop
+unfolding isNothing
 pair-requires c κs =
     let q : Read = search in
-    let l = loop q in (
-      record { settings = l .loop .settings; frame = l .loop .inv .1; core = far l .valid .core },
-      subst (ValidEvent (here l .core)) (c .before .event2 .given .1) (event-valid q),
+    let l = loop q in
+    let told = c .before .event2 .given .1 in
+    let o = ap isNothing told in (
+      record { settings = l .loop .settings; frame = l .loop .inv .1; core = core-valid q o },
+      subst (ValidEvent (held q)) told (event-valid q o),
     )
 
 enum-known-event-3 : tie.Need-enum-known-event-3 Inv-loop μ-loop
 enum-known-event-3 c = search needs
 
-core-of-requires-2 : tie.Need-core-of-requires-2 Inv-loop μ-loop
-core-of-requires-2 c κs = search needs
+core-of-requires-3 : tie.Need-core-of-requires-3 Inv-loop μ-loop
+core-of-requires-3 c κs = search needs
 
 end-rule-requires : tie.Need-end-rule-requires Inv-loop μ-loop
+unfolding isNothing
 end-rule-requires c κs =
     let q : Read = search in
     let e : tie.After-event3 Inv-loop μ-loop = search in
-    rw (c .core-of2 .ensures) (far (loop q) .valid .core, subst (ValidEvent (here (loop q) .core)) (e .event3 .given .1) (event-valid q) .0 .numbers)
+    let told = e .event3 .given .1 in
+    let o = ap isNothing told in
+    rw (c .core-of3 .ensures) (core-valid q o, subst (ValidEvent (held q)) told (event-valid q o) .0 .numbers)
 
 frame-of-requires-2 : tie.Need-frame-of-requires-2 Inv-loop μ-loop
 frame-of-requires-2 c κs = let t : tie.After-end-rule Inv-loop μ-loop = search in settled t .core .settings
@@ -598,7 +703,7 @@ enum-known-action : tie.Need-enum-known-action Inv-loop μ-loop
 enum-known-action c = search needs
 
 cast-k : tie.Need-cast-k Inv-loop μ-loop
-cast-k c = let j : Done = search in omega (arith, far (loop (read j)) .valid .core .polygon .edges)
+cast-k c = let j : Done = search in omega (arith, core-valid (read j) (other j) .polygon .edges)
 
 mul-e-2 : tie.Need-mul-e-2 Inv-loop μ-loop
 mul-e-2 c = record { fits = omega (arith, joined (c .before)) }
@@ -623,65 +728,66 @@ passed-over-requires c κs = search needs
 
 refusal-record-requires : tie.Need-refusal-record-requires Inv-loop μ-loop
 refusal-record-requires c κs =
-    let t : tie.Then7 Inv-loop μ-loop = search in
-    let q = read (did (kept (turning (t .before)))) in
-    let g = entry (loop q) .good .1 .0 .1 in
-    omega (arith, g, reached q .within, reached q .ends)
+    let t : tie.Then6 Inv-loop μ-loop = search in
+    let j = did (kept (turning (t .before))) in
+    let g = entry (loop (read j)) .good .1 .0 .1 in
+    omega (arith, g, reached j .within, reached j .ends)
 
 put-record-requires : tie.Need-put-record-requires Inv-loop μ-loop
 put-record-requires c κs =
-    let t : tie.Then7 Inv-loop μ-loop = search in
-    let q = read (did (kept (turning (t .before)))) in
-    far-fits (far (loop q)) (free-taken (before q) (t .if7 .taken))
+    let t : tie.Then6 Inv-loop μ-loop = search in
+    let j = did (kept (turning (t .before))) in
+    far-fits (reached j .far) (free-other j (t .if6 .taken))
 
-loop-less-2 : tie.Need-loop-less-2 Inv-loop μ-loop
-loop-less-2 c =
+loop-less-3 : tie.Need-loop-less-3 Inv-loop μ-loop
+loop-less-3 c =
     let r = turning (putting (c .before)) in
-    let q = read (did (kept r)) in
-    omega (arith, reached q .within, reached q .further, reached q .ends, waits-most (r .queued .result) (next-valid r .work))
+    let k = reached (did (kept r)) in
+    omega (arith, k .within, k .further, k .ends, waits-most (r .queued .result) (next-valid r .work))
 
-loop-again-2 : tie.Need-loop-again-2 Inv-loop μ-loop
-loop-again-2 c =
+loop-again-3 : tie.Need-loop-again-3 Inv-loop μ-loop
+loop-again-3 c =
     let r = turning (putting (c .before)) in
     let j = did (kept r) in
     (again (loop (read j)) (stored-on (c .before)), done j .framed, begins r)
 
-core-of-requires-3 : tie.Need-core-of-requires-3 Inv-loop μ-loop
-core-of-requires-3 c κs = search needs
+core-of-requires-4 : tie.Need-core-of-requires-4 Inv-loop μ-loop
+core-of-requires-4 c κs = search needs
 
 gathered-requires-2 : tie.Need-gathered-requires-2 Inv-loop μ-loop
 gathered-requires-2 c κs = search needs
 
 same-length-2 : tie.Need-same-length-2 Inv-loop μ-loop
-same-length-2 c = let e : tie.Else7 Inv-loop μ-loop = search in far (loop (read (did (kept (turning (e .before)))))) .long
+same-length-2 c = let e : tie.Else6 Inv-loop μ-loop = search in reached (did (kept (turning (e .before)))) .far .long
 
 returns-2 : tie.Need-returns-2 Inv-loop μ-loop
 returns-2 c =
-    let e : tie.Else7 Inv-loop μ-loop = search in
-    let k : tie.After-core-of3 Inv-loop μ-loop = search in
+    let e : tie.Else6 Inv-loop μ-loop = search in
+    let k : tie.After-core-of4 Inv-loop μ-loop = search in
     let p = e .before in
     let r = turning p in
-    let q = read (did (kept r)) in
-    let f = far-refused (reached q .far) (turn r (passed p)) (reached q .idle) (reached q .within) (refused p) (e .if7 .left) in (
+    let j = did (kept r) in
+    let m = reached j in
+    let f = far-refused (m .far) (turn r (passed p)) (m .idle) (m .within) (refused p) (e .if6 .left) in (
       c .gathered2 .ensures
-          ∙ (λ i. gatheredAs (whole (p .passed-over .result) (k .core-of3 .ensures i) (kept r .match2 .store) (r .queued .result)) (reached q .ends i) (loop q .loop .count) (did (kept r) .match .number))
+          ∙ (λ i. gatheredAs (whole (p .passed-over .result) (k .core-of4 .ensures i) (kept r .match2 .store) (r .queued .result)) (m .ends i) (read j .moves .result .count) (j .match .number))
           ∙ f .0,
       f .1,
     )
 
-loop-less-3 : tie.Need-loop-less-3 Inv-loop μ-loop
-loop-less-3 c =
+loop-less-4 : tie.Need-loop-less-4 Inv-loop μ-loop
+loop-less-4 c =
     let r = c .before in
-    let q = read (did (kept r)) in
-    omega (arith, reached q .within, reached q .further, reached q .ends, waits-most (r .queued .result) (next-valid r .work))
+    let k = reached (did (kept r)) in
+    omega (arith, k .within, k .further, k .ends, waits-most (r .queued .result) (next-valid r .work))
 
-loop-again-3 : tie.Need-loop-again-3 Inv-loop μ-loop
-loop-again-3 c =
+loop-again-4 : tie.Need-loop-again-4 Inv-loop μ-loop
+loop-again-4 c =
     let j = did (kept (c .before)) in
     (again (loop (read j)) (turned c), done j .framed, begins (c .before))
 
-core-of-requires-4 : tie.Need-core-of-requires-4 Inv-loop μ-loop
-core-of-requires-4 c κs = search needs
+core-of-requires-5 : tie.Need-core-of-requires-5 Inv-loop μ-loop
+core-of-requires-5 c κs = search needs
 
 gathered-requires-3 : tie.Need-gathered-requires-3 Inv-loop μ-loop
 gathered-requires-3 c κs = search needs
@@ -693,10 +799,10 @@ returns-3 : tie.Need-returns-3 Inv-loop μ-loop
 returns-3 c =
     let l : Loop = search in
     let e : tie.Else1 Inv-loop μ-loop = search in
-    let p : tie.After-core-of4 Inv-loop μ-loop = search in
+    let p : tie.After-core-of5 Inv-loop μ-loop = search in
     let n = none-remains (l .loop .work) _ _ (sym (e .before .remains .ensures) ∙ e .if1 .left) in
     let f = far-end (far l) (n .0) (n .1) in
-    let k = ap (λ (k : Core). gatheredAs (whole (l .loop .reader) k (l .loop .store) (l .loop .work)) (l .loop .at) (l .loop .count) 0) (p .core-of4 .ensures) in
+    let k = ap (λ (k : Core). gatheredAs (whole (l .loop .reader) k (l .loop .store) (l .loop .work)) (l .loop .at) (l .loop .count) 0) (p .core-of5 .ensures) in
     (c .gathered3 .ensures ∙ k ∙ f .0, f .1)
 
 pub gather-spec : {M : Type 1} → statement M
@@ -729,15 +835,18 @@ gather-spec =
     work-after-requires
     loop-less
     loop-again
-    next-requires
+    core-of-requires-2
+    moves-requires
     enum-told
+    loop-less-2
+    loop-again-2
     enum-known-event
     name-number-requires
     letters-requires
     enum-known-event-2
     pair-requires
     enum-known-event-3
-    core-of-requires-2
+    core-of-requires-3
     end-rule-requires
     frame-of-requires-2
     hand-of-requires-2
@@ -758,15 +867,15 @@ gather-spec =
     passed-over-requires
     refusal-record-requires
     put-record-requires
-    loop-less-2
-    loop-again-2
-    core-of-requires-3
-    gathered-requires-2
-    same-length-2
-    returns-2
     loop-less-3
     loop-again-3
     core-of-requires-4
+    gathered-requires-2
+    same-length-2
+    returns-2
+    loop-less-4
+    loop-again-4
+    core-of-requires-5
     gathered-requires-3
     same-length-3
     returns-3)
