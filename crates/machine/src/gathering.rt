@@ -181,13 +181,13 @@ fn moves(
     let carriage = core.carriage;
     let polygon = carriage.polygon;
     let mode = polygon.mode;
-    let room = numbers.len() / NUMBERS;
+    let most = numbers.len() / NUMBERS;
     let mut reader = started;
     let mut hand = hand_of(carriage);
     let mut at = from;
     let mut count = before;
     while at < bytes.len() {
-        if stuck(on, Work::Nothing, count, room) {
+        if stuck(on, Work::Nothing, count, most) {
             return moved_to(reader, hand, Event::Nothing, at, count);
         }
         let q = reader.next(bytes, at);
@@ -206,7 +206,7 @@ fn moves(
                 if mode {
                     return moved_to(reader, hand, event, at, count);
                 }
-                if count == room {
+                if count == most {
                     return moved_to(reader, hand, event, at, count);
                 }
                 let t = shift(frame, hand, n);

@@ -38,14 +38,14 @@ use Rattle.machine.proofs.gathering.moves.Statement.{statement}
 use Rattle.machine.proofs.gathering.moves.Tie as tie
 
 abbrev Inv-loop : tie.InvT-loop
-Inv-loop frame bytes from numbers₀ before on mode room reader₀ hand₀ at₀ count₀ numbers reader hand at count =
+Inv-loop frame bytes from numbers₀ before on mode most reader₀ hand₀ at₀ count₀ numbers reader hand at count =
     ((b : Sets on bytes numbers₀ reader₀ hand₀ mode frame from before) →
     Going on (b .begun .all) bytes (b .begun .entry) numbers reader (coreOf (b .core .settings) hand (b .core .carriage .polygon)) (b .begun .store) from at count)
     × (from ≤ at)
     × (from ≡ at → on ≡ true → count < length numbers₀ / 5)
 
 abbrev μ-loop : tie.MeasureT-loop
-μ-loop frame bytes from numbers₀ before on mode room reader₀ hand₀ at₀ count₀ numbers reader hand at count = length bytes - at
+μ-loop frame bytes from numbers₀ before on mode most reader₀ hand₀ at₀ count₀ numbers reader hand at count = length bytes - at
 
 -- ---- the places of a turn
 
@@ -156,21 +156,27 @@ left q {e} told h f =
     let l = loop q in
     let k = reached q (known l) in
     let n = q .next .result in
-    subst (Post l (l .loop .numbers)) (sym f)
-    (omega (arith, k .further, k .ends, l .loop .inv .1), λ b.
-    told-other _ _ e h
-    ((subst (λ (x : Event). Reached (entry l .args .on) (b .all) (entry l .args .bytes .now) (b .entry) (l .loop .numbers) (whole (n .reader) (core l (own l b) (l .loop .hand)) (b .store) Nothing) (entry l .args .from) (l .loop .count) (record { reader = n .reader; event = x; at = n .at })) told
-    (reached-from (reached q (own l b)) refl refl (l .loop .inv .1))), frees q (own l b)))
+    subst (Post l (l .loop .numbers)) (sym f) (
+      omega (arith, k .further, k .ends, l .loop .inv .1),
+      λ b.
+          told-other _ _ e h (
+            (subst (λ (x : Event). Reached (entry l .args .on) (b .all) (entry l .args .bytes .now) (b .entry) (l .loop .numbers) (whole (n .reader) (core l (own l b) (l .loop .hand)) (b .store) Nothing) (entry l .args .from) (l .loop .count) (record { reader = n .reader; event = x; at = n .at })) told
+                (reached-from (reached q (own l b)) refl refl (l .loop .inv .1))),
+            frees q (own l b),
+          ),
+    )
 
 -- between two bytes
 stopped : (l : Loop) → entry l .args .from < l .loop .at → {r : Moved} →
     r ≡ record { reader = l .loop .reader; hand = l .loop .hand; event = event.Nothing; at = l .loop .at; count = l .loop .count } →
     Post l (l .loop .numbers) r
 stopped l h f =
-    subst (Post l (l .loop .numbers)) (sym f)
-    (h, λ b.
-    let g = going l (own l b) in
-    subst (λ (w : Work). Goes l (own l b) (l .loop .numbers) (whole (l .loop .reader) (core l (own l b) (l .loop .hand)) (b .store) w) (l .loop .at) (l .loop .count)) (g .turned h) (g .far))
+    subst (Post l (l .loop .numbers)) (sym f) (
+      h,
+      λ b.
+          let g = going l (own l b) in
+          subst (λ (w : Work). Goes l (own l b) (l .loop .numbers) (whole (l .loop .reader) (core l (own l b) (l .loop .hand)) (b .store) w) (l .loop .at) (l .loop .count)) (g .turned h) (g .far),
+    )
 
 -- ---- after a turn
 
@@ -247,8 +253,7 @@ hand-of-requires c κs = search needs
 
 loop-holds : tie.Need-loop-holds Inv-loop μ-loop
 loop-holds c =
-    let s : tie.Start Inv-loop μ-loop = search in
-    (
+    let s : tie.Start Inv-loop μ-loop = search in (
       λ b. record {
         work = b .begun .work;
         idle = b .begun .idle;
@@ -369,8 +374,7 @@ shift-requires c κs =
     let q : Read = search in
     let p : tie.After-event2 Inv-loop μ-loop = search in
     let l = loop q in
-    let b = known l in
-    (
+    let b = known l in (
       record { polygon = b .core .carriage .polygon; parts = record { settings = b .core .settings; frame = b .begun .framed; core = going l b .far .valid .core } },
       subst (ValidEvent (core l b (l .loop .hand))) (p .event2 .given .1) (event-valid q),
     )
@@ -396,8 +400,7 @@ drawn-of-requires c κs =
     let t = drawn e in
     let q = shifts t in
     let l = loop q in
-    let b = known l in
-    (
+    let b = known l in (
       subst SmallRect (sym (ap (λ (f : Frame). f .limits) (b .begun .framed))) (limits-small (going l b .far .valid .core .settings)),
       next-small (reached q b) (core l b (t .shift .result .hand)) (t .shift .result .segment) (shift-acts e b),
     )
