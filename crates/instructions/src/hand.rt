@@ -1,6 +1,7 @@
 // The parts of a core that a loop over bytes keeps apart: its settings, the polygon, and a hand, which is the rest of the carriage.
 ghost use mathlib.Core.Path.{_≡_};
 ghost use Rattle.instructions.specs.Hand.{handOf, coreOf};
+use clip::Point;
 use hpgl::Action;
 use hpgl::Carriage;
 use hpgl::Core;
@@ -17,9 +18,10 @@ pub struct Hand {
     pub relative: bool,
 }
 
-// What a pair outside polygon mode does: the new hand, the segment to draw, and 01's number (0 for none).
+// What a pair outside polygon mode does: the new hand and the location where it is, the segment to draw, and 01's number (0 for none).
 pub struct Shifted {
     pub hand: Hand,
+    pub here: Point,
     pub segment: Segment,
     pub number: u8,
 }

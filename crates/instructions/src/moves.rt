@@ -12,7 +12,7 @@ ghost use Rattle.hpgl.specs.Numbers.{polygonBytes, mostEdges};
 ghost use Rattle.hpgl.specs.Place as P;
 ghost use Rattle.hpgl.specs.Rules as R;
 ghost use Rattle.hpgl.specs.Valid.{LocatablePosition, ValidCore};
-ghost use Rattle.instructions.specs.Hand.{frameOf, carriageOf, coreOf, actedOf, shiftedOf, lineOf, ValidParts, ValidHand, nameNumber};
+ghost use Rattle.instructions.specs.Hand.{frameOf, carriageOf, coreOf, actedOf, shiftedOf, lineOf, locationIn, ValidParts, ValidHand, nameNumber};
 use super::hand::Hand;
 use super::hand::Paired;
 use super::hand::Shifted;
@@ -170,32 +170,35 @@ fn refused(h: Hand, g: Polygon, number: u8) -> Paired
 }
 
 // A move outside polygon mode, to p with its location. The page points are computed only for a line.
-fn move_to(f: Frame, h: Hand, p: Position, to: Point) -> Shifted
-    requires { ⌜ ValidHand f h × SmallPoint to ⌝ }
+fn move_to(f: Frame, h: Hand, here: Point, p: Position, to: Point) -> Shifted
+    requires { ⌜ ValidHand f h × SmallPoint to × (here ≡ locationIn f (h .position)) ⌝ }
     ensures { λ r. ⌜ ((s : Settings) (g : Polygon) → f ≡ frameOf s → to ≡ P.location s p → shiftedOf s g r ≡ R.moveTo (coreOf s h g) p) ⌝ }
+    ensures { λ r. ⌜ (r .here ≡ to) × (r .hand .position ≡ p) ⌝ }
 {
     let there = moved(h, p);
     let pen = h.pen;
     if pen.down {
         if paints(pen) {
-            let position = h.position;
             let rows = f.rows;
-            let a = turned_by(rows, located_in(f, position));
+            let a = turned_by(rows, here);
             let b = turned_by(rows, to);
             return Shifted {
                 hand: there,
+                here: to,
                 segment: Segment::Line(a, b),
                 number: 0,
             };
         }
         return Shifted {
             hand: there,
+            here: to,
             segment: Segment::Nothing,
             number: 0,
         };
     }
     Shifted {
         hand: there,
+        here: to,
         segment: Segment::Nothing,
         number: 0,
     }
@@ -296,18 +299,20 @@ fn aimed(f: Frame, h: Hand, n: Coordinates) -> Position
     absolute_on(x, y, n)
 }
 
-// A pair outside polygon mode: a move to its position, if the location is in range.
-pub fn shift(f: Frame, h: Hand, n: Coordinates) -> Shifted
-    requires { ⌜ ValidHand f h × SmallPair n ⌝ }
+// A pair outside polygon mode: a move to its position, if the location is in range. The location where the hand is comes along, found once for two moves.
+pub fn shift(f: Frame, h: Hand, here: Point, n: Coordinates) -> Shifted
+    requires { ⌜ ValidHand f h × SmallPair n × (here ≡ locationIn f (h .position)) ⌝ }
     ensures { λ r. ⌜ ((s : Settings) (g : Polygon) → f ≡ frameOf s → g .mode ≡ false → shiftedOf s g r ≡ R.pairRule (coreOf s h g) n) ⌝ }
+    ensures { λ r. ⌜ r .here ≡ locationIn f (r .hand .position) ⌝ }
 {
     let p = aimed(f, h, n);
     let to = located_in(f, p);
     if reachable(to) {
-        return move_to(f, h, p, to);
+        return move_to(f, h, here, p, to);
     }
     Shifted {
         hand: h,
+        here: here,
         segment: Segment::Nothing,
         number: TOO_FAR,
     }
@@ -345,7 +350,8 @@ pub fn pair(f: Frame, h: Hand, g: Polygon, n: Coordinates) -> Paired
     if g.mode {
         return point(f, h, g, n);
     }
-    let t = shift(f, h, n);
+    let position = h.position;
+    let t = shift(f, h, located_in(f, position), n);
     let there = t.hand;
     let segment = t.segment;
     let action = line_of(segment);

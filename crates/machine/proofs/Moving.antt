@@ -5,7 +5,7 @@ use mathlib.Core.Bool.{Bool, true, false, true≢false}
 use mathlib.Core.List.{List}
 use Prim.Native.Nat.{ℕ, _+_, _*_, _/_, _≤_, _<_}
 use native.Mathlib.Omega.{arith}
-use lib.Dec.{T}
+use lib.Dec.{T, eqb}
 use lib.IntN.{ℤ}
 use lib.ListN.{length, getD}
 use Rattle.reader.specs.declared.Reader.{Reader}
@@ -15,9 +15,11 @@ use Rattle.reader.specs.declared.Step.{Step}
 use Rattle.reader.specs.declared.Next.{Next}
 use Rattle.reader.specs.Step.{passedOver}
 use Rattle.reader.specs.Stream.{_telling_}
+use Rattle.reader.specs.Table.{PU, PD, PA, PR}
 use Rattle.reader.specs.Next.{isNothing}
 use Rattle.reader.specs.Sizes.{isCause, Caused}
 use Rattle.reader.specs.Laws.{cause-law}
+use Rattle.hpgl.specs.declared.Carriage.{Carriage}
 use Rattle.hpgl.specs.declared.Core.{Core}
 use Rattle.hpgl.specs.declared.Acted.{Acted}
 use Rattle.hpgl.specs.declared.Action.the-variants.{Keep}
@@ -29,8 +31,9 @@ use Rattle.hpgl.specs.declared.Stroke.{Stroke}
 use Rattle.hpgl.specs.declared.Drawn.{Drawn}
 use Rattle.hpgl.specs.declared.Segment.{Segment}
 use Rattle.hpgl.specs.declared.Segment.the-variants as segment
+use Rattle.hpgl.specs.Cases.{pick}
 use Rattle.hpgl.specs.Place.{limits}
-use Rattle.hpgl.specs.Rules.{refuse, actOn}
+use Rattle.hpgl.specs.Rules.{refuse, letters, actOn}
 use Rattle.hpgl.specs.Machine.{waiting, stored, queued, readerAfter, workAfter, drawAnswer}
 use Rattle.hpgl.specs.Segment.{workSegment, segmentOf, drawnOf, segment-drawn, SmallSegment, segment-small}
 use Rattle.hpgl.specs.Plot.{Plot, refusal}
@@ -41,6 +44,13 @@ use Rattle.machine.specs.Gather.{whole, countAfter, withStroke, recordOf
 use Rattle.machine.specs.Far.{Far, Reached, Begun, Told}
 use Rattle.machine.proofs.Turns.{Turn, reader-off, turn-valid}
 use Rattle.machine.proofs.Gathers.{far-draw, far-turn, far-refusal}
+
+-- a name leaves the carriage where it is
+pub letters-position : (k : Carriage) (op : ℕ) → letters k op .position ≡ k .position
+unfolding letters
+letters-position k op =
+    let P : Carriage → Type 0 = λ x. x .position ≡ k .position in
+    pick P (eqb op PU) refl (pick P (eqb op PD) refl (pick P (eqb op PA) refl (pick P (eqb op PR) refl refl)))
 
 -- what the loop begins with, of any core with this hand and mode
 pub record Sets (on : Bool) (s : List ℕ) (now : List ℤ) (r : Reader) (h : Hand) (mode : Bool) (f : Frame) (from count : ℕ) : Type 0 where

@@ -33,6 +33,7 @@ use instructions::moves::shift;
 use instructions::numbers::LIST_FULL;
 use instructions::places::Frame;
 use instructions::places::frame_of;
+use instructions::places::located_in;
 use instructions::storing::queued;
 use instructions::storing::stored;
 use instructions::storing::waiting;
@@ -184,6 +185,8 @@ fn moves(
     let most = numbers.len() / NUMBERS;
     let mut reader = started;
     let mut hand = hand_of(carriage);
+    let position = carriage.position;
+    let mut here = located_in(frame, position);
     let mut at = from;
     let mut count = before;
     while at < bytes.len() {
@@ -209,11 +212,12 @@ fn moves(
                 if count == most {
                     return moved_to(reader, hand, event, at, count);
                 }
-                let t = shift(frame, hand, n);
+                let t = shift(frame, hand, here, n);
                 if 0 < t.number {
                     return moved_to(reader, hand, event, at, count);
                 }
                 hand = t.hand;
+                here = t.here;
                 let pen = hand.pen;
                 let segment = t.segment;
                 let drawn = drawn_of(frame.limits, pen.number, segment);

@@ -8,12 +8,14 @@ use native.Mathlib.Omega.{arith}
 use lib.IntN.{ℤ}
 use lib.ListN.{length, getD}
 use Rattle.clip.specs.Reach.{SmallRect}
+use Rattle.clip.specs.declared.Point.{Point}
 use Rattle.reader.specs.declared.Reader.{Reader}
 use Rattle.reader.specs.declared.Event.{Event}
 use Rattle.reader.specs.declared.Event.the-variants as event
 use Rattle.reader.specs.declared.Step.{Step}
 use Rattle.reader.specs.declared.Next.{Next}
 use Rattle.reader.specs.Next.{isNothing}
+use Rattle.hpgl.specs.declared.Carriage.{Carriage}
 use Rattle.hpgl.specs.declared.Core.{Core}
 use Rattle.hpgl.specs.declared.Work.{Work}
 use Rattle.hpgl.specs.declared.Work.the-variants.{Nothing}
@@ -27,25 +29,27 @@ use Rattle.hpgl.specs.ValidFacts.{limits-small}
 use Rattle.hpgl.specs.ReaderKept.{step-event}
 use Rattle.instructions.specs.declared.places.Frame.{Frame}
 use Rattle.instructions.specs.declared.hand.Hand.{Hand}
-use Rattle.instructions.specs.Hand.{frameOf, coreOf, lineOf, nameNumber}
+use Rattle.instructions.specs.Hand.{frameOf, coreOf, lineOf, nameNumber, handOf, carriageOf, locationIn}
+use Rattle.instructions.specs.Locating.{hand-locatable}
 use Rattle.machine.specs.declared.gathering.Moved.{Moved}
 use Rattle.machine.specs.Gather.{whole, stuckOf}
 use Rattle.machine.specs.Far.{Far, Reached, Begun, Came}
 use Rattle.machine.proofs.Turns.{none-acts, ended-acts, named-acts}
 use Rattle.machine.proofs.Gathers.{used-all, stuck-on, one-free, far-fits, far-next}
-use Rattle.machine.proofs.Moving.{Sets, Going, going-on, told-other, reached-from, doing, next-kept, next-small, next-drawn, next-refusal}
+use Rattle.machine.proofs.Moving.{letters-position, Sets, Going, going-on, told-other, reached-from, doing, next-kept, next-small, next-drawn, next-refusal}
 use Rattle.machine.proofs.gathering.moves.Statement.{statement}
 use Rattle.machine.proofs.gathering.moves.Tie as tie
 
 abbrev Inv-loop : tie.InvT-loop
-Inv-loop frame bytes from numbers₀ before on mode most reader₀ hand₀ at₀ count₀ numbers reader hand at count =
+Inv-loop frame bytes from numbers₀ before on mode most reader₀ hand₀ here₀ at₀ count₀ numbers reader hand here at count =
     ((b : Sets on bytes numbers₀ reader₀ hand₀ mode frame from before) →
     Going on (b .begun .all) bytes (b .begun .entry) numbers reader (coreOf (b .core .settings) hand (b .core .carriage .polygon)) (b .begun .store) from at count)
     × (from ≤ at)
     × (from ≡ at → on ≡ true → count < length numbers₀ / 5)
+    × (here ≡ locationIn frame (hand .position))
 
 abbrev μ-loop : tie.MeasureT-loop
-μ-loop frame bytes from numbers₀ before on mode most reader₀ hand₀ at₀ count₀ numbers reader hand at count = length bytes - at
+μ-loop frame bytes from numbers₀ before on mode most reader₀ hand₀ here₀ at₀ count₀ numbers reader hand here at count = length bytes - at
 
 -- ---- the places of a turn
 
@@ -56,7 +60,7 @@ abbrev Read : Type 0
 Read = tie.After-next Inv-loop μ-loop
 
 abbrev handed : Loop → tie.After-hand-of Inv-loop μ-loop
-handed l = l .before
+handed l = search
 
 abbrev start : tie.After-hand-of Inv-loop μ-loop → tie.Start Inv-loop μ-loop
 start h = h .before .before .before .before
@@ -180,32 +184,33 @@ stopped l h f =
 
 -- ---- after a turn
 
-abbrev Next-inv : (q : Read) → List ℤ → Reader → Hand → ℕ → Type 0
-Next-inv q numbers reader hand count =
+abbrev Next-inv : (q : Read) → List ℤ → Reader → Hand → Point → ℕ → Type 0
+Next-inv q numbers reader hand here count =
     let l = loop q in
     let a = entry l .args in
     ((b : All l) → Going (a .on) (b .begun .all) (a .bytes .now) (b .begun .entry) numbers reader (core l b hand) (b .begun .store) (a .from) (q .next .result .at) count)
     × (a .from ≤ q .next .result .at)
     × (a .from ≡ q .next .result .at → a .on ≡ true → count < length (a .numbers .now) / 5)
+    × (here ≡ locationIn (a .frame) (hand .position))
 
-again : (q : Read) {numbers : List ℤ} {reader : Reader} {hand : Hand} {count : ℕ} →
+again : (q : Read) {numbers : List ℤ} {reader : Reader} {hand : Hand} {here : Point} {count : ℕ} →
     let l = loop q in
-    ((b : All l) → Goes l b numbers (whole reader (core l b hand) (b .begun .store) Nothing) (q .next .result .at) count) → Next-inv q numbers reader hand count
-again q f =
+    here ≡ locationIn (entry l .args .frame) (hand .position) → ((b : All l) → Goes l b numbers (whole reader (core l b hand) (b .begun .store) Nothing) (q .next .result .at) count) → Next-inv q numbers reader hand here count
+again q located f =
     let l = loop q in
     let k = reached q (known l) in
-    ((λ b. going-on (f b)), omega (arith, k .further, k .ends, l .loop .inv .1), λ e o. absurd (omega (arith, e, k .further, k .ends, l .loop .inv .1)))
+    ((λ b. going-on (f b)), omega (arith, k .further, k .ends, l .loop .inv .1), λ e o. absurd (omega (arith, e, k .further, k .ends, l .loop .inv .1)), located)
 
 less : (q : Read) → let l = loop q in length (entry l .args .bytes .now) - q .next .result .at < length (entry l .args .bytes .now) - l .loop .at
 less q = let k = reached q (known (loop q)) in omega (arith, k .further, k .within, k .ends)
 
--- nothing is drawn
+-- nothing is drawn, and the hand is where it was
 kept : (q : Read) {hand : Hand} {e : Event} → Event-of q ≡ e →
     let l = loop q in
-    ((b : All l) → doing (core l b hand) segment.Nothing ≡ actOn (core l b (l .loop .hand)) e) → Next-inv q (l .loop .numbers) (q .next .result .reader) hand (l .loop .count)
-kept q {hand} told acts =
+    hand .position ≡ l .loop .hand .position → ((b : All l) → doing (core l b hand) segment.Nothing ≡ actOn (core l b (l .loop .hand)) e) → Next-inv q (l .loop .numbers) (q .next .result .reader) hand (l .loop .here) (l .loop .count)
+kept q {hand} told same acts =
     let l = loop q in
-    again q (λ b. next-kept (reached q b) (core l b hand) (acts b ∙ ap (actOn (core l b (l .loop .hand))) (sym told)) (frees q b))
+    again q (l .loop .inv .3 ∙ ap (locationIn (entry l .args .frame)) (sym same)) (λ b. next-kept (reached q b) (core l b hand) (acts b ∙ ap (actOn (core l b (l .loop .hand))) (sym told)) (frees q b))
 
 -- a pair outside polygon mode
 abbrev Shift : Type 0
@@ -218,7 +223,7 @@ abbrev Drawn : Type 0
 Drawn = tie.After-drawn-of Inv-loop μ-loop
 
 abbrev unrefused : Drawn → tie.Else5 Inv-loop μ-loop
-unrefused d = d .before .before .before
+unrefused d = d .before .before .before .before
 
 abbrev drawn : tie.Else5 Inv-loop μ-loop → Shift
 drawn e = e .before .before
@@ -240,7 +245,7 @@ shift-acts e b =
     let r = t .shift .result in
     let z : r .number ≡ 0 = omega (arith, e .if5 .left) in
     ap (λ (n : ℕ). record { core = core l b (r .hand); action = lineOf (r .segment); number = n }) (sym z)
-    ∙ t .shift .ensures (b .core .settings) (b .core .carriage .polygon) (b .begun .framed) (b .mode-is ∙ m .if3 .left)
+    ∙ t .shift .ensures .0 (b .core .settings) (b .core .carriage .polygon) (b .begun .framed) (b .mode-is ∙ m .if3 .left)
     ∙ ap (actOn (core l b (l .loop .hand))) (sym (p .event2 .given .1))
 
 free-drawn : (t : Shift) → let l = loop (shifts t) in (b : All l) → l .loop .count < length (b .begun .entry) / 5
@@ -251,9 +256,17 @@ free-drawn t b = let l = loop (shifts t) in omega (arith, paired t .if4 .left, g
 hand-of-requires : tie.Need-hand-of-requires Inv-loop μ-loop
 hand-of-requires c κs = search needs
 
+located-in-requires : tie.Need-located-in-requires Inv-loop μ-loop
+located-in-requires c κs =
+    let s : tie.Start Inv-loop μ-loop = search in
+    hand-locatable {h = handOf (s .args .core .carriage)} {g = s .args .core .carriage .polygon}
+    (record { settings = s .args .core .settings; frame = s .pre .framed; core = s .pre .far .valid .core })
+
 loop-holds : tie.Need-loop-holds Inv-loop μ-loop
 loop-holds c =
-    let s : tie.Start Inv-loop μ-loop = search in (
+    let s : tie.Start Inv-loop μ-loop = search in
+    let h : tie.After-hand-of Inv-loop μ-loop = search in
+    let l : tie.After-located-in Inv-loop μ-loop = search in (
       λ b. record {
         work = b .begun .work;
         idle = b .begun .idle;
@@ -262,6 +275,7 @@ loop-holds c =
       },
       omega arith,
       λ e o. s .pre .free o,
+      l .located-in .ensures ∙ ap (λ (h : Hand). locationIn (s .args .frame) (h .position)) (sym (h .hand-of .ensures)),
     )
 
 stuck-requires : tie.Need-stuck-requires Inv-loop μ-loop
@@ -300,7 +314,7 @@ unfolding lineOf
 loop-again c =
     let q : Read = search in
     let h = loop q .loop .hand in
-    kept q (c .enum-told .given .1) (λ b. none-acts (b .core .settings) h (b .core .carriage .polygon))
+    kept q (c .enum-told .given .1) refl (λ b. none-acts (b .core .settings) h (b .core .carriage .polygon))
 
 enum-known-event : tie.Need-enum-known-event Inv-loop μ-loop
 enum-known-event c = search needs
@@ -335,7 +349,9 @@ loop-again-2 c =
     let n : tie.After-name-number Inv-loop μ-loop = search in
     let h = loop q .loop .hand in
     let z : n .name-number .result ≡ 0 = omega (arith, c .before .if2 .left) in
-    kept q (e .event .given .1)
+    let l = loop q in
+    let g = known l .core .carriage .polygon in
+    kept q (e .event .given .1) (ap (λ (k : Carriage). k .position) (c .letters .ensures g) ∙ letters-position (carriageOf h g) _)
     (λ b.
     let g = b .core .carriage .polygon in
     named-acts (b .core .settings) h g _ (sym z ∙ n .name-number .ensures ∙ ap (λ (m : Bool). nameNumber m _) (sym (b .mode-is))) (c .letters .result) refl (c .letters .ensures g))
@@ -377,6 +393,7 @@ shift-requires c κs =
     let b = known l in (
       record { polygon = b .core .carriage .polygon; parts = record { settings = b .core .settings; frame = b .begun .framed; core = going l b .far .valid .core } },
       subst (ValidEvent (core l b (l .loop .hand))) (p .event2 .given .1) (event-valid q),
+      l .loop .inv .3,
     )
 
 moved-to-requires-5 : tie.Need-moved-to-requires-5 Inv-loop μ-loop
@@ -421,7 +438,7 @@ loop-again-3 c =
     let q = shifts t in
     let l = loop q in
     let r = t .shift .result in
-    again q
+    again q (t .shift .ensures .1)
     (λ b.
     next-drawn (reached q b) (core l b (r .hand)) (free-drawn t b) (r .segment) (shift-acts e b)
     (d .drawn-of .ensures ∙ ap (λ (f : Frame). drawnOf (f .limits) (r .hand .pen .number) (r .segment)) (b .begun .framed))
@@ -451,7 +468,7 @@ unfolding lineOf
 loop-again-4 c =
     let q : Read = search in
     let e : tie.After-event3 Inv-loop μ-loop = search in
-    kept q (e .event3 .given .1) (λ b. ended-acts (b .core .settings) (loop q .loop .hand) (b .core .carriage .polygon) _ _ (c .if6 .left))
+    kept q (e .event3 .given .1) refl (λ b. ended-acts (b .core .settings) (loop q .loop .hand) (b .core .carriage .polygon) _ _ (c .if6 .left))
 
 enum-known-event-4 : tie.Need-enum-known-event-4 Inv-loop μ-loop
 enum-known-event-4 c = search needs
@@ -484,7 +501,7 @@ loop-again-5 c =
     let t : tie.Then7 Inv-loop μ-loop = search in
     let p : tie.After-passed-over Inv-loop μ-loop = search in
     let x : tie.After-refusal-record Inv-loop μ-loop = search in
-    again q
+    again q (loop q .loop .inv .3)
     (λ b.
     next-refusal (reached q b) (e .event4 .given .1) (t .if7 .taken) (frees q b (t .if7 .taken)) (x .refusal-record .ensures) (c .before .put-record .ensures .1) (c .before .put-record .ensures .0)
     (p .passed-over .ensures))
@@ -520,6 +537,7 @@ moves-spec =
     Inv-loop
     μ-loop
     hand-of-requires
+    located-in-requires
     loop-holds
     stuck-requires
     moved-to-requires
