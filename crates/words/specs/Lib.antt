@@ -1,1 +1,3 @@
 pub mod Words
+pub mod Names
+pub mod NameLaws

@@ -35,14 +35,24 @@ adviceOf n =
     cond (eqb n 21) (bytes "Take the strokes out, then feed the bytes that are left.                ") (bytes "None.                                                                   "))))))))))
 
 -- what becomes of an instruction that the machine does not have, by its kind
-unfoldable pub ofKind : ℕ → List ℕ
-ofKind n =
+unfoldable pub ofForeign : ℕ → List ℕ
+ofForeign n =
     cond (eqb n (code "a")) (bytes "arcs are not carried out: the next line starts where the arc began      ") (
+    cond (eqb n (code "b")) (bytes "bytes that name no instruction, as of escape sequences, are passed over ") (
+    cond (eqb n (code "e")) (bytes "coded lines are not known: letters of the code are read as instructions ") (
     cond (eqb n (code "f")) (bytes "fills are not painted: paint the edges alone (EA, ER, EP, CI)           ") (
-    cond (eqb n (code "k")) (bytes "not known between PM0 and PM2: end the polygon before it                ") (
     cond (eqb n (code "l")) (bytes "text is not painted: turn letters into lines first                      ") (
     cond (eqb n (code "o")) (bytes "no reply is given to what a file asks                                   ") (
     cond (eqb n (code "s")) (bytes "settings of text do nothing: text is not painted                        ") (
     cond (eqb n (code "t")) (bytes "line types are not known: every line is painted without gaps            ") (
     cond (eqb n (code "v")) (bytes "speed and force of the pen are the carriage's own                       ") (
-    cond (eqb n (code "w")) (bytes "the width of a line is that of the paint                                ") (bytes "not an instruction of this machine: it is passed over                   ")))))))))
+    cond (eqb n (code "w")) (bytes "the width of a line is that of the paint                                ") (bytes "not an instruction of this machine: it is passed over                   "))))))))))
+
+-- what becomes of an instruction that is refused, by its kind; k is for one that is not known in polygon mode
+unfoldable pub ofKind : ℕ → List ℕ
+ofKind n =
+    cond (eqb n (code "c")) (bytes "not carried out: the setting stays as it was                            ") (
+    cond (eqb n (code "d")) (bytes "not carried out: nothing of it is painted                               ") (
+    cond (eqb n (code "k")) (bytes "not known between PM0 and PM2: end the polygon before it                ") (
+    cond (eqb n (code "m")) (bytes "not carried out from there on: the next line starts where the pen was   ") (
+    cond (eqb n (code "p")) (bytes "not carried out, or left open: the polygon is another than was meant    ") (ofForeign n)))))

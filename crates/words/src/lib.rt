@@ -1,7 +1,8 @@
 // The words of the desk: what the numbers of document 01 mean and what to do about them, and what becomes of instructions that the machine does not have.
-// Each text has blanks after it, up to 72 bytes. specs/Words.antt has the same tables.
+// Each text has blanks after it, up to 72 bytes. specs/Words.antt and specs/Names.antt have the same tables.
 ghost use mathlib.Core.Path.{_≡_};
-ghost use Rattle.words.specs.Words.{causeOf, adviceOf, ofKind};
+ghost use Rattle.words.specs.Words.{causeOf, adviceOf, ofForeign, ofKind};
+ghost use Rattle.words.specs.Names.{sameName, listedIn, foreignKind, kindOf, hasOf, refusedKind, harmlessOf};
 
 // Why a byte or a call is refused with a number.
 pub fn cause(number: u8) -> [u8; 72]
@@ -78,17 +79,20 @@ pub fn advice(number: u8) -> [u8; 72]
 }
 
 // What becomes of an instruction that the machine does not have, by its kind.
-pub fn of_kind(kind: u8) -> [u8; 72]
-    ensures { λ r. ⌜ r ≡ ofKind kind ⌝ }
+fn of_foreign(kind: u8) -> [u8; 72]
+    ensures { λ r. ⌜ r ≡ ofForeign kind ⌝ }
 {
     if kind == b'a' {
         return *b"arcs are not carried out: the next line starts where the arc began      ";
     }
+    if kind == b'b' {
+        return *b"bytes that name no instruction, as of escape sequences, are passed over ";
+    }
+    if kind == b'e' {
+        return *b"coded lines are not known: letters of the code are read as instructions ";
+    }
     if kind == b'f' {
         return *b"fills are not painted: paint the edges alone (EA, ER, EP, CI)           ";
-    }
-    if kind == b'k' {
-        return *b"not known between PM0 and PM2: end the polygon before it                ";
     }
     if kind == b'l' {
         return *b"text is not painted: turn letters into lines first                      ";
@@ -109,4 +113,160 @@ pub fn of_kind(kind: u8) -> [u8; 72]
         return *b"the width of a line is that of the paint                                ";
     }
     *b"not an instruction of this machine: it is passed over                   "
+}
+
+// What becomes of an instruction that is refused, by its kind; k is for one that is not known in polygon mode.
+pub fn of_kind(kind: u8) -> [u8; 72]
+    ensures { λ r. ⌜ r ≡ ofKind kind ⌝ }
+{
+    if kind == b'c' {
+        return *b"not carried out: the setting stays as it was                            ";
+    }
+    if kind == b'd' {
+        return *b"not carried out: nothing of it is painted                               ";
+    }
+    if kind == b'k' {
+        return *b"not known between PM0 and PM2: end the polygon before it                ";
+    }
+    if kind == b'm' {
+        return *b"not carried out from there on: the next line starts where the pen was   ";
+    }
+    if kind == b'p' {
+        return *b"not carried out, or left open: the polygon is another than was meant    ";
+    }
+    of_foreign(kind)
+}
+
+// Whether two letters are these.
+fn same(first: u8, second: u8, a: u8, b: u8) -> bool
+    ensures { λ r. ⌜ r ≡ sameName first second a b ⌝ }
+{
+    if first == a {
+        return second == b;
+    }
+    false
+}
+
+// Whether a name is in a list, in which each has a blank after it.
+fn listed(names: &[u8], first: u8, second: u8) -> bool
+    ensures { λ r. ⌜ r ≡ listedIn (now (names .entry)) first second ⌝ }
+{
+    let mut i = 0;
+    while 2 < names.len() - i {
+        if same(names[i], names[i + 1], first, second) {
+            return true;
+        }
+        i += 3;
+    }
+    false
+}
+
+// The kind of a name of the manual or of HP-GL/2 that the machine does not have; ?? is for a byte of no name, and x is any other.
+fn foreign_kind(first: u8, second: u8) -> u8
+    ensures { λ r. ⌜ r ≡ foreignKind first second ⌝ }
+{
+    if listed(b"AA AR AT BR BZ RT ", first, second) {
+        return b'a';
+    }
+    if listed(b"?? ", first, second) {
+        return b'b';
+    }
+    if listed(b"PE ", first, second) {
+        return b'e';
+    }
+    if listed(b"AC EW FP FT RA RF RR UF WG ", first, second) {
+        return b'f';
+    }
+    if listed(b"BL CP LB PB UC ", first, second) {
+        return b'l';
+    }
+    if listed(
+        b"DC DP IM OA OC OD OE OF OG OH OI OL OO OP OS OT OW ",
+        first,
+        second,
+    ) {
+        return b'o';
+    }
+    if listed(
+        b"AD CA CS DI DR DT DV ES LO SA SD SI SL SR SS TD ",
+        first,
+        second,
+    ) {
+        return b's';
+    }
+    if listed(b"LT UL ", first, second) {
+        return b't';
+    }
+    if listed(b"AP AS FS VA VN VS ", first, second) {
+        return b'v';
+    }
+    if listed(b"PT PW WU ", first, second) {
+        return b'w';
+    }
+    b'x'
+}
+
+// The kind of an instruction, by its name: settings, what is painted by itself, moves and polygon mode are the sixteen.
+pub fn kind(first: u8, second: u8) -> u8
+    ensures { λ r. ⌜ r ≡ kindOf first second ⌝ }
+{
+    if listed(b"DF IN IP IW RO SC SP ", first, second) {
+        return b'c';
+    }
+    if listed(b"CI EA EP ER ", first, second) {
+        return b'd';
+    }
+    if listed(b"PA PD PR PU ", first, second) {
+        return b'm';
+    }
+    if listed(b"PM ", first, second) {
+        return b'p';
+    }
+    foreign_kind(first, second)
+}
+
+// Whether a kind is one of the sixteen instructions.
+fn has(kind: u8) -> bool
+    ensures { λ r. ⌜ r ≡ hasOf kind ⌝ }
+{
+    if kind == b'c' {
+        return true;
+    }
+    if kind == b'd' {
+        return true;
+    }
+    if kind == b'm' {
+        return true;
+    }
+    kind == b'p'
+}
+
+// The kind of a refusal: an instruction that the machine has is refused with 1 in polygon mode alone.
+pub fn refused_kind(number: u8, first: u8, second: u8) -> u8
+    ensures { λ r. ⌜ r ≡ refusedKind number first second ⌝ }
+{
+    let of_name = kind(first, second);
+    if number == 1 {
+        if has(of_name) {
+            return b'k';
+        }
+        return of_name;
+    }
+    of_name
+}
+
+// Whether what is painted is the same without it: questions, settings of text, speed, force and width of a pen.
+pub fn harmless(kind: u8) -> bool
+    ensures { λ r. ⌜ r ≡ harmlessOf kind ⌝ }
+{
+    if kind == b'o' {
+        return true;
+    }
+    if kind == b's' {
+        return true;
+    }
+    if kind == b'v' {
+        return true;
+    }
+    kind == b'w'
 }

@@ -1,4 +1,5 @@
--- Each number has its text.
+-- Each kind has its text.
+use borrow.Author.Needs.{needs}
 use borrow.Author.Tests.{ne-eqb}
 use mathlib.Core.Path.{sym, ap}
 use Prim.Native.Char.{code}
@@ -27,37 +28,20 @@ returns-5 : tie.Need-returns-5
 unfolding ofKind bytes bytesFrom
 returns-5 c = let t : tie.Then5 = search in ap ofKind (sym (t .if5 .taken))
 
+of-foreign-requires : tie.Need-of-foreign-requires
+of-foreign-requires c κs = search needs
+
 returns-6 : tie.Need-returns-6
 unfolding ofKind bytes bytesFrom
-returns-6 c = let t : tie.Then6 = search in ap ofKind (sym (t .if6 .taken))
-
-returns-7 : tie.Need-returns-7
-unfolding ofKind bytes bytesFrom
-returns-7 c = let t : tie.Then7 = search in ap ofKind (sym (t .if7 .taken))
-
-returns-8 : tie.Need-returns-8
-unfolding ofKind bytes bytesFrom
-returns-8 c = let t : tie.Then8 = search in ap ofKind (sym (t .if8 .taken))
-
-returns-9 : tie.Need-returns-9
-unfolding ofKind bytes bytesFrom
-returns-9 c = let t : tie.Then9 = search in ap ofKind (sym (t .if9 .taken))
-
-returns-10 : tie.Need-returns-10
-unfolding ofKind bytes bytesFrom
-returns-10 c =
+returns-6 c =
     let b : tie.Start = search in
     let e1 : tie.Else1 = search in
     let e2 : tie.Else2 = search in
     let e3 : tie.Else3 = search in
     let e4 : tie.Else4 = search in
     let e5 : tie.Else5 = search in
-    let e6 : tie.Else6 = search in
-    let e7 : tie.Else7 = search in
-    let e8 : tie.Else8 = search in
-    let e9 : tie.Else9 = search in
     rw
-    (ne-eqb (b .args .kind) (code "a") (e1 .if1 .left), ne-eqb (b .args .kind) (code "f") (e2 .if2 .left), ne-eqb (b .args .kind) (code "k") (e3 .if3 .left), ne-eqb (b .args .kind) (code "l") (e4 .if4 .left), ne-eqb (b .args .kind) (code "o") (e5 .if5 .left), ne-eqb (b .args .kind) (code "s") (e6 .if6 .left), ne-eqb (b .args .kind) (code "t") (e7 .if7 .left), ne-eqb (b .args .kind) (code "v") (e8 .if8 .left), ne-eqb (b .args .kind) (code "w") (e9 .if9 .left))
+    (ne-eqb (b .args .kind) (code "c") (e1 .if1 .left), ne-eqb (b .args .kind) (code "d") (e2 .if2 .left), ne-eqb (b .args .kind) (code "k") (e3 .if3 .left), ne-eqb (b .args .kind) (code "m") (e4 .if4 .left), ne-eqb (b .args .kind) (code "p") (e5 .if5 .left)) (c .of-foreign .ensures)
 
 pub of-kind-spec : {M : Type 1} → statement M
 of-kind-spec =
@@ -68,8 +52,5 @@ of-kind-spec =
     returns-3
     returns-4
     returns-5
-    returns-6
-    returns-7
-    returns-8
-    returns-9
-    returns-10)
+    of-foreign-requires
+    returns-6)

@@ -1,0 +1,39 @@
+-- The definition, case by case.
+use borrow.Author.Tests.{eq-eqb, ne-eqb}
+use Prim.Native.Char.{code}
+use Rattle.words.specs.Names.{harmlessOf}
+use Rattle.words.proofs.harmless.Statement.{statement}
+use Rattle.words.proofs.harmless.Tie as tie
+
+returns : tie.Need-returns
+unfolding harmlessOf
+returns c =
+    let s : tie.Start = search in
+    rw (eq-eqb (s .args .kind) (code "o") (c .if1 .taken))
+
+returns-2 : tie.Need-returns-2
+unfolding harmlessOf
+returns-2 c =
+    let s : tie.Start = search in
+    let e1 : tie.Else1 = search in
+    rw (ne-eqb (s .args .kind) (code "o") (e1 .if1 .left), eq-eqb (s .args .kind) (code "s") (c .if2 .taken))
+
+returns-3 : tie.Need-returns-3
+unfolding harmlessOf
+returns-3 c =
+    let s : tie.Start = search in
+    let e1 : tie.Else1 = search in
+    let e2 : tie.Else2 = search in
+    rw (ne-eqb (s .args .kind) (code "o") (e1 .if1 .left), ne-eqb (s .args .kind) (code "s") (e2 .if2 .left), eq-eqb (s .args .kind) (code "v") (c .if3 .taken))
+
+returns-4 : tie.Need-returns-4
+unfolding harmlessOf
+returns-4 c =
+    let s : tie.Start = search in
+    let e1 : tie.Else1 = search in
+    let e2 : tie.Else2 = search in
+    let e3 : tie.Else3 = search in
+    rw (ne-eqb (s .args .kind) (code "o") (e1 .if1 .left), ne-eqb (s .args .kind) (code "s") (e2 .if2 .left), ne-eqb (s .args .kind) (code "v") (e3 .if3 .left))
+
+pub harmless-spec : {M : Type 1} → statement M
+harmless-spec = tie.close (tie.spec returns returns-2 returns-3 returns-4)
