@@ -20,7 +20,7 @@ use Rattle.reader.specs.declared.number.Number.{Number}
 use Rattle.reader.specs.Bytes.{classOf}
 use Rattle.reader.specs.Number.{digitOf, startOf, pointOf}
 use Rattle.reader.specs.Table.{findOf, countFits, isLabel}
-use Rattle.reader.specs.Reader.{goOnOf, quietOf, refuseOf, beginOf, openOf, withNumbers, labelEnd, count, range, unknown}
+use Rattle.reader.specs.Reader.{goOnOf, quietOf, refuseOf, beginOf, openOf, withNumbers, labelEnd, count}
 use Rattle.reader.specs.Step.{foundOf, nameOf, endOf, completeOf, endingOf, afterNumberOf, closeWith, closedOf, closeOf, idleOf, firstOf, parametersOf, inNumberOf, passOverOf, labelOf, byMode, stepOf, passedMode, passedOver}
 use lib.Dec.{eqb}
 use Rattle.reader.specs.Inside.{inside}
@@ -82,11 +82,11 @@ module _ (r : Reader) where
   finds : (f : Found) → Tells r (foundOf r f)
   unfolding foundOf beginOf Told
   finds (At op) = record { told = refl }
-  finds Nowhere = passes unknown
+  finds Nowhere = passes _
 
   names : (a b : ℕ) → Tells r (nameOf r a b)
   unfolding nameOf inside
-  names a b = both (isLabel a b) (refuses Label unknown refl) (finds (findOf a b))
+  names a b = both (isLabel a b) (refuses _ _ refl) (finds (findOf a b))
 
   ends : (m : Mode) → inside (r .mode) ≡ true → inside m ≡ false → Tells r (endOf r m)
   unfolding endOf goOnOf Told
@@ -106,23 +106,23 @@ module _ (r : Reader) where
 
   idle : (k : Class) → Tells r (idleOf r k)
   unfolding idleOf inside
-  idle Blank = quiet Idle refl
-  idle Semicolon = quiet Idle refl
-  idle (Letter l) = quiet (First l) refl
-  idle (Digit d) = passes unknown
-  idle (Sign s) = passes unknown
-  idle Point = passes unknown
-  idle Other = passes unknown
+  idle Blank = quiet _ refl
+  idle Semicolon = quiet _ refl
+  idle (Letter l) = quiet _ refl
+  idle (Digit d) = passes _
+  idle (Sign s) = passes _
+  idle Point = passes _
+  idle Other = passes _
 
   first : (a : ℕ) (k : Class) → Tells r (firstOf r a k)
   unfolding firstOf inside
-  first a Blank = passes unknown
-  first a Semicolon = refuses Idle unknown refl
+  first a Blank = passes _
+  first a Semicolon = refuses _ _ refl
   first a (Letter b) = names a b
-  first a (Digit d) = passes unknown
-  first a (Sign s) = passes unknown
-  first a Point = passes unknown
-  first a Other = passes unknown
+  first a (Digit d) = passes _
+  first a (Sign s) = passes _
+  first a Point = passes _
+  first a Other = passes _
 
   parameters : (k : Class) → inside (r .mode) ≡ true → Tells r (parametersOf r k)
   unfolding parametersOf quietOf goOnOf Told inside
@@ -132,7 +132,7 @@ module _ (r : Reader) where
   parameters (Digit d) w = opens (digitOf (startOf false) d) w
   parameters (Sign s) w = opens (startOf s) w
   parameters Point w = opens (pointOf (startOf false)) w
-  parameters Other w = passes unknown
+  parameters Other w = passes _
 
   in-number : (k : Class) → inside (r .mode) ≡ true → Tells r (inNumberOf r k)
   unfolding inNumberOf closeOf
@@ -140,19 +140,19 @@ module _ (r : Reader) where
   in-number Semicolon w = closes (endingOf Semicolon) (closedOf r) w
   in-number (Letter l) w = closes (endingOf (Letter l)) (closedOf r) w
   in-number (Digit d) w = opens (digitOf (r .number) d) w
-  in-number (Sign s) w = passes range
-  in-number Point w = both (r .number .pointed) (passes range) (opens (pointOf (r .number)) w)
-  in-number Other w = passes unknown
+  in-number (Sign s) w = passes _
+  in-number Point w = both (r .number .pointed) (passes _) (opens (pointOf (r .number)) w)
+  in-number Other w = passes _
 
   pass-over : (k : Class) → Tells r (passOverOf r k)
   unfolding passOverOf inside
-  pass-over Blank = quiet PassOver refl
-  pass-over Semicolon = quiet Idle refl
-  pass-over (Letter l) = quiet (First l) refl
-  pass-over (Digit d) = quiet PassOver refl
-  pass-over (Sign s) = quiet PassOver refl
-  pass-over Point = quiet PassOver refl
-  pass-over Other = quiet PassOver refl
+  pass-over Blank = quiet _ refl
+  pass-over Semicolon = quiet _ refl
+  pass-over (Letter l) = quiet _ refl
+  pass-over (Digit d) = quiet _ refl
+  pass-over (Sign s) = quiet _ refl
+  pass-over Point = quiet _ refl
+  pass-over Other = quiet _ refl
 
   by-mode : (b : ℕ) (m : Mode) → r .mode ≡ m → Tells r (byMode r b m)
   unfolding byMode labelOf inside
@@ -161,7 +161,7 @@ module _ (r : Reader) where
   by-mode b Parameters e = parameters (classOf b) (rw e refl)
   by-mode b InNumber e = in-number (classOf b) (rw e refl)
   by-mode b PassOver e = pass-over (classOf b)
-  by-mode b Label e = both (eqb b labelEnd) (quiet Idle refl) (quiet Label refl)
+  by-mode b Label e = both (eqb b labelEnd) (quiet _ refl) (quiet _ refl)
 
   pub step-tells : (b : ℕ) → Told r (stepOf r b .reader) (stepOf r b .event)
   unfolding stepOf

@@ -1,6 +1,7 @@
 pub mod Bytes
 pub mod Table
 pub mod Number
+pub mod Run
 pub mod Reader
 pub mod Inside
 pub mod Step

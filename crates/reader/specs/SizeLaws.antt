@@ -243,33 +243,33 @@ module _ (r : Reader) (h : Readable r) where
 
   idle-sound : (c : Class) → SmallClass c → SoundStep (idleOf r c)
   unfolding idleOf
-  idle-sound Blank k = quiet Idle tt
-  idle-sound Semicolon k = quiet Idle tt
-  idle-sound (Letter l) k = quiet (First l) k
-  idle-sound (Digit d) k = refuse PassOver tt 1
-  idle-sound (Sign s) k = refuse PassOver tt 1
-  idle-sound Point k = refuse PassOver tt 1
-  idle-sound Other k = refuse PassOver tt 1
+  idle-sound Blank k = quiet _ tt
+  idle-sound Semicolon k = quiet _ tt
+  idle-sound (Letter l) k = quiet _ k
+  idle-sound (Digit d) k = refuse _ tt _
+  idle-sound (Sign s) k = refuse _ tt _
+  idle-sound Point k = refuse _ tt _
+  idle-sound Other k = refuse _ tt _
 
   first-sound : (a : ℕ) (c : Class) → SmallClass c → SoundStep (firstOf r a c)
   unfolding firstOf
-  first-sound a Blank k = refuse PassOver tt 1
-  first-sound a Semicolon k = refuse Idle tt 1
+  first-sound a Blank k = refuse _ tt _
+  first-sound a Semicolon k = refuse _ tt _
   first-sound a (Letter b) k = name-sound r h a b
-  first-sound a (Digit d) k = refuse PassOver tt 1
-  first-sound a (Sign s) k = refuse PassOver tt 1
-  first-sound a Point k = refuse PassOver tt 1
-  first-sound a Other k = refuse PassOver tt 1
+  first-sound a (Digit d) k = refuse _ tt _
+  first-sound a (Sign s) k = refuse _ tt _
+  first-sound a Point k = refuse _ tt _
+  first-sound a Other k = refuse _ tt _
 
   parameters-sound : (c : Class) → SmallClass c → SoundStep (parametersOf r c)
   unfolding parametersOf
-  parameters-sound Blank k = quiet Parameters tt
+  parameters-sound Blank k = quiet _ tt
   parameters-sound Semicolon k = end-sound r h Idle tt
   parameters-sound (Letter l) k = end-sound r h (First l) k
   parameters-sound (Digit d) k = open-sound r h _ (digit-small _ d (start-small false) k)
   parameters-sound (Sign s) k = open-sound r h _ (start-small s)
   parameters-sound Point k = open-sound r h _ (point-small _ (start-small false))
-  parameters-sound Other k = refuse PassOver tt 1
+  parameters-sound Other k = refuse _ tt _
 
   in-number-sound : (c : Class) → SmallClass c → SoundStep (inNumberOf r c)
   unfolding inNumberOf endingOf
@@ -277,31 +277,31 @@ module _ (r : Reader) (h : Readable r) where
   in-number-sound Semicolon k = close-sound r h (endingOf Semicolon) tt
   in-number-sound (Letter l) k = close-sound r h (endingOf (Letter l)) k
   in-number-sound (Digit d) k = open-sound r h _ (digit-small _ d (h .number) k)
-  in-number-sound (Sign s) k = refuse PassOver tt 3
+  in-number-sound (Sign s) k = refuse _ tt _
   in-number-sound Point k = go (r .number .pointed)
     where
       go : (t : Bool) → SoundStep (cond t (refuseOf r PassOver 3) (openOf r (pointOf (r .number))))
-      go true = refuse PassOver tt 3
+      go true = refuse _ tt _
       go false = open-sound r h _ (point-small _ (h .number))
-  in-number-sound Other k = refuse PassOver tt 1
+  in-number-sound Other k = refuse _ tt _
 
   pass-over-sound : (c : Class) → SmallClass c → SoundStep (passOverOf r c)
   unfolding passOverOf
-  pass-over-sound Blank k = quiet PassOver tt
-  pass-over-sound Semicolon k = quiet Idle tt
-  pass-over-sound (Letter l) k = quiet (First l) k
-  pass-over-sound (Digit d) k = quiet PassOver tt
-  pass-over-sound (Sign s) k = quiet PassOver tt
-  pass-over-sound Point k = quiet PassOver tt
-  pass-over-sound Other k = quiet PassOver tt
+  pass-over-sound Blank k = quiet _ tt
+  pass-over-sound Semicolon k = quiet _ tt
+  pass-over-sound (Letter l) k = quiet _ k
+  pass-over-sound (Digit d) k = quiet _ tt
+  pass-over-sound (Sign s) k = quiet _ tt
+  pass-over-sound Point k = quiet _ tt
+  pass-over-sound Other k = quiet _ tt
 
   label-sound : (b : ℕ) → SoundStep (labelOf r b)
   unfolding labelOf
   label-sound b = go (eqb b 3)
     where
       go : (t : Bool) → SoundStep (cond t (quietOf r Idle) (quietOf r Label))
-      go true = quiet Idle tt
-      go false = quiet Label tt
+      go true = quiet _ tt
+      go false = quiet _ tt
 
   -- Every byte leaves a readable reader readable, and what it means is sound.
   pub step-sound : (b : ℕ) → SoundStep (stepOf r b)

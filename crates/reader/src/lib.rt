@@ -134,26 +134,41 @@ impl Numbers {
     fn stored(self, value: i64) -> Numbers
         ensures { λ r. ⌜ r ≡ storedOf self value ⌝ }
     {
-        let mut n = self;
         let count = self.count;
         if count == 0 {
-            n.count = 1;
-            n.first = value;
-            return n;
+            return Numbers {
+                count: 1,
+                first: value,
+                second: self.second,
+                third: self.third,
+                fourth: self.fourth,
+            };
         }
         if count == 1 {
-            n.count = 2;
-            n.second = value;
-            return n;
+            return Numbers {
+                count: 2,
+                first: self.first,
+                second: value,
+                third: self.third,
+                fourth: self.fourth,
+            };
         }
         if count == 2 {
-            n.count = 3;
-            n.third = value;
-            return n;
+            return Numbers {
+                count: 3,
+                first: self.first,
+                second: self.second,
+                third: value,
+                fourth: self.fourth,
+            };
         }
-        n.count = 4;
-        n.fourth = value;
-        n
+        Numbers {
+            count: 4,
+            first: self.first,
+            second: self.second,
+            third: self.third,
+            fourth: value,
+        }
     }
 
     // The pair that a number completes.
@@ -269,13 +284,16 @@ impl Reader {
         while at < bytes.len() {
             let byte = bytes[at];
             let mode = reader.mode;
-            at += 1;
             // most bytes of a drawing: only the number changes, and no step is built
             if more_digits(mode, byte) {
                 let number = reader.number;
-                reader.number = number.with_digit(byte - b'0');
+                let scanned = number.with_digits(bytes, at);
+                let longer = scanned.number;
+                reader.number = longer;
+                at = scanned.at;
                 continue;
             }
+            at += 1;
             let step = reader.step(byte);
             reader = step.reader;
             let event = step.event;
@@ -316,13 +334,12 @@ impl Reader {
         ensures { λ q. ⌜ q ≡ idleOf self class ⌝ }
     {
         match class {
-            Class::Blank => self.quiet(Mode::Idle),
-            Class::Semicolon => self.quiet(Mode::Idle),
+            Class::Blank | Class::Semicolon => self.quiet(Mode::Idle),
             Class::Letter(letter) => self.quiet(Mode::First(letter)),
-            Class::Digit(_) => self.refuse(Mode::PassOver, UNKNOWN),
-            Class::Sign(_) => self.refuse(Mode::PassOver, UNKNOWN),
-            Class::Point => self.refuse(Mode::PassOver, UNKNOWN),
-            Class::Other => self.refuse(Mode::PassOver, UNKNOWN),
+            Class::Digit(_) | Class::Sign(_) | Class::Point | Class::Other => self.refuse(
+                Mode::PassOver,
+                UNKNOWN,
+            ),
         }
     }
 
@@ -331,13 +348,10 @@ impl Reader {
         ensures { λ q. ⌜ q ≡ firstOf self letter class ⌝ }
     {
         match class {
-            Class::Blank => self.refuse(Mode::PassOver, UNKNOWN),
             Class::Semicolon => self.refuse(Mode::Idle, UNKNOWN),
             Class::Letter(second) => self.name(letter, second),
-            Class::Digit(_) => self.refuse(Mode::PassOver, UNKNOWN),
-            Class::Sign(_) => self.refuse(Mode::PassOver, UNKNOWN),
-            Class::Point => self.refuse(Mode::PassOver, UNKNOWN),
-            Class::Other => self.refuse(Mode::PassOver, UNKNOWN),
+            Class::Blank | Class::Digit(_) | Class::Sign(_) | Class::Point | Class::Other =>
+                self.refuse(Mode::PassOver, UNKNOWN),
         }
     }
 
@@ -381,13 +395,10 @@ impl Reader {
         ensures { λ q. ⌜ q ≡ passOverOf self class ⌝ }
     {
         match class {
-            Class::Blank => self.quiet(Mode::PassOver),
             Class::Semicolon => self.quiet(Mode::Idle),
             Class::Letter(letter) => self.quiet(Mode::First(letter)),
-            Class::Digit(_) => self.quiet(Mode::PassOver),
-            Class::Sign(_) => self.quiet(Mode::PassOver),
-            Class::Point => self.quiet(Mode::PassOver),
-            Class::Other => self.quiet(Mode::PassOver),
+            Class::Blank | Class::Digit(_) | Class::Sign(_) | Class::Point | Class::Other =>
+                self.quiet(Mode::PassOver),
         }
     }
 

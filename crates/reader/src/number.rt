@@ -1,8 +1,13 @@
 // A number as it is read, mark by mark, and its value in ten-thousandths.
 ghost use mathlib.Core.Path.{_≡_};
-ghost use Prim.Native.Nat.{_≤_};
+ghost use mathlib.Core.Bool.{true};
+ghost use Prim.Native.Nat.{_≤_, _<_};
+ghost use lib.ListN.{length, drop, getD};
+ghost use Rattle.reader.specs.Bytes.{isDigit};
 ghost use Rattle.reader.specs.Number.{bottom, startOf, pointOf, countedOf, digitOf, unitOf, tenThousandths, signedOf, largestOf, finishOf};
+ghost use Rattle.reader.specs.Run.{runOf, countsWhole, scannedOf};
 ghost use Rattle.reader.specs.Saved.{numberRow, numberOf};
+use super::bytes::is_digit;
 use rows::Row;
 use rows::byte_of;
 use rows::flag_number;
@@ -30,6 +35,18 @@ pub struct Number {
     decimals: u8,
     // Its digits as one whole number, without the point. It stays once it is out of range.
     magnitude: u32,
+}
+
+// A number with digits more, and the place after them.
+pub struct Scanned {
+    pub number: Number,
+    pub at: usize,
+}
+
+// Where a run of digits ends, and the magnitude that it comes to.
+struct Run {
+    magnitude: u32,
+    at: usize,
 }
 
 pub enum Value {
@@ -75,6 +92,35 @@ fn signed(negative: bool, magnitude: u64) -> i64
         return 0 - (magnitude as i64);
     }
     magnitude as i64
+}
+
+// The digits from a place on, before a point, as long as the magnitude counts them.
+fn run_from(bytes: &[u8], from: usize, start: u32) -> Run
+    ensures { λ r. ⌜ r ≡ runOf start (drop from (now (bytes .entry))) from ⌝ }
+{
+    let mut magnitude = start;
+    let mut at = from;
+    while at < bytes.len() {
+        let byte = bytes[at];
+        if !is_digit(byte) {
+            return Run {
+                magnitude: magnitude,
+                at: at,
+            };
+        }
+        if PAST < magnitude {
+            return Run {
+                magnitude: magnitude,
+                at: at,
+            };
+        }
+        magnitude = magnitude * 10 + ((byte - b'0') as u32);
+        at += 1;
+    }
+    Run {
+        magnitude: magnitude,
+        at: at,
+    }
 }
 
 impl Number {
@@ -140,6 +186,37 @@ impl Number {
             return self.counted(decimals + 1, magnitude * 10 + (digit as u32));
         }
         self.counted(decimals, magnitude * 10 + (digit as u32))
+    }
+
+    // Whether the next digit counts, and is no decimal.
+    fn counts_whole(self) -> bool
+        ensures { λ r. ⌜ r ≡ countsWhole self ⌝ }
+    {
+        if self.pointed {
+            return false;
+        }
+        if PLACES <= self.decimals {
+            return false;
+        }
+        self.magnitude <= PAST
+    }
+
+    // The number with the digit at a place, and with those after it that count, where it has no point.
+    pub fn with_digits(self, bytes: &[u8], at: usize) -> Scanned
+        requires { ⌜ (at < length (now bytes)) × (isDigit (getD (now bytes) at 0) ≡ true) ⌝ }
+        ensures { λ r. ⌜ r ≡ scannedOf self (now (bytes .entry)) at ⌝ }
+    {
+        if self.counts_whole() {
+            let run = run_from(bytes, at, self.magnitude);
+            return Scanned {
+                number: self.counted(self.decimals, run.magnitude),
+                at: run.at,
+            };
+        }
+        Scanned {
+            number: self.with_digit(bytes[at] - b'0'),
+            at: at + 1,
+        }
     }
 
     // Its magnitude in ten-thousandths.

@@ -1,9 +1,34 @@
--- The ways of `firstOf`, in its order: each return is that definition under the tests and calls that led there.
+-- The ways of `firstOf`: each return is that definition under the tests and calls that led there.
+use mathlib.Core.Path.{_≡_, refl, sym, _∙_}
+use mathlib.Core.List.{List, [], _∷_}
+use Prim.Native.Nat.{ℕ}
+use types.Run.{OneOf, miss}
+use denote.Enum.Declared.{tagOf}
 use Rattle.exact.proofs.Rules.{rules}
+use Rattle.reader.specs.declared.bytes.Class.{Class}
+use Rattle.reader.specs.declared.bytes.Class.the-variants.{Blank, Semicolon, Letter, Digit, Sign, Point, Other}
+use Rattle.reader.specs.declared.Mode.the-variants.{PassOver}
+use Rattle.reader.specs.declared.Reader.{Reader}
+use Rattle.reader.specs.Reader.{unknown, refuseOf}
 use Rattle.reader.specs.Step.{firstOf}
+use Rattle.reader.proofs.bytes.Class.{the-type}
 use borrow.Author.Needs.{needs}
 use Rattle.reader.proofs.Reader.first.Statement.{statement}
 use Rattle.reader.proofs.Reader.first.Tie as tie
+
+-- What is neither semicolon nor letter is refused, and the rest is passed over.
+abbrev unfit : List ℕ
+unfit = 0 ∷ 3 ∷ 4 ∷ 5 ∷ 6 ∷ []
+
+fails : (r : Reader) (a : ℕ) (k : Class) → OneOf unfit (tagOf the-type k) → firstOf r a k ≡ refuseOf r PassOver unknown
+unfolding firstOf
+fails r a Blank o = refl
+fails r a Semicolon o = absurd (miss unfit 1 tt o)
+fails r a (Letter l) o = absurd (miss unfit 2 tt o)
+fails r a (Digit d) o = refl
+fails r a (Sign s) o = refl
+fails r a Point o = refl
+fails r a Other o = refl
 
 enum-told : tie.Need-enum-told
 enum-told c = search needs
@@ -11,41 +36,14 @@ enum-told c = search needs
 refuse-requires : tie.Need-refuse-requires
 refuse-requires c κs = search needs
 
-enum-told-2 : tie.Need-enum-told-2
-enum-told-2 c = search needs
-
-refuse-requires-2 : tie.Need-refuse-requires-2
-refuse-requires-2 c κs = search needs
-
 enum-known-class : tie.Need-enum-known-class
 enum-known-class c = search needs
 
 name-requires : tie.Need-name-requires
 name-requires c κs = search needs
 
-enum-told-3 : tie.Need-enum-told-3
-enum-told-3 c = search needs
-
-refuse-requires-3 : tie.Need-refuse-requires-3
-refuse-requires-3 c κs = search needs
-
-enum-told-4 : tie.Need-enum-told-4
-enum-told-4 c = search needs
-
-refuse-requires-4 : tie.Need-refuse-requires-4
-refuse-requires-4 c κs = search needs
-
-enum-told-5 : tie.Need-enum-told-5
-enum-told-5 c = search needs
-
-refuse-requires-5 : tie.Need-refuse-requires-5
-refuse-requires-5 c κs = search needs
-
-enum-told-6 : tie.Need-enum-told-6
-enum-told-6 c = search needs
-
-refuse-requires-6 : tie.Need-refuse-requires-6
-refuse-requires-6 c κs = search needs
+refuse-requires-2 : tie.Need-refuse-requires-2
+refuse-requires-2 c κs = search needs
 
 returns : tie.Need-returns
 unfolding firstOf
@@ -53,27 +51,10 @@ returns c = search (rules, ← c .refuse .ensures, c .before .enum-told .given .
 
 returns-2 : tie.Need-returns-2
 unfolding firstOf
-returns-2 c = search (rules, ← c .refuse2 .ensures, c .before .enum-told2 .given .1)
+returns-2 c = search (rules, ← c .name .ensures, c .before .before .class .given .1)
 
 returns-3 : tie.Need-returns-3
-unfolding firstOf
-returns-3 c = search (rules, ← c .name .ensures, c .before .before .class .given .1)
-
-returns-4 : tie.Need-returns-4
-unfolding firstOf
-returns-4 c = search (rules, ← c .refuse3 .ensures, c .before .enum-told3 .given .1)
-
-returns-5 : tie.Need-returns-5
-unfolding firstOf
-returns-5 c = search (rules, ← c .refuse4 .ensures, c .before .enum-told4 .given .1)
-
-returns-6 : tie.Need-returns-6
-unfolding firstOf
-returns-6 c = search (rules, ← c .refuse5 .ensures, c .before .enum-told5 .given .1)
-
-returns-7 : tie.Need-returns-7
-unfolding firstOf
-returns-7 c = search (rules, ← c .refuse6 .ensures, c .before .enum-told6 .given .1)
+returns-3 c = c .refuse2 .ensures ∙ sym (fails _ _ _ (c .before .match .keys3))
 
 pub first-spec : {M : Type 1} → statement M
 first-spec =
@@ -81,22 +62,9 @@ first-spec =
     (tie.spec
     enum-told
     refuse-requires
-    enum-told-2
-    refuse-requires-2
     enum-known-class
     name-requires
-    enum-told-3
-    refuse-requires-3
-    enum-told-4
-    refuse-requires-4
-    enum-told-5
-    refuse-requires-5
-    enum-told-6
-    refuse-requires-6
+    refuse-requires-2
     returns
     returns-2
-    returns-3
-    returns-4
-    returns-5
-    returns-6
-    returns-7)
+    returns-3)

@@ -1,102 +1,78 @@
--- The ways of `idleOf`, in its order: each return is that definition under the tests and calls that led there.
+-- The ways of `idleOf`: each return is that definition under the tests and calls that led there.
+use mathlib.Core.Path.{_≡_, refl, sym, _∙_}
+use mathlib.Core.List.{List, [], _∷_}
+use Prim.Native.Nat.{ℕ}
+use types.Run.{OneOf, miss}
+use denote.Enum.Declared.{tagOf}
 use Rattle.exact.proofs.Rules.{rules}
+use Rattle.reader.specs.declared.bytes.Class.{Class}
+use Rattle.reader.specs.declared.bytes.Class.the-variants.{Blank, Semicolon, Letter, Digit, Sign, Point, Other}
+use Rattle.reader.specs.declared.Mode.the-variants.{Idle, PassOver}
+use Rattle.reader.specs.declared.Reader.{Reader}
+use Rattle.reader.specs.Reader.{unknown, quietOf, refuseOf}
 use Rattle.reader.specs.Step.{idleOf}
+use Rattle.reader.proofs.bytes.Class.{the-type}
 use borrow.Author.Needs.{needs}
 use Rattle.reader.proofs.Reader.idle.Statement.{statement}
 use Rattle.reader.proofs.Reader.idle.Tie as tie
 
-enum-told : tie.Need-enum-told
-enum-told c = search needs
+-- Blanks and semicolons leave the mode; what is no letter is refused.
+abbrev between : List ℕ
+between = 0 ∷ 1 ∷ []
+
+stays : (r : Reader) (k : Class) → OneOf between (tagOf the-type k) → idleOf r k ≡ quietOf r Idle
+unfolding idleOf
+stays r Blank o = refl
+stays r Semicolon o = refl
+stays r (Letter l) o = absurd (miss between 2 tt o)
+stays r (Digit d) o = absurd (miss between 3 tt o)
+stays r (Sign s) o = absurd (miss between 4 tt o)
+stays r Point o = absurd (miss between 5 tt o)
+stays r Other o = absurd (miss between 6 tt o)
+
+abbrev unfit : List ℕ
+unfit = 3 ∷ 4 ∷ 5 ∷ 6 ∷ []
+
+fails : (r : Reader) (k : Class) → OneOf unfit (tagOf the-type k) → idleOf r k ≡ refuseOf r PassOver unknown
+unfolding idleOf
+fails r Blank o = absurd (miss unfit 0 tt o)
+fails r Semicolon o = absurd (miss unfit 1 tt o)
+fails r (Letter l) o = absurd (miss unfit 2 tt o)
+fails r (Digit d) o = refl
+fails r (Sign s) o = refl
+fails r Point o = refl
+fails r Other o = refl
 
 quiet-requires : tie.Need-quiet-requires
 quiet-requires c κs = search needs
 
-enum-told-2 : tie.Need-enum-told-2
-enum-told-2 c = search needs
+enum-known-class : tie.Need-enum-known-class
+enum-known-class c = search needs
 
 quiet-requires-2 : tie.Need-quiet-requires-2
 quiet-requires-2 c κs = search needs
 
-enum-known-class : tie.Need-enum-known-class
-enum-known-class c = search needs
-
-quiet-requires-3 : tie.Need-quiet-requires-3
-quiet-requires-3 c κs = search needs
-
-enum-told-3 : tie.Need-enum-told-3
-enum-told-3 c = search needs
-
 refuse-requires : tie.Need-refuse-requires
 refuse-requires c κs = search needs
 
-enum-told-4 : tie.Need-enum-told-4
-enum-told-4 c = search needs
-
-refuse-requires-2 : tie.Need-refuse-requires-2
-refuse-requires-2 c κs = search needs
-
-enum-told-5 : tie.Need-enum-told-5
-enum-told-5 c = search needs
-
-refuse-requires-3 : tie.Need-refuse-requires-3
-refuse-requires-3 c κs = search needs
-
-enum-told-6 : tie.Need-enum-told-6
-enum-told-6 c = search needs
-
-refuse-requires-4 : tie.Need-refuse-requires-4
-refuse-requires-4 c κs = search needs
-
 returns : tie.Need-returns
-unfolding idleOf
-returns c = search (rules, ← c .quiet .ensures, c .before .enum-told .given .1)
+returns c = c .quiet .ensures ∙ sym (stays _ _ (c .before .match .keys1))
 
 returns-2 : tie.Need-returns-2
 unfolding idleOf
-returns-2 c = search (rules, ← c .quiet2 .ensures, c .before .enum-told2 .given .1)
+returns-2 c = search (rules, ← c .quiet2 .ensures, c .before .before .class .given .1)
 
 returns-3 : tie.Need-returns-3
-unfolding idleOf
-returns-3 c = search (rules, ← c .quiet3 .ensures, c .before .before .class .given .1)
-
-returns-4 : tie.Need-returns-4
-unfolding idleOf
-returns-4 c = search (rules, ← c .refuse .ensures, c .before .enum-told3 .given .1)
-
-returns-5 : tie.Need-returns-5
-unfolding idleOf
-returns-5 c = search (rules, ← c .refuse2 .ensures, c .before .enum-told4 .given .1)
-
-returns-6 : tie.Need-returns-6
-unfolding idleOf
-returns-6 c = search (rules, ← c .refuse3 .ensures, c .before .enum-told5 .given .1)
-
-returns-7 : tie.Need-returns-7
-unfolding idleOf
-returns-7 c = search (rules, ← c .refuse4 .ensures, c .before .enum-told6 .given .1)
+returns-3 c = c .refuse .ensures ∙ sym (fails _ _ (c .before .match .keys3))
 
 pub idle-spec : {M : Type 1} → statement M
 idle-spec =
     tie.close
     (tie.spec
-    enum-told
     quiet-requires
-    enum-told-2
-    quiet-requires-2
     enum-known-class
-    quiet-requires-3
-    enum-told-3
+    quiet-requires-2
     refuse-requires
-    enum-told-4
-    refuse-requires-2
-    enum-told-5
-    refuse-requires-3
-    enum-told-6
-    refuse-requires-4
     returns
     returns-2
-    returns-3
-    returns-4
-    returns-5
-    returns-6
-    returns-7)
+    returns-3)

@@ -6,7 +6,7 @@ use lib.ListN.{length, drop}
 use borrow.Author.Needs.{needs}
 use Rattle.reader.specs.Next.{nextOf}
 use Rattle.reader.specs.NextLaws.{next-past}
-use Rattle.reader.proofs.Laws.{digit-step, quiet-at, event-at, digit-at}
+use Rattle.reader.proofs.Places.{in-number, quiet-at, event-at, scanned-at}
 use Rattle.reader.proofs.Reader.next.Statement.{statement}
 use Rattle.reader.proofs.Reader.next.Tie as tie
 
@@ -22,29 +22,32 @@ loop-holds c = refl
 shared-slice-read-byte : tie.Need-shared-slice-read-byte Inv-loop μ-loop
 shared-slice-read-byte c = omega arith
 
-add-at : tie.Need-add-at Inv-loop μ-loop
-add-at c = omega arith
-
 more-digits-requires : tie.Need-more-digits-requires Inv-loop μ-loop
 more-digits-requires c κs = search needs
 
-sub-with-digit : tie.Need-sub-with-digit Inv-loop μ-loop
-sub-with-digit c =
-    let l : tie.At-loop Inv-loop μ-loop = search in
-    omega (arith, digit-step (l .loop .reader) _ (sym (c .before .before .more-digits .ensures) ∙ c .before .if1 .taken) .0)
-
-with-digit-requires : tie.Need-with-digit-requires Inv-loop μ-loop
-with-digit-requires c κs = search needs
+with-digits-requires : tie.Need-with-digits-requires Inv-loop μ-loop
+with-digits-requires c κs =
+    let t : tie.In-loop Inv-loop μ-loop = search in
+    let l = t .before .loop in
+    let d : tie.Then1 Inv-loop μ-loop = search in
+    (t .loop-test .taken, in-number (l .reader .mode) _ (sym (d .before .more-digits .ensures) ∙ d .if1 .taken) .1)
 
 loop-less : tie.Need-loop-less Inv-loop μ-loop
-loop-less c = omega arith
+loop-less c =
+    let t : tie.In-loop Inv-loop μ-loop = search in
+    let l = t .before .loop in
+    let d : tie.Then1 Inv-loop μ-loop = search in
+    omega (arith, scanned-at (l .reader) _ (l .at) (t .loop-test .taken) (sym (d .before .more-digits .ensures) ∙ d .if1 .taken) (c .before .with-digits .result) (c .before .with-digits .ensures) .0)
 
 loop-again : tie.Need-loop-again Inv-loop μ-loop
 loop-again c =
     let t : tie.In-loop Inv-loop μ-loop = search in
     let l = t .before .loop in
     let d : tie.Then1 Inv-loop μ-loop = search in
-    l .inv ∙ digit-at (l .reader) _ (l .at) (t .loop-test .taken) (c .with-digit .result) (sym (d .before .more-digits .ensures) ∙ d .if1 .taken) (c .with-digit .ensures)
+    l .inv ∙ scanned-at (l .reader) _ (l .at) (t .loop-test .taken) (sym (d .before .more-digits .ensures) ∙ d .if1 .taken) (c .before .with-digits .result) (c .before .with-digits .ensures) .1
+
+add-at : tie.Need-add-at Inv-loop μ-loop
+add-at c = omega arith
 
 step-requires : tie.Need-step-requires Inv-loop μ-loop
 step-requires c κs = search needs
@@ -82,12 +85,11 @@ next-spec =
     μ-loop
     loop-holds
     shared-slice-read-byte
-    add-at
     more-digits-requires
-    sub-with-digit
-    with-digit-requires
+    with-digits-requires
     loop-less
     loop-again
+    add-at
     step-requires
     is-nothing-requires
     loop-less-2
