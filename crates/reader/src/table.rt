@@ -1,6 +1,6 @@
 // The table of sixteen instructions, and what is looked up in it.
 ghost use mathlib.Core.Path.{_≡_};
-ghost use Prim.Native.Nat.{_<_};
+ghost use Prim.Native.Nat.{_+_, _*_, _<_};
 ghost use Rattle.reader.specs.Table.{rows, rowOf, namesOf, findOf, isLabel, countFits, takesPairs, hasRoom, knownInPolygon, changesSettings};
 
 // An instruction's code is its place in the table.
@@ -91,14 +91,18 @@ fn row(op: usize) -> [u8; COLUMNS]
     TABLE[op]
 }
 
+// Two letters as one number, so that they are compared at once.
+fn both(first: u8, second: u8) -> u16
+    ensures { λ r. ⌜ (r ≡ first * 256 + second) × (second < 256) ⌝ }
+{
+    (first as u16) * 256 + second as u16
+}
+
 // Whether a row has these two letters.
 fn names(row: [u8; COLUMNS], first: u8, second: u8) -> bool
     ensures { λ r. ⌜ r ≡ namesOf row first second ⌝ }
 {
-    if row[FIRST] == first {
-        return row[SECOND] == second;
-    }
-    false
+    both(row[FIRST], row[SECOND]) == both(first, second)
 }
 
 // The instruction that two letters name.
