@@ -2,5 +2,4 @@ pub mod Calls
 pub mod Run
 pub mod RunLaws
 pub mod Gather
-pub mod Far
 pub mod GatherLaws

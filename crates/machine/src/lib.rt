@@ -10,11 +10,9 @@ ghost use Rattle.hpgl.specs.Made.{Made};
 ghost use Rattle.saving.specs.Saved.{stateNumbers, savedOf, loadedOf};
 ghost use Rattle.machine.specs.Calls.{startedOf, takenOf, workedOf};
 ghost use Rattle.machine.specs.Run.{runOf};
-ghost use Rattle.machine.specs.Gather.{gatheredOf, plottedOf};
-
-mod gathering;
-
+ghost use Rattle.machine.specs.Gather.{gatheredOf, plottedOf, gatheredBy};
 use clip::Rect;
+use gathering::Stopped;
 use gathering::gather;
 pub use hpgl::Drawn;
 pub use hpgl::Look;
@@ -70,6 +68,18 @@ pub struct Gathered {
     pub at: usize,
     pub stored: usize,
     pub number: u8,
+}
+
+fn answered(g: Stopped) -> Gathered
+    ensures { λ r. ⌜ r ≡ gatheredBy g ⌝ }
+{
+    let state = g.state;
+    Gathered {
+        machine: Machine { state: state },
+        at: g.at,
+        stored: g.stored,
+        number: g.number,
+    }
 }
 
 impl Machine {
@@ -189,16 +199,16 @@ impl Machine {
         // with no room for a stroke, feed stops where a segment waits
         let mut none = [0; 1];
         let g = gather(m, bytes, from, &mut none, false);
-        let machine = g.machine;
+        let state = g.state;
         if g.number == LIST_FULL {
             return Ran {
-                machine: machine,
+                machine: Machine { state: state },
                 at: g.at,
                 number: 0,
             };
         }
         Ran {
-            machine: machine,
+            machine: Machine { state: state },
             at: g.at,
             number: g.number,
         }
@@ -211,7 +221,7 @@ impl Machine {
         ensures { λ r. ⌜ now (numbers .exit) ≡ laidNumbers (feedFrom (self .state) (drop from (now (bytes .entry))) from (length (now (numbers .entry)) / 5) .strokes) (now (numbers .entry)) ⌝ }
     {
         let m = self.state;
-        gather(m, bytes, from, numbers, false)
+        answered(gather(m, bytes, from, numbers, false))
     }
 
     // A feed that goes on after a refused byte, and stores the refusal among the strokes: 0, its number, its place counted from 1, 0, 0.
@@ -221,7 +231,7 @@ impl Machine {
         ensures { λ r. ⌜ now (numbers .exit) ≡ laidMarks (plotFrom (self .state) (drop from (now (bytes .entry))) from (length (now (numbers .entry)) / 5) .marks) (now (numbers .entry)) ⌝ }
     {
         let m = self.state;
-        gather(m, bytes, from, numbers, true)
+        answered(gather(m, bytes, from, numbers, true))
     }
 
     // Writes the machine over a lent list of numbers, as a caller in another language keeps it.

@@ -7,10 +7,10 @@ use lib.Dec.{eqb}
 use lib.ListN.{drop}
 use Rattle.hpgl.specs.Numbers.{listFull}
 use Rattle.hpgl.specs.ValidKept.{made-valid}
-use Rattle.machine.specs.declared.Gathered.{Gathered}
+use Rattle.gathering.specs.declared.Stopped.{Stopped}
+use Rattle.gathering.specs.Gather.{gatherFrom}
 use Rattle.machine.specs.declared.Ran.{Ran}
 use Rattle.machine.specs.Run.{ranOf, runOf}
-use Rattle.machine.specs.Gather.{gatherFrom}
 use Rattle.machine.specs.RunLaws.{run-feeds}
 use Rattle.machine.proofs.Machine.run.Statement.{statement}
 use Rattle.machine.proofs.Machine.run.Tie as tie
@@ -18,8 +18,8 @@ use Rattle.machine.proofs.Machine.run.Tie as tie
 abbrev start : tie.After-gather → tie.Start
 start g = search
 
-abbrev ran : Gathered → Ran
-ran g = ranOf (g .machine .state) (g .at) (cond (eqb (g .number) listFull) 0 (g .number))
+abbrev ran : Stopped → Ran
+ran g = ranOf (g .state) (g .at) (cond (eqb (g .number) listFull) 0 (g .number))
 
 answer : (g : tie.After-gather) → let s = start g .args in ran (g .gather .result) ≡ runOf (s .self .state) (drop (s .from) (s .bytes .now)) (s .from)
 unfolding gatherFrom

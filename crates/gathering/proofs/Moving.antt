@@ -40,10 +40,10 @@ use Rattle.hpgl.specs.Plot.{Plot, refusal}
 use Rattle.instructions.specs.declared.places.Frame.{Frame}
 use Rattle.instructions.specs.declared.hand.Hand.{Hand}
 use Rattle.instructions.specs.Hand.{handOf, lineOf}
-use Rattle.machine.specs.Gather.{whole, countAfter, withStroke, recordOf, putOf}
-use Rattle.machine.specs.Far.{Far, Reached, Begun, Told}
-use Rattle.machine.proofs.Turns.{Turn, reader-off, turn-valid}
-use Rattle.machine.proofs.Gathers.{far-draw, far-turn, far-refusal}
+use Rattle.gathering.specs.Gather.{whole, countAfter, withStroke, recordOf, putOf}
+use Rattle.gathering.specs.Far.{Far, Reached, Begun, Told}
+use Rattle.gathering.proofs.Turns.{Turn, reader-off, turn-valid}
+use Rattle.gathering.proofs.Gathers.{far-draw, far-turn, far-refusal}
 
 -- a name leaves the carriage where it is
 pub letters-position : (k : Carriage) (op : ℕ) → letters k op .position ≡ k .position

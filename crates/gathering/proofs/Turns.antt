@@ -27,7 +27,7 @@ use Rattle.hpgl.specs.Valid.{Valid}
 use Rattle.hpgl.specs.ValidKept.{valid-take}
 use Rattle.instructions.specs.declared.hand.Hand.{Hand}
 use Rattle.instructions.specs.Hand.{carriageOf, coreOf, nameNumber, name-parts, pairs-end}
-use Rattle.machine.specs.Gather.{whole}
+use Rattle.gathering.specs.Gather.{whole}
 
 -- what the calls of one turn gave: the step of the reader, what the core did, and the parts of the next machine
 pub record Turn (m : State) (b : ℕ) (q : Step) (t : Acted) (next : State) : Type 0 where

@@ -31,14 +31,14 @@ use Rattle.instructions.specs.declared.places.Frame.{Frame}
 use Rattle.instructions.specs.declared.hand.Hand.{Hand}
 use Rattle.instructions.specs.Hand.{frameOf, coreOf, lineOf, nameNumber, handOf, carriageOf, locationIn}
 use Rattle.instructions.specs.Locating.{hand-locatable}
-use Rattle.machine.specs.declared.gathering.Moved.{Moved}
-use Rattle.machine.specs.Gather.{whole, stuckOf}
-use Rattle.machine.specs.Far.{Far, Reached, Begun, Came}
-use Rattle.machine.proofs.Turns.{none-acts, ended-acts, named-acts}
-use Rattle.machine.proofs.Gathers.{used-all, stuck-on, one-free, far-fits, far-next}
-use Rattle.machine.proofs.Moving.{letters-position, Sets, Going, going-on, told-other, reached-from, doing, next-kept, next-small, next-drawn, next-refusal}
-use Rattle.machine.proofs.gathering.moves.Statement.{statement}
-use Rattle.machine.proofs.gathering.moves.Tie as tie
+use Rattle.gathering.specs.declared.Moved.{Moved}
+use Rattle.gathering.specs.Gather.{whole, stuckOf}
+use Rattle.gathering.specs.Far.{Far, Reached, Begun, Came}
+use Rattle.gathering.proofs.Turns.{none-acts, ended-acts, named-acts}
+use Rattle.gathering.proofs.Gathers.{used-all, stuck-on, one-free, far-fits, far-next}
+use Rattle.gathering.proofs.Moving.{letters-position, Sets, Going, going-on, told-other, reached-from, doing, next-kept, next-small, next-drawn, next-refusal}
+use Rattle.gathering.proofs.moves.Statement.{statement}
+use Rattle.gathering.proofs.moves.Tie as tie
 
 abbrev Inv-loop : tie.InvT-loop
 Inv-loop frame bytes from numbers₀ before on mode most reader₀ hand₀ here₀ at₀ count₀ numbers reader hand here at count =

@@ -1,9 +1,9 @@
 -- The proof of `put`: by its arms.
 use borrow.Author.Needs.{needs}
 use mathlib.Core.Path.{refl}
-use Rattle.machine.specs.Gather.{countAfter, putOf}
-use Rattle.machine.proofs.gathering.put.Statement.{statement}
-use Rattle.machine.proofs.gathering.put.Tie as tie
+use Rattle.gathering.specs.Gather.{countAfter, putOf}
+use Rattle.gathering.proofs.put.Statement.{statement}
+use Rattle.gathering.proofs.put.Tie as tie
 
 enum-told : tie.Need-enum-told
 enum-told c = search needs

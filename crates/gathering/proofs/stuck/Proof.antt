@@ -3,9 +3,9 @@ use borrow.Author.Needs.{needs}
 use borrow.Author.Tests.{eq-eqb, ne-eqb}
 use mathlib.Core.Path.{refl, ap}
 use lib.Dec.{ltb}
-use Rattle.machine.specs.Gather.{stuckOf}
-use Rattle.machine.proofs.gathering.stuck.Statement.{statement}
-use Rattle.machine.proofs.gathering.stuck.Tie as tie
+use Rattle.gathering.specs.Gather.{stuckOf}
+use Rattle.gathering.proofs.stuck.Statement.{statement}
+use Rattle.gathering.proofs.stuck.Tie as tie
 
 returns : tie.Need-returns
 unfolding stuckOf

@@ -35,10 +35,10 @@ use Rattle.hpgl.specs.FeedLaws.{draw-less}
 use Rattle.hpgl.specs.Valid.{mostChords, ValidWork, Valid}
 use Rattle.hpgl.specs.Cases.{never}
 use Rattle.hpgl.specs.ValidKept.{valid-draw}
-use Rattle.machine.specs.Gather.{whole, gatheredAs, plottedOf, gatherFrom, Gathers, remainsOf, stuckOf, countAfter, withStroke, recordOf, putOf}
-use Rattle.machine.specs.Far.{before, Far, Reached}
-use Rattle.machine.specs.GatherLaws.{at-end, at-stuck, at-byte, at-refusal, at-refused, at-full, at-draw}
-use Rattle.machine.proofs.Turns.{Turn, nothing-is, quiet-turn, turn-number, turn-taken, turn-valid}
+use Rattle.gathering.specs.Gather.{whole, stoppedAs, stoppedOf, gatherFrom, Gathers, remainsOf, stuckOf, countAfter, withStroke, recordOf, putOf}
+use Rattle.gathering.specs.Far.{before, Far, Reached}
+use Rattle.gathering.specs.GatherLaws.{at-end, at-stuck, at-byte, at-refusal, at-refused, at-full, at-draw}
+use Rattle.gathering.proofs.Turns.{Turn, nothing-is, quiet-turn, turn-number, turn-taken, turn-valid}
 
 -- no more wait than a circle has chords
 pub waits-most : (w : Work) → ValidWork w → waiting w ≤ mostChords
@@ -153,15 +153,15 @@ module _ {on : Bool} {all : Plot} {s : List ℕ} {entry now : List ℤ} {m : Sta
 
   -- it stops here
   far-stop : (i : State) (t n : ℕ) → gatherFrom on m (drop at s) at (length entry / 5 - count) ≡ stop i t n →
-      Gathers all entry now (gatheredAs i t count n)
+      Gathers all entry now (stoppedAs i t count n)
   far-stop i t n e =
       let w = far .goes-on ∙ ap (before (far .marks)) e in
       let z = append-nil (far .marks) in (
-        sym (ap plottedOf w ∙ ap (λ (k : ℕ). gatheredAs i t k n) (ap length z ∙ far .counted)),
+        sym (ap stoppedOf w ∙ ap (λ (k : ℕ). stoppedAs i t k n) (ap length z ∙ far .counted)),
         far .laid ∙ sym (ap (λ (f : Plot). laidMarks (f .marks) entry) w ∙ ap (λ (ks : List Mark). laidMarks ks entry) z),
       )
 
-  pub far-full : remainsOf (m .work) at (length s) ≡ true → stuckOf on (m .work) count (length entry / 5) ≡ true → Gathers all entry now (gatheredAs m at count listFull)
+  pub far-full : remainsOf (m .work) at (length s) ≡ true → stuckOf on (m .work) count (length entry / 5) ≡ true → Gathers all entry now (stoppedAs m at count listFull)
   far-full h k =
       let z : length entry / 5 - count ≡ 0 = omega (arith, used-all (m .work) count (length entry / 5) on k) in
       far-stop m at listFull (ap (λ (r : ℕ). gatherFrom on m (drop at s) at r) z ∙ full (waiting (m .work)) refl)
@@ -172,7 +172,7 @@ module _ {on : Bool} {all : Plot} {s : List ℕ} {entry now : List ℤ} {m : Sta
           ∙ at-stuck m at z (getD s at 0) (drop (at + 1) s) (stuck-on (m .work) count (length entry / 5) on k z)
       full (suc n) z = at-full m (drop at s) at (omega (arith, z)) on
 
-  pub far-end : waiting (m .work) ≡ 0 → length s ≤ at → Gathers all entry now (gatheredAs m at count 0)
+  pub far-end : waiting (m .work) ≡ 0 → length s ≤ at → Gathers all entry now (stoppedAs m at count 0)
   far-end h k = far-stop m at 0 (rw (drop-of-length-le s k) (at-end m at h on (length entry / 5 - count)))
 
   -- a mark is stored, and the machine `next` goes on from the place t
@@ -275,7 +275,7 @@ module _ {on : Bool} {all : Plot} {s : List ℕ} {entry now : List ℤ} {m : Sta
           ∙ (λ i. store (refusal (number-is i) (at + 1)) (gatherFrom on (state-is i) (drop (at + 1) s) (at + 1) (length entry / 5 - (count + 1))))))
 
       -- it ends here
-      pub far-refused : on ≡ false → Gathers all entry now (gatheredAs next (at + 1) count (t .number))
+      pub far-refused : on ≡ false → Gathers all entry now (stoppedAs next (at + 1) count (t .number))
       far-refused o =
           far-stop next (at + 1) (t .number)
           (on-byte (length entry / 5 - count)

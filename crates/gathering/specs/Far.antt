@@ -21,8 +21,8 @@ use Rattle.hpgl.specs.Plot.{Mark, Plot, laidMarks}
 use Rattle.hpgl.specs.Valid.{Valid}
 use Rattle.instructions.specs.declared.places.Frame.{Frame}
 use Rattle.instructions.specs.Hand.{frameOf, coreOf}
-use Rattle.machine.specs.declared.gathering.Moved.{Moved}
-use Rattle.machine.specs.Gather.{whole, gatherFrom}
+use Rattle.gathering.specs.declared.Moved.{Moved}
+use Rattle.gathering.specs.Gather.{whole, gatherFrom}
 
 -- marks that were stored before what f stores
 abbrev pub before : List Mark → Plot → Plot

@@ -47,13 +47,13 @@ use Rattle.instructions.specs.Alone.{action-alone}
 use Rattle.instructions.specs.First.{place-within}
 use Rattle.instructions.specs.Corners.{segmentIn, BeginsAt, segment-waits, corner-begins, next-begins, action-begins, pair-begins}
 use Rattle.instructions.specs.Hand.{frameOf, coreOf}
-use Rattle.machine.specs.Gather.{whole, gatheredAs, gatherFrom, withStroke, recordOf}
-use Rattle.machine.specs.Far.{Far, Reached, Begun, Came}
-use Rattle.machine.proofs.Turns.{Turn, reader-on, reader-off, turn-valid, acting, refused-acts, settled-acts, pair-acts, named-acts, unknown-acts}
-use Rattle.machine.proofs.Gathers.{waits-most, waits-less, byte-remains, none-remains, far-start, far-free, far-fits, far-full, far-end, far-draw, far-turn, far-refusal, far-refused}
-use Rattle.machine.proofs.Moving.{told-met}
-use Rattle.machine.proofs.gathering.gather.Statement.{statement}
-use Rattle.machine.proofs.gathering.gather.Tie as tie
+use Rattle.gathering.specs.Gather.{whole, stoppedAs, gatherFrom, withStroke, recordOf}
+use Rattle.gathering.specs.Far.{Far, Reached, Begun, Came}
+use Rattle.gathering.proofs.Turns.{Turn, reader-on, reader-off, turn-valid, acting, refused-acts, settled-acts, pair-acts, named-acts, unknown-acts}
+use Rattle.gathering.proofs.Gathers.{waits-most, waits-less, byte-remains, none-remains, far-start, far-free, far-fits, far-full, far-end, far-draw, far-turn, far-refusal, far-refused}
+use Rattle.gathering.proofs.Moving.{told-met}
+use Rattle.gathering.proofs.gather.Statement.{statement}
+use Rattle.gathering.proofs.gather.Tie as tie
 
 abbrev Inv-loop : tie.InvT-loop
 Inv-loop bytes from numbers₀ on sines reader₀ settings₀ frame₀ hand₀ polygon₀ store₀ work₀ vertex₀ at₀ count₀ room numbers reader settings frame hand polygon store work vertex at count =
@@ -542,7 +542,7 @@ returns c =
     let t : tie.Then2 Inv-loop μ-loop = search in
     let p : tie.After-core-of Inv-loop μ-loop = search in
     let f = far-full (far l) (sym (o .before .remains .ensures) ∙ o .if1 .taken) (sym (t .before .stuck .ensures) ∙ t .if2 .taken) in
-    let e = ap (λ (k : Core). gatheredAs (whole (l .loop .reader) k (l .loop .store) (l .loop .work)) (l .loop .at) (l .loop .count) listFull) (p .core-of .ensures) in
+    let e = ap (λ (k : Core). stoppedAs (whole (l .loop .reader) k (l .loop .store) (l .loop .work)) (l .loop .at) (l .loop .count) listFull) (p .core-of .ensures) in
     (c .gathered .ensures ∙ e ∙ f .0, f .1)
 
 waiting-requires : tie.Need-waiting-requires Inv-loop μ-loop
@@ -770,7 +770,7 @@ returns-2 c =
     let m = reached j in
     let f = far-refused (m .far) (turn r (passed p)) (m .idle) (m .within) (refused p) (e .if6 .left) in (
       c .gathered2 .ensures
-          ∙ (λ i. gatheredAs (whole (p .passed-over .result) (k .core-of4 .ensures i) (kept r .match2 .store) (r .queued .result)) (m .ends i) (read j .moves .result .count) (j .match .number))
+          ∙ (λ i. stoppedAs (whole (p .passed-over .result) (k .core-of4 .ensures i) (kept r .match2 .store) (r .queued .result)) (m .ends i) (read j .moves .result .count) (j .match .number))
           ∙ f .0,
       f .1,
     )
@@ -802,7 +802,7 @@ returns-3 c =
     let p : tie.After-core-of5 Inv-loop μ-loop = search in
     let n = none-remains (l .loop .work) _ _ (sym (e .before .remains .ensures) ∙ e .if1 .left) in
     let f = far-end (far l) (n .0) (n .1) in
-    let k = ap (λ (k : Core). gatheredAs (whole (l .loop .reader) k (l .loop .store) (l .loop .work)) (l .loop .at) (l .loop .count) 0) (p .core-of5 .ensures) in
+    let k = ap (λ (k : Core). stoppedAs (whole (l .loop .reader) k (l .loop .store) (l .loop .work)) (l .loop .at) (l .loop .count) 0) (p .core-of5 .ensures) in
     (c .gathered3 .ensures ∙ k ∙ f .0, f .1)
 
 pub gather-spec : {M : Type 1} → statement M

@@ -1,13 +1,11 @@
-// Feed and plot into a list of plain numbers: the machine is taken apart once, and a part is touched by the events that change it alone.
+// Feed and plot of document 01's machine into a list of plain numbers: its state is taken apart once, and a part is touched by the events that change it alone.
 ghost use mathlib.Core.Path.{_≡_};
 ghost use Prim.Native.Nat.{_/_, _*_, _+_, _^_, _<_, _≤_};
 ghost use lib.ListN.{length, drop};
 ghost use Rattle.hpgl.specs.Plot.{refusal};
 ghost use Rattle.hpgl.specs.Valid.{Valid};
-ghost use Rattle.machine.specs.Gather as S;
-ghost use Rattle.machine.specs.Far as F;
-use super::Gathered;
-use super::Machine;
+ghost use Rattle.gathering.specs.Gather as S;
+ghost use Rattle.gathering.specs.Far as F;
 use hpgl::Action;
 use hpgl::Core;
 use hpgl::Drawn;
@@ -45,6 +43,14 @@ use sines::table;
 // The numbers of a record: pen and ends of a stroke.
 const NUMBERS: usize = 5;
 
+// How far a feed or a plot went: the state, the place of the next byte, how many records are stored, and 01's number.
+pub struct Stopped {
+    pub state: State,
+    pub at: usize,
+    pub stored: usize,
+    pub number: u8,
+}
+
 // The parts put together again.
 fn gathered(
     reader: Reader,
@@ -54,17 +60,15 @@ fn gathered(
     at: usize,
     count: usize,
     number: u8,
-) -> Gathered
-    ensures { λ r. ⌜ r ≡ S.gatheredAs (S.whole reader core store work) at count number ⌝ }
+) -> Stopped
+    ensures { λ r. ⌜ r ≡ S.stoppedAs (S.whole reader core store work) at count number ⌝ }
 {
-    Gathered {
-        machine: Machine {
-            state: State {
-                reader: reader,
-                core: core,
-                store: store,
-                work: work,
-            },
+    Stopped {
+        state: State {
+            reader: reader,
+            core: core,
+            store: store,
+            work: work,
         },
         at: at,
         stored: count,
@@ -243,7 +247,7 @@ fn moves(
 
 // Draws while a segment waits, else takes bytes up to the next that means something, up to the last, or one with no room for what it may leave.
 // A byte that is refused ends it, or it goes on with the refusal stored.
-pub fn gather(m: State, bytes: &[u8], from: usize, numbers: &mut [i64], on: bool) -> Gathered
+pub fn gather(m: State, bytes: &[u8], from: usize, numbers: &mut [i64], on: bool) -> Stopped
     requires { ⌜ Valid m ⌝ }
     ensures { λ r. ⌜ S.Gathers (S.gatherFrom on m (drop from (now (bytes .entry))) from (length (now (numbers .entry)) / 5)) (now (numbers .entry)) (now (numbers .exit)) r ⌝ }
 {

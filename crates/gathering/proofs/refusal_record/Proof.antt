@@ -7,8 +7,8 @@ use lib.IntN.{pos}
 use mir.Val.{toZ}
 use mir.Syntax.{w64}
 use Rattle.exact.specs.Fit.{of-nat}
-use Rattle.machine.proofs.gathering.refusal_record.Statement.{statement}
-use Rattle.machine.proofs.gathering.refusal_record.Tie as tie
+use Rattle.gathering.proofs.refusal_record.Statement.{statement}
+use Rattle.gathering.proofs.refusal_record.Tie as tie
 
 cast-t3 : tie.Need-cast-t3
 cast-t3 c = search needs

@@ -8,9 +8,9 @@ use lib.ListN.{set, length-set}
 use mir.Val.{toZ}
 use mir.Syntax.{w64}
 use Rattle.exact.specs.Fit.{arg, of-nat}
-use Rattle.machine.specs.Gather.{withStroke}
-use Rattle.machine.proofs.gathering.put_record.Statement.{statement}
-use Rattle.machine.proofs.gathering.put_record.Tie as tie
+use Rattle.gathering.specs.Gather.{withStroke}
+use Rattle.gathering.proofs.put_record.Statement.{statement}
+use Rattle.gathering.proofs.put_record.Tie as tie
 
 mul-k : tie.Need-mul-k
 mul-k c = search needs

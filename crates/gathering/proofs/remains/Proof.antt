@@ -3,9 +3,9 @@ use borrow.Author.Needs.{needs}
 use borrow.Author.Tests.{lt-ltb, le-ltb}
 use mathlib.Core.Path.{refl, ap}
 use lib.Dec.{ltb}
-use Rattle.machine.specs.Gather.{remainsOf}
-use Rattle.machine.proofs.gathering.remains.Statement.{statement}
-use Rattle.machine.proofs.gathering.remains.Tie as tie
+use Rattle.gathering.specs.Gather.{remainsOf}
+use Rattle.gathering.proofs.remains.Statement.{statement}
+use Rattle.gathering.proofs.remains.Tie as tie
 
 returns : tie.Need-returns
 unfolding remainsOf

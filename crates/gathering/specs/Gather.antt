@@ -1,0 +1,74 @@
+-- Feed and plot as one, what they answer, and what their loop asks: strokes and refusals go into a list of plain numbers.
+use mathlib.Core.Path.{_≡_}
+use Prim.Native.Nat.{ℕ, _+_}
+use mathlib.Core.Bool.{Bool, true, false, cond}
+use mathlib.Core.List.{List, map}
+use lib.Dec.{eqb, ltb}
+use lib.IntN.{ℤ, pos}
+use lib.ListN.{length, set}
+use Rattle.reader.specs.declared.Reader.{Reader}
+use Rattle.hpgl.specs.declared.Core.{Core}
+use Rattle.hpgl.specs.declared.Store.{Store}
+use Rattle.hpgl.specs.declared.Work.{Work}
+use Rattle.hpgl.specs.declared.State.{State}
+use Rattle.hpgl.specs.declared.Stroke.{Stroke}
+use Rattle.hpgl.specs.declared.Drawn.{Drawn}
+use Rattle.hpgl.specs.declared.Drawn.the-variants as drawn
+use Rattle.hpgl.specs.Machine.{waiting}
+use Rattle.hpgl.specs.Feed.{Feed, feedFrom}
+use Rattle.hpgl.specs.Plot.{Mark, stroke, refusal, Plot, plotFrom, laidMarks}
+use Rattle.gathering.specs.declared.Stopped.{Stopped}
+
+abbrev pub stoppedAs : State → ℕ → ℕ → ℕ → Stopped
+stoppedAs m at k n = record { state = m; at = at; stored = k; number = n }
+
+abbrev pub stoppedOf : Plot → Stopped
+stoppedOf f = stoppedAs (f .state) (f .taken) (length (f .marks)) (f .number)
+
+-- ---- gather and plot as one
+
+-- a feed as a plot: its strokes are the marks
+abbrev pub marked : Feed → Plot
+marked f = record { state = f .state; taken = f .taken; marks = map stroke (f .strokes); number = f .number }
+
+-- whether it goes on after a refused byte
+unfoldable pub gatherFrom : Bool → State → List ℕ → ℕ → ℕ → Plot
+gatherFrom true m bs t r = plotFrom m bs t r
+gatherFrom false m bs t r = marked (feedFrom m bs t r)
+
+-- what is left of it: the answer, and the list
+abbrev pub Gathers : Plot → List ℤ → List ℤ → Stopped → Type 0
+Gathers f entry exit r = (r ≡ stoppedOf f) × (exit ≡ laidMarks (f .marks) entry)
+
+-- ---- what the loop asks of the parts of a machine, and what a turn of it stores
+
+abbrev pub whole : Reader → Core → Store → Work → State
+whole r c st w = record { reader = r; core = c; store = st; work = w }
+
+-- a byte is left, of as many as `end`, or a segment waits
+unfoldable pub remainsOf : Work → ℕ → ℕ → Bool
+remainsOf w at end = cond (ltb at end) true (ltb 0 (waiting w))
+
+-- what comes next may need a record, of which all are used: a segment does, and where refusals are stored any byte
+unfoldable pub stuckOf : Bool → Work → ℕ → ℕ → Bool
+stuckOf on w k room = cond (eqb k room) (cond on true (ltb 0 (waiting w))) false
+
+-- the marks after a draw, of k before it
+unfoldable pub countAfter : Drawn → ℕ → ℕ
+countAfter (drawn.Stroke s) k = k + 1
+countAfter drawn.Hidden k = k
+countAfter drawn.Idle k = k
+
+-- a stroke's numbers from the place i on
+unfoldable pub withStroke : Stroke → ℕ → List ℤ → List ℤ
+withStroke s i numbers = set (set (set (set (set numbers i (pos (s .pen))) (i + 1) (s .x0)) (i + 2) (s .y0)) (i + 3) (s .x1)) (i + 4) (s .y1)
+
+-- a mark as a record of five numbers: a refusal has the pen 0, its number and its place
+abbrev pub recordOf : Mark → Stroke
+recordOf (stroke s) = s
+recordOf (refusal n t) = record { pen = 0; x0 = pos n; y0 = pos t; x1 = pos 0; y1 = pos 0 }
+
+unfoldable pub putOf : Drawn → ℕ → List ℤ → List ℤ
+putOf (drawn.Stroke s) i numbers = withStroke s i numbers
+putOf drawn.Hidden i numbers = numbers
+putOf drawn.Idle i numbers = numbers

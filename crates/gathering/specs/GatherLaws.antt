@@ -1,0 +1,62 @@
+-- Feed and plot as one: one step of either, as equations of `gatherFrom`.
+use mathlib.Core.Path.{_≡_, refl, ap, _∙_}
+use mathlib.Core.Bool.{Bool, true, false}
+use mathlib.Core.List.{List, [], _∷_}
+use Prim.Native.Nat.{ℕ, zero, suc, _+_, _<_}
+use native.Mathlib.Omega.{arith}
+use Rattle.hpgl.specs.declared.State.{State}
+use Rattle.hpgl.specs.declared.Drawn.{Drawn}
+use Rattle.hpgl.specs.declared.Drawn.the-variants as drawn
+use Rattle.hpgl.specs.Numbers.{listFull}
+use Rattle.hpgl.specs.Machine.{waiting, takeState, takeNumber, drawState, drawAnswer}
+use Rattle.hpgl.specs.Feed as F
+use Rattle.hpgl.specs.FeedLaws as feed
+use Rattle.hpgl.specs.Plot.{refusal, stop, store, drew}
+use Rattle.hpgl.specs.PlotLaws as plot
+use Rattle.gathering.specs.Gather.{marked, gatherFrom}
+
+-- ---- one step
+
+module _ (m : State) (t : ℕ) (idle : waiting (m .work) ≡ 0) where
+  pub at-end : (on : Bool) (r : ℕ) → gatherFrom on m [] t r ≡ stop m t 0
+  unfolding gatherFrom
+  at-end true r = plot.at-end m t idle r
+  at-end false r = ap marked (feed.at-end m t r idle)
+
+  module _ (b : ℕ) (bs : List ℕ) where
+    -- where refusals are stored, a byte waits for a record
+    pub at-stuck : {on : Bool} → on ≡ true → gatherFrom on m (b ∷ bs) t 0 ≡ stop m t listFull
+    unfolding gatherFrom
+    at-stuck e = rw e (plot.at-stuck m t idle b bs)
+
+    pub at-byte : (on : Bool) (r : ℕ) → (on ≡ true → 0 < r) → takeNumber m b ≡ 0 → gatherFrom on m (b ∷ bs) t r ≡ gatherFrom on (takeState m b) bs (t + 1) r
+    unfolding gatherFrom
+    at-byte true zero h e = absurd (omega (arith, h refl))
+    at-byte true (suc r) h e = plot.at-byte m t idle b bs r ∙ plot.took-none (t + 1) r _ e
+    at-byte false r h e = ap marked (feed.at-byte m t r idle b bs e)
+
+    module _ (refused : takeNumber m b ≡ 0 → ⊥) where
+      pub at-refusal : {on : Bool} → on ≡ true → (r : ℕ) → gatherFrom on m (b ∷ bs) t (suc r) ≡ store (refusal (takeNumber m b) (t + 1)) (gatherFrom on (takeState m b) bs (t + 1) r)
+      unfolding gatherFrom
+      at-refusal e r = rw e (plot.at-byte m t idle b bs r ∙ plot.took-refused (takeNumber m b) (t + 1) r _ refused)
+
+      pub at-refused : {on : Bool} → on ≡ false → (r : ℕ) → gatherFrom on m (b ∷ bs) t r ≡ stop (takeState m b) (t + 1) (takeNumber m b)
+      unfolding gatherFrom
+      at-refused e r = rw e (ap marked (feed.at-refused m t r idle b bs refused))
+
+marked-drew : (d : Drawn) (r : ℕ) (next : ℕ → F.Feed) → marked (F.drew d r next) ≡ drew d r (λ q. marked (next q))
+unfolding drew F.drew
+marked-drew (drawn.Stroke s) r next = refl
+marked-drew drawn.Hidden r next = refl
+marked-drew drawn.Idle r next = refl
+
+module _ (m : State) (bs : List ℕ) (t : ℕ) (waits : 0 < waiting (m .work)) where
+  pub at-full : (on : Bool) → gatherFrom on m bs t 0 ≡ stop m t listFull
+  unfolding gatherFrom
+  at-full true = plot.at-full m bs t waits
+  at-full false = ap marked (feed.at-full m bs t waits)
+
+  pub at-draw : (on : Bool) (r : ℕ) → gatherFrom on m bs t (suc r) ≡ drew (drawAnswer m) r (λ q. gatherFrom on (drawState m) bs t q)
+  unfolding gatherFrom
+  at-draw true r = plot.at-draw m bs t r waits
+  at-draw false r = ap marked (feed.at-draw m bs t r waits) ∙ marked-drew (drawAnswer m) r (λ q. F.feedFrom (drawState m) bs t q)

@@ -1,0 +1,3 @@
+pub mod Gather
+pub mod Far
+pub mod GatherLaws
