@@ -9,8 +9,8 @@ ghost use Rattle.hpgl.specs.Feed.{feedOf, laid};
 ghost use Rattle.hpgl.specs.Made.{Made};
 ghost use Rattle.feed.specs.Fed.{fedOf, start, Batched};
 ghost use Rattle.feed.specs.Records.{strokeAt, strokesOf, PenAt, PensBefore};
+use basics::numbers::LIST_FULL;
 use hpgl::Stroke;
-use instructions::numbers::LIST_FULL;
 use machine::Machine;
 
 // A batch's strokes at most.

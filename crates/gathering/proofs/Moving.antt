@@ -15,7 +15,7 @@ use Rattle.reader.specs.declared.Step.{Step}
 use Rattle.reader.specs.declared.Next.{Next}
 use Rattle.reader.specs.Step.{passedOver}
 use Rattle.reader.specs.Stream.{_telling_}
-use Rattle.reader.specs.Table.{PU, PD, PA, PR}
+use Rattle.mnemonics.specs.Table.{PU, PD, PA, PR}
 use Rattle.reader.specs.Next.{isNothing}
 use Rattle.reader.specs.Sizes.{isCause, Caused}
 use Rattle.reader.specs.Laws.{cause-law}
@@ -37,9 +37,9 @@ use Rattle.hpgl.specs.Rules.{refuse, letters, actOn}
 use Rattle.hpgl.specs.Machine.{waiting, stored, queued, readerAfter, workAfter, drawAnswer}
 use Rattle.hpgl.specs.Segment.{workSegment, segmentOf, drawnOf, segment-drawn, SmallSegment, segment-small}
 use Rattle.hpgl.specs.Plot.{Plot, refusal}
-use Rattle.instructions.specs.declared.places.Frame.{Frame}
-use Rattle.instructions.specs.declared.hand.Hand.{Hand}
-use Rattle.instructions.specs.Hand.{handOf, lineOf}
+use Rattle.basics.specs.declared.places.Frame.{Frame}
+use Rattle.basics.specs.declared.hand.Hand.{Hand}
+use Rattle.basics.specs.Hand.{handOf, lineOf}
 use Rattle.gathering.specs.Gather.{whole, countAfter, withStroke, recordOf, putOf}
 use Rattle.gathering.specs.Far.{Far, Reached, Begun, Told}
 use Rattle.gathering.proofs.Turns.{Turn, reader-off, turn-valid}

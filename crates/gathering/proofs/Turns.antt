@@ -12,7 +12,7 @@ use Rattle.reader.specs.declared.Event.the-variants as event
 use Rattle.reader.specs.declared.Step.{Step}
 use Rattle.reader.specs.Next.{isNothing}
 use Rattle.reader.specs.Step.{stepOf, passedOver}
-use Rattle.reader.specs.Table.{PU}
+use Rattle.mnemonics.specs.Table.{PU}
 use Rattle.hpgl.specs.declared.Settings.{Settings}
 use Rattle.hpgl.specs.declared.Polygon.{Polygon}
 use Rattle.hpgl.specs.declared.Core.{Core}
@@ -25,8 +25,8 @@ use Rattle.hpgl.specs.Rules.{done, refuse, letters, pairRule, endRule, actOn}
 use Rattle.hpgl.specs.Machine.{waiting, stored, queued, readerAfter, applied, acted, takeState, takeNumber}
 use Rattle.hpgl.specs.Valid.{Valid}
 use Rattle.hpgl.specs.ValidKept.{valid-take}
-use Rattle.instructions.specs.declared.hand.Hand.{Hand}
-use Rattle.instructions.specs.Hand.{carriageOf, coreOf, nameNumber, name-parts, pairs-end}
+use Rattle.basics.specs.declared.hand.Hand.{Hand}
+use Rattle.basics.specs.Hand.{carriageOf, coreOf, nameNumber, name-parts, pairs-end}
 use Rattle.gathering.specs.Gather.{whole}
 
 -- what the calls of one turn gave: the step of the reader, what the core did, and the parts of the next machine

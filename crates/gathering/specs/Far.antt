@@ -19,8 +19,8 @@ use Rattle.hpgl.specs.declared.State.{State}
 use Rattle.hpgl.specs.Machine.{waiting}
 use Rattle.hpgl.specs.Plot.{Mark, Plot, laidMarks}
 use Rattle.hpgl.specs.Valid.{Valid}
-use Rattle.instructions.specs.declared.places.Frame.{Frame}
-use Rattle.instructions.specs.Hand.{frameOf, coreOf}
+use Rattle.basics.specs.declared.places.Frame.{Frame}
+use Rattle.basics.specs.Hand.{frameOf, coreOf}
 use Rattle.gathering.specs.declared.Moved.{Moved}
 use Rattle.gathering.specs.Gather.{whole, gatherFrom}
 

@@ -16,7 +16,7 @@ use Rattle.reader.specs.declared.Event.{Event}
 use Rattle.reader.specs.declared.Event.the-variants.{Nothing, Named, Pair, Ended, Refused}
 use Rattle.reader.specs.Reader.{freshReader}
 use Rattle.reader.specs.Step.{stepOf}
-use Rattle.reader.specs.Table.{IN, EP, PM, CI, EA, ER}
+use Rattle.mnemonics.specs.Table.{IN, EP, PM, CI, EA, ER}
 use Rattle.plane.specs.Turn.{turnedOf, turnedExact}
 use Rattle.plane.specs.declared.circle.Way.{Way}
 use Rattle.plane.specs.Circle.{chordsOf, angleOf, rotatedOf, exactVertex}

@@ -11,9 +11,9 @@ use Rattle.hpgl.specs.Machine.{rect}
 use Rattle.hpgl.specs.Trace.{Out, refused, stroke, hidden, seen, trace, traceUndrawn}
 use Rattle.exact.specs.Whole.{_<?_, _≤?_, _≡?_}
 use Rattle.exact.specs.Divide.{nearestDiv}
-use Rattle.reader.specs.Bytes.{lowClassOf, classOf}
-use Rattle.reader.specs.Number.{startOf, pointOf, countedOf, digitOf, unitOf, tenThousandths, signedOf, largestOf, finishOf}
-use Rattle.reader.specs.Table.{cellOf, namedOf, findFrom, findOf, isLabel, countFits, hasRoom, takesPairs, knownInPolygon, changesSettings}
+use Rattle.numerals.specs.Bytes.{lowClassOf, classOf}
+use Rattle.numerals.specs.Number.{startOf, pointOf, countedOf, digitOf, unitOf, tenThousandths, signedOf, largestOf, finishOf}
+use Rattle.mnemonics.specs.Table.{cellOf, namedOf, findFrom, findOf, isLabel, countFits, hasRoom, takesPairs, knownInPolygon, changesSettings}
 use Rattle.reader.specs.Reader.{eventNumber, noneOf, storedOf, pairOf, freshReader, goOnOf, quietOf, refuseOf, beginOf, openOf, withNumbers}
 use Rattle.reader.specs.Step.{foundOf, nameOf, keptOf, judgedOf, closedOf, endOf, completeOf, endingOf, afterNumberOf, closeWith, closeOf, idleOf, firstOf, parametersOf, inNumberOf, passOverOf, labelOf, byMode, stepOf, passedMode, passedOver}
 use Rattle.reader.specs.Inside.{inside}

@@ -11,7 +11,7 @@ use Rattle.reader.specs.declared.Event.{Event}
 use Rattle.reader.specs.declared.Event.the-variants.{Nothing, Named, Pair, Ended, Refused}
 use Rattle.reader.specs.declared.Reader.{Reader}
 use Rattle.reader.specs.Step.{passedOver}
-use Rattle.reader.specs.Table.{PU, PD, PA, PR, knownInPolygon}
+use Rattle.mnemonics.specs.Table.{PU, PD, PA, PR, knownInPolygon}
 use Rattle.reader.specs.Inside.{inside}
 use Rattle.reader.specs.InsideLaws.{Told, passed-outside}
 use Rattle.hpgl.specs.Cases.{never, pick}

@@ -17,7 +17,7 @@ use Rattle.reader.specs.declared.Event.the-variants.{Nothing, Named, Pair, Ende
 use Rattle.reader.specs.declared.Mode.the-variants.{Idle, Label}
 use Rattle.reader.specs.declared.Reader.{Reader}
 use Rattle.reader.specs.declared.Step.{Step}
-use Rattle.reader.specs.Table.{IN, DF, EP, IP, SC, IW, RO, SP, PM, CI, EA, ER, cellOf, knownInPolygon, changesSettings}
+use Rattle.mnemonics.specs.Table.{IN, DF, EP, IP, SC, IW, RO, SP, PM, CI, EA, ER, cellOf, knownInPolygon, changesSettings}
 use Rattle.reader.specs.Sizes.{isCause, Caused}
 use Rattle.reader.specs.CauseLaws.{step-caused}
 use Rattle.reader.specs.Reader.{goOnOf, quietOf, labelEnd}

@@ -14,7 +14,7 @@ use Rattle.reader.specs.declared.Coordinates.{Coordinates}
 use Rattle.reader.specs.declared.Numbers.{Numbers}
 use Rattle.reader.specs.declared.Event.{Event}
 use Rattle.reader.specs.declared.Event.the-variants.{Nothing, Named, Pair, Ended, Refused}
-use Rattle.reader.specs.Table.{PU, PD, PR, knownInPolygon}
+use Rattle.mnemonics.specs.Table.{PU, PD, PR, knownInPolygon}
 use Rattle.plane.specs.declared.position.ExactPosition.{ExactPosition}
 use Rattle.plane.specs.Position.{axisOf, absoluteOf, relativeOf, exactOf}
 use Rattle.hpgl.specs.Cases.{pick, cond-true, cond-false}

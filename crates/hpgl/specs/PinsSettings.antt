@@ -14,7 +14,7 @@ use Rattle.clip.specs.Line.{Exact, nearest}
 use Rattle.clip.specs.declared.Point.{Point}
 use Rattle.clip.specs.declared.Rect.{Rect}
 use Rattle.reader.specs.declared.Numbers.{Numbers}
-use Rattle.reader.specs.Table.{IN, DF, IP, SC, RO}
+use Rattle.mnemonics.specs.Table.{IN, DF, IP, SC, RO}
 use Rattle.plane.specs.declared.position.Axis.{Axis}
 use Rattle.plane.specs.Position.{locationOf}
 use Rattle.plane.specs.Turn.{turnCount, turnedOf, turnedBackOf, orderedOf, turnedBoxOf}

@@ -9,7 +9,7 @@ use lib.ListN.{length, getD}
 use Rattle.clip.specs.Line.{nearest, RoundsTo}
 use Rattle.clip.specs.declared.Point.{Point}
 use Rattle.reader.specs.declared.Reader.{Reader}
-use Rattle.reader.specs.Table.{knownInPolygon}
+use Rattle.mnemonics.specs.Table.{knownInPolygon}
 use Rattle.reader.specs.Inside.{inside}
 use Rattle.plane.specs.Turn.{turnCount, turnedOf}
 use Rattle.hpgl.specs.declared.Position.{Position}

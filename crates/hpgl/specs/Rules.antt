@@ -12,7 +12,7 @@ use Rattle.reader.specs.declared.Coordinates.{Coordinates}
 use Rattle.reader.specs.declared.Numbers.{Numbers}
 use Rattle.reader.specs.declared.Event.{Event}
 use Rattle.reader.specs.declared.Event.the-variants.{Nothing, Named, Pair, Ended, Refused}
-use Rattle.reader.specs.Table.{IN, DF, EP, IP, SC, IW, RO, SP, PM, CI, EA, ER, PU, PD, PA, PR, knownInPolygon}
+use Rattle.mnemonics.specs.Table.{IN, DF, EP, IP, SC, IW, RO, SP, PM, CI, EA, ER, PU, PD, PA, PR, knownInPolygon}
 use Rattle.plane.specs.declared.position.ExactPosition.{ExactPosition}
 use Rattle.plane.specs.Turn.{upright, quarter, turnedBackOf, orderedOf}
 use Rattle.plane.specs.Bounds.{mostAngle}

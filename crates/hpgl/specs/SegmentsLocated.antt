@@ -10,7 +10,7 @@ use Rattle.clip.specs.Line.{Exact, nearest}
 use Rattle.clip.specs.Nearness.{nearest-rounds}
 use Rattle.reader.specs.declared.Event.{Event}
 use Rattle.reader.specs.declared.Event.the-variants.{Nothing, Named, Pair, Ended, Refused}
-use Rattle.reader.specs.Table.{EP, CI, EA, ER}
+use Rattle.mnemonics.specs.Table.{EP, CI, EA, ER}
 use Rattle.plane.specs.Turn.{turnCount}
 use Rattle.plane.specs.BoxLaws.{turned-rounds}
 use Rattle.hpgl.specs.Cases.{pick}

@@ -13,7 +13,7 @@ use Rattle.clip.specs.declared.Rect.{Rect}
 use Rattle.clip.specs.Reach.{SmallRect}
 use Rattle.reader.specs.declared.Numbers.{Numbers}
 use Rattle.reader.specs.Sizes.{Small}
-use Rattle.reader.specs.Table.{PU, PD, PA, PR, knownInPolygon}
+use Rattle.mnemonics.specs.Table.{PU, PD, PA, PR, knownInPolygon}
 use Rattle.plane.specs.Turn.{turnCount}
 use Rattle.plane.specs.Bounds.{mostPoint}
 use Rattle.plane.specs.BoxLaws.{ordered-small}

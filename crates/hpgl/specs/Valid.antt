@@ -12,7 +12,7 @@ use Rattle.clip.specs.Reach.{SmallPoint, SmallRect}
 use Rattle.reader.specs.declared.Event.{Event}
 use Rattle.reader.specs.declared.Event.the-variants.{Nothing, Named, Pair, Ended, Refused}
 use Rattle.reader.specs.declared.Reader.{Reader}
-use Rattle.reader.specs.Table.{rows, knownInPolygon}
+use Rattle.mnemonics.specs.Table.{rows, knownInPolygon}
 use Rattle.reader.specs.Inside.{inside}
 use Rattle.reader.specs.Sizes.{Readable, SmallPair, Fitting}
 use Rattle.plane.specs.Turn.{turnCount}

@@ -16,7 +16,7 @@ use Rattle.clip.specs.Reach.{SmallPoint}
 use Rattle.reader.specs.declared.Numbers.{Numbers}
 use Rattle.reader.specs.declared.Event.{Event}
 use Rattle.reader.specs.declared.Event.the-variants.{Nothing, Named, Pair, Ended, Refused}
-use Rattle.reader.specs.Table.{IN, DF, EP, IP, SC, IW, RO, SP, PM, CI, EA, ER, cellOf, knownInPolygon}
+use Rattle.mnemonics.specs.Table.{IN, DF, EP, IP, SC, IW, RO, SP, PM, CI, EA, ER, cellOf, knownInPolygon}
 use Rattle.reader.specs.Step.{stepOf}
 use Rattle.reader.specs.Laws.{fresh-law}
 use Rattle.hpgl.specs.declared.Core.{Core}

@@ -19,7 +19,7 @@ use Rattle.reader.specs.declared.Numbers.{Numbers}
 use Rattle.reader.specs.declared.Event.{Event}
 use Rattle.reader.specs.declared.Event.the-variants.{Nothing, Named, Pair, Ended, Refused}
 use Rattle.reader.specs.Step.{stepOf}
-use Rattle.reader.specs.Table.{IN, DF, EP, IP, SC, IW, RO, SP, PM, CI, EA, ER, knownInPolygon}
+use Rattle.mnemonics.specs.Table.{IN, DF, EP, IP, SC, IW, RO, SP, PM, CI, EA, ER, knownInPolygon}
 use Rattle.plane.specs.Bounds.{mostAngle}
 use Rattle.hpgl.specs.declared.Position.{Position}
 use Rattle.hpgl.specs.declared.Core.{Core}

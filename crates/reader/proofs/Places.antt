@@ -1,27 +1,27 @@
 -- The byte at a place, and what `next` makes of it: a run of digits, or a step.
 use mathlib.Core.Path.{_≡_, refl, sym, _∙_}
 use mathlib.Core.Bool.{Bool, true, false, cond, true≢false}
-use mathlib.Core.List.{List, [], _∷_}
+use mathlib.Core.List.{List}
 use Prim.Native.Nat.{ℕ, zero, suc, _+_, _-_, _*_, _≤_, _<_}
 use Prim.Native.Char.{code}
 use native.Mathlib.Numerals.{add-one}
 use native.Mathlib.Omega.{arith}
-use borrow.Author.Tests.{leb-true, ltb-true, ltb-false, le-ltb}
+use borrow.Author.Tests.{ltb-true, ltb-false}
 use lib.Dec.{leb, ltb}
-use lib.ListN.{length, drop, getD, drop-of-length-le}
+use lib.ListN.{length, drop, getD}
 use lib.Seq.{drop-cons}
-use Rattle.reader.specs.Bytes.{isDigit, classOf}
-use Rattle.reader.specs.Number.{places, bottom, countedOf, digitOf}
-use Rattle.reader.specs.Run.{ended, runOf, countsWhole, withRun, scannedOf}
+use Rattle.numerals.specs.declared.number.Number.{Number}
+use Rattle.numerals.specs.declared.number.Run.{Run}
+use Rattle.numerals.specs.declared.number.Scanned.{Scanned}
+use Rattle.numerals.specs.Bytes.{isDigit}
+use Rattle.numerals.specs.Number.{places, bottom, countedOf, digitOf}
+use Rattle.numerals.specs.Run.{runOf, countsWhole, withRun, scannedOf}
+use Rattle.numerals.specs.RunLaws.{digit-class, run-end, run-stop, run-past, run-on, run-place, counted-digit, counts-whole}
 use Rattle.reader.specs.Reader.{openOf}
 use Rattle.reader.specs.Step.{inNumberOf, byMode, stepOf}
 use Rattle.reader.specs.Stream.{_telling_}
 use Rattle.reader.specs.Next.{moreDigits, isNothing, placed, nextOf}
 use Rattle.reader.specs.NextLaws.{next-quiet, next-event}
-use Rattle.reader.specs.declared.bytes.Class.the-variants.{Digit}
-use Rattle.reader.specs.declared.number.Number.{Number}
-use Rattle.reader.specs.declared.number.Run.{Run}
-use Rattle.reader.specs.declared.number.Scanned.{Scanned}
 use Rattle.reader.specs.declared.Event.the-variants.{Nothing}
 use Rattle.reader.specs.declared.Mode.{Mode}
 use Rattle.reader.specs.declared.Mode.the-variants.{Idle, First, Parameters, InNumber, PassOver, Label}
@@ -29,15 +29,6 @@ use Rattle.reader.specs.declared.Reader.{Reader}
 use Rattle.reader.specs.declared.Step.{Step}
 
 -- ---- the byte by itself
-
-pub digit-class : (b : ℕ) → isDigit b ≡ true → (code "0" ≤ b) × (b ≤ code "9") × (classOf b ≡ Digit (b - code "0"))
-unfolding isDigit classOf
-digit-class b e = go (ltb b (code "0")) (leb b (code "9")) refl refl e
-  where
-    go : (x y : Bool) → ltb b (code "0") ≡ x → leb b (code "9") ≡ y → cond x false y ≡ true → (code "0" ≤ b) × (b ≤ code "9") × (classOf b ≡ Digit (b - code "0"))
-    go false true h k t = (ltb-false b (code "0") h, leb-true b (code "9") k, simp (h, k))
-    go false false h k t = absurd (true≢false (sym t))
-    go true y h k t = absurd (true≢false (sym t))
 
 -- The reader with another number.
 abbrev withNumber : Reader → Number → Reader
@@ -78,59 +69,6 @@ module _ (r : Reader) (s : List ℕ) (at : ℕ) (h : at < length s) where
   unfolding isNothing
   digit-at n m d k = quiet-at (withNumber r n telling Nothing) (rw (← k) (sym (digit-step r (getD s at 0) m d))) refl
 
--- ---- a run of digits
-
-run-digit :
-    (m b : ℕ) (bs : List ℕ) (at : ℕ)
-    → isDigit b ≡ true
-    → ltb bottom m ≡ false
-    → runOf m (b ∷ bs) at ≡ runOf (m * 10 + (b - code "0")) bs (at + 1)
-unfolding runOf
-run-digit m b bs at d p = simp (d, p)
-
-module _ (m : ℕ) (s : List ℕ) (at : ℕ) where
-  pub run-end : length s ≤ at → runOf m (drop at s) at ≡ ended m at
-  unfolding runOf
-  run-end h = rw (drop-of-length-le s h) refl
-
-  pub run-stop : at < length s → isDigit (getD s at 0) ≡ false → runOf m (drop at s) at ≡ ended m at
-  unfolding runOf
-  run-stop h d = rw (drop-cons s at 0 h) (simp d)
-
-  pub run-past : at < length s → isDigit (getD s at 0) ≡ true → ltb bottom m ≡ true → runOf m (drop at s) at ≡ ended m at
-  unfolding runOf
-  run-past h d p = rw (drop-cons s at 0 h) (simp (d, p))
-
-  pub run-on :
-      at < length s
-      → isDigit (getD s at 0) ≡ true
-      → ltb bottom m ≡ false
-      → runOf m (drop at s) at ≡ runOf (m * 10 + (getD s at 0 - code "0")) (drop (at + 1) s) (at + 1)
-  run-on h d p = rw (drop-cons s at 0 h, ← add-one at) (run-digit m (getD s at 0) (drop (at + 1) s) at d p)
-
-run-place : (m : ℕ) (bs : List ℕ) (at : ℕ) → at ≤ runOf m bs at .at
-unfolding runOf
-run-place m [] at = omega arith
-run-place m (b ∷ bs) at = go (isDigit b) (ltb bottom m) (run-place (m * 10 + (b - code "0")) bs (at + 1))
-  where
-    rest : Run
-    rest = runOf (m * 10 + (b - code "0")) bs (at + 1)
-
-    go : (x y : Bool) → at + 1 ≤ rest .at → at ≤ cond x (cond y (ended m at) rest) (ended m at) .at
-    go false y h = omega arith
-    go true true h = omega arith
-    go true false h = omega (arith, h)
-
--- One digit of a number without a point that counts it.
-counted-digit :
-    (n : Number) (d : ℕ)
-    → leb places (n .decimals) ≡ false
-    → ltb bottom (n .magnitude) ≡ false
-    → n .pointed ≡ false
-    → digitOf n d ≡ countedOf n (n .decimals) (n .magnitude * 10 + d)
-unfolding digitOf
-counted-digit n d k b p = simp (k, b, p)
-
 module _ (r : Reader) (s : List ℕ) (m : r .mode ≡ InNumber) (k : leb places (r .number .decimals) ≡ false) (p : r .number .pointed ≡ false) where
   abbrev with : ℕ → Reader
   with g = withNumber r (countedOf (r .number) (r .number .decimals) g)
@@ -162,15 +100,6 @@ module _ (r : Reader) (s : List ℕ) (m : r .mode ≡ InNumber) (k : leb places 
           let n = countedOf (r .number) (r .number .decimals) g in
           rw (run-on g s at l d b) (digit-at (with g) s at l _ m d (counted-digit n (getD s at 0 - code "0") k b p) ∙ i)
 
-counts-whole : (n : Number) → countsWhole n ≡ true → (n .pointed ≡ false) × (leb places (n .decimals) ≡ false) × (ltb bottom (n .magnitude) ≡ false)
-unfolding countsWhole
-counts-whole n c = go (n .pointed) (leb places (n .decimals)) refl refl c
-  where
-    go : (x y : Bool) → n .pointed ≡ x → leb places (n .decimals) ≡ y → cond x false (cond y false (leb (n .magnitude) bottom)) ≡ true → (n .pointed ≡ false) × (leb places (n .decimals) ≡ false) × (ltb bottom (n .magnitude) ≡ false)
-    go false false p k t = (p, k, le-ltb bottom (n .magnitude) (leb-true (n .magnitude) bottom t))
-    go false true p k t = absurd (true≢false (sym t))
-    go true y p k t = absurd (true≢false (sym t))
-
 -- The digit at a place, with those that are taken after it: they are read on, and mean nothing.
 module _ (r : Reader) (s : List ℕ) (at : ℕ) (h : at < length s) (t : moreDigits (r .mode) (getD s at 0) ≡ true) where
   abbrev Scans : Scanned → Type 0
@@ -199,18 +128,3 @@ module _ (r : Reader) (s : List ℕ) (at : ℕ) (h : at < length s) (t : moreDig
             digit-at r s at h _ (m .0) (m .1) (counted-digit (r .number) d (w .1) (w .2) (w .0))
                 ∙ run-next r s (m .0) (w .1) (w .0) (length s) g (at + 1) (omega arith),
           )
-
--- The two ways of `scannedOf`.
-module _ (n : Number) (s : List ℕ) (at : ℕ) (k : Number) where
-  pub scanned-run :
-      (q : Run)
-      → countsWhole n ≡ true
-      → q ≡ runOf (n .magnitude) (drop at s) at
-      → k ≡ countedOf n (n .decimals) (q .magnitude)
-      → _≡_ {A = Scanned} (record { number = k; at = q .at }) (scannedOf n s at)
-  unfolding scannedOf
-  scanned-run q w e f = rw (f, e, w) refl
-
-  pub scanned-one : countsWhole n ≡ false → k ≡ digitOf n (getD s at 0 - code "0") → _≡_ {A = Scanned} (record { number = k; at = at + 1 }) (scannedOf n s at)
-  unfolding scannedOf
-  scanned-one w f = rw (f, w) refl

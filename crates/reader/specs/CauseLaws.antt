@@ -3,21 +3,21 @@ use mathlib.Core.Bool.{Bool, true, false, cond}
 use Prim.Native.Nat.{ℕ}
 use lib.Dec.{T, eqb}
 use lib.IntN.{ℤ}
-use Rattle.reader.specs.declared.bytes.Class.{Class}
-use Rattle.reader.specs.declared.bytes.Class.the-variants.{Blank, Semicolon, Letter, Digit, Sign, Point, Other}
-use Rattle.reader.specs.declared.number.Value.{Value}
-use Rattle.reader.specs.declared.number.Value.the-variants.{Good, Bad}
-use Rattle.reader.specs.declared.table.Found.{Found}
-use Rattle.reader.specs.declared.table.Found.the-variants.{At, Nowhere}
+use Rattle.numerals.specs.declared.bytes.Class.{Class}
+use Rattle.numerals.specs.declared.bytes.Class.the-variants.{Blank, Semicolon, Letter, Digit, Sign, Point, Other}
+use Rattle.numerals.specs.declared.number.Value.{Value}
+use Rattle.numerals.specs.declared.number.Value.the-variants.{Good, Bad}
+use Rattle.mnemonics.specs.declared.Found.{Found}
+use Rattle.mnemonics.specs.declared.Found.the-variants.{At, Nowhere}
 use Rattle.reader.specs.declared.Event.the-variants.{Ended}
 use Rattle.reader.specs.declared.Closed.{Closed}
 use Rattle.reader.specs.declared.Closed.the-variants.{Kept, Complete, Faulty}
 use Rattle.reader.specs.declared.Mode.{Mode}
 use Rattle.reader.specs.declared.Mode.the-variants.{Idle, First, Parameters, InNumber, PassOver, Label}
 use Rattle.reader.specs.declared.Reader.{Reader}
-use Rattle.reader.specs.Bytes.{classOf}
-use Rattle.reader.specs.Number.{pointOf, finishOf}
-use Rattle.reader.specs.Table.{findOf, countFits, takesPairs, hasRoom, isLabel}
+use Rattle.numerals.specs.Bytes.{classOf}
+use Rattle.numerals.specs.Number.{pointOf, finishOf}
+use Rattle.mnemonics.specs.Table.{findOf, countFits, takesPairs, hasRoom, isLabel}
 use Rattle.reader.specs.Sizes.{isCause, Caused}
 use Rattle.reader.specs.Reader.{unknown, count, range, storedOf, pairOf, goOnOf, quietOf, refuseOf, beginOf, openOf, withNumbers}
 use Rattle.reader.specs.Step.{foundOf, nameOf, keptOf, judgedOf, closedOf, endOf, completeOf, afterNumberOf, closeWith, closeOf, endingOf, idleOf, firstOf, parametersOf, inNumberOf, passOverOf, labelOf, byMode, stepOf}

@@ -6,9 +6,9 @@ use Prim.Native.String.{String}
 use lib.IntN.{ℤ, pos, negℤ}
 use Rattle.reader.specs.declared.Event.{Event}
 use Rattle.reader.specs.declared.Event.the-variants.{Named, Pair, Ended, Refused}
-use Rattle.reader.specs.Bytes.{lowClassOf, classOf}
-use Rattle.reader.specs.Table.{IN, SC, SP, PU, PD, PA, PR, cellOf, namedOf, findFrom, findOf, countFits, takesPairs, hasRoom, isLabel}
-use Rattle.reader.specs.Number.{startOf, pointOf, countedOf, digitOf, unitOf, tenThousandths, signedOf, largestOf, finishOf}
+use Rattle.numerals.specs.Bytes.{lowClassOf, classOf}
+use Rattle.mnemonics.specs.Table.{IN, SC, SP, PU, PD, PA, PR, cellOf, namedOf, findFrom, findOf, countFits, takesPairs, hasRoom, isLabel}
+use Rattle.numerals.specs.Number.{startOf, pointOf, countedOf, digitOf, unitOf, tenThousandths, signedOf, largestOf, finishOf}
 use Rattle.reader.specs.Reader.{noneOf, storedOf, pairOf, freshReader, goOnOf, quietOf, refuseOf, beginOf, openOf, withNumbers}
 use Rattle.reader.specs.Step.{foundOf, nameOf, keptOf, judgedOf, closedOf, endOf, completeOf, passedMode, endingOf, afterNumberOf, closeWith, closeOf, idleOf, firstOf, parametersOf, inNumberOf, passOverOf, labelOf, byMode, stepOf}
 use Rattle.reader.specs.Inside.{inside}

@@ -4,10 +4,10 @@
 use mathlib.Core.Path.{_≡_, refl, sym, _∙_, subst}
 use mathlib.Core.Bool.{Bool, true, false, cond, false≢true}
 use Prim.Native.Nat.{ℕ}
-use Rattle.reader.specs.declared.bytes.Class.{Class}
-use Rattle.reader.specs.declared.bytes.Class.the-variants.{Blank, Semicolon, Letter, Digit, Sign, Point, Other}
-use Rattle.reader.specs.declared.table.Found.{Found}
-use Rattle.reader.specs.declared.table.Found.the-variants.{At, Nowhere}
+use Rattle.numerals.specs.declared.bytes.Class.{Class}
+use Rattle.numerals.specs.declared.bytes.Class.the-variants.{Blank, Semicolon, Letter, Digit, Sign, Point, Other}
+use Rattle.mnemonics.specs.declared.Found.{Found}
+use Rattle.mnemonics.specs.declared.Found.the-variants.{At, Nowhere}
 use Rattle.reader.specs.declared.Event.{Event}
 use Rattle.reader.specs.declared.Event.the-variants.{Nothing, Named, Pair, Ended, Refused}
 use Rattle.reader.specs.declared.Closed.{Closed}
@@ -16,10 +16,10 @@ use Rattle.reader.specs.declared.Mode.{Mode}
 use Rattle.reader.specs.declared.Mode.the-variants.{Idle, First, Parameters, InNumber, PassOver, Label}
 use Rattle.reader.specs.declared.Reader.{Reader}
 use Rattle.reader.specs.declared.Step.{Step}
-use Rattle.reader.specs.declared.number.Number.{Number}
-use Rattle.reader.specs.Bytes.{classOf}
-use Rattle.reader.specs.Number.{digitOf, startOf, pointOf}
-use Rattle.reader.specs.Table.{findOf, countFits, isLabel}
+use Rattle.numerals.specs.declared.number.Number.{Number}
+use Rattle.numerals.specs.Bytes.{classOf}
+use Rattle.numerals.specs.Number.{digitOf, startOf, pointOf}
+use Rattle.mnemonics.specs.Table.{findOf, countFits, isLabel}
 use Rattle.reader.specs.Reader.{goOnOf, quietOf, refuseOf, beginOf, openOf, withNumbers, labelEnd, count}
 use Rattle.reader.specs.Step.{foundOf, nameOf, endOf, completeOf, endingOf, afterNumberOf, closeWith, closedOf, closeOf, idleOf, firstOf, parametersOf, inNumberOf, passOverOf, labelOf, byMode, stepOf, passedMode, passedOver}
 use lib.Dec.{eqb}

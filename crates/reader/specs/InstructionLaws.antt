@@ -9,27 +9,28 @@ use lib.Dec.{T, leb, ltb, eqb, eqb→eq, lit<}
 use lib.IntN.{ℤ}
 use lib.ListN.{length}
 use borrow.Author.Tests.{lt-ltb, eqb-true, leb-true, not-true}
-use Rattle.reader.specs.declared.bytes.Class.{Class}
-use Rattle.reader.specs.declared.bytes.Class.the-variants.{Blank, Semicolon, Letter, Digit, Sign, Point, Other}
-use Rattle.reader.specs.declared.number.Number.{Number}
-use Rattle.reader.specs.declared.number.Value.the-variants.{Good}
-use Rattle.reader.specs.declared.table.Found.{Found}
-use Rattle.reader.specs.declared.table.Found.the-variants.{At, Nowhere}
+use Rattle.numerals.specs.declared.bytes.Class.{Class}
+use Rattle.numerals.specs.declared.bytes.Class.the-variants.{Blank, Semicolon, Letter, Digit, Sign, Point, Other}
+use Rattle.numerals.specs.declared.number.Number.{Number}
+use Rattle.numerals.specs.declared.number.Value.the-variants.{Good}
+use Rattle.mnemonics.specs.declared.Found.{Found}
+use Rattle.mnemonics.specs.declared.Found.the-variants.{At, Nowhere}
 use Rattle.reader.specs.declared.Numbers.{Numbers}
 use Rattle.reader.specs.declared.Event.{Event}
 use Rattle.reader.specs.declared.Event.the-variants.{Nothing, Named, Pair, Ended}
 use Rattle.reader.specs.declared.Closed.the-variants.{Kept, Complete}
 use Rattle.reader.specs.declared.Mode.the-variants.{Idle, First, Parameters, InNumber}
 use Rattle.reader.specs.declared.Reader.{Reader}
-use Rattle.reader.specs.Bytes.{classOf, lowClassOf}
-use Rattle.reader.specs.Table.{rows, least, most, step, any, cellOf, namedOf, findFrom, findOf, isLabel, countFits, takesPairs, hasRoom}
+use Rattle.numerals.specs.Bytes.{classOf, lowClassOf}
+use Rattle.mnemonics.specs.Table.{rows, least, most, step, any, cellOf, namedOf, findFrom, findOf, isLabel, countFits, takesPairs, hasRoom}
 use Rattle.reader.specs.Reader.{noneOf, storedOf, pairOf, goOnOf, quietOf, beginOf, withNumbers}
 use Rattle.reader.specs.Step.{foundOf, nameOf, keptOf, judgedOf, closedOf, endOf, completeOf, endingOf, afterNumberOf, closeWith, closeOf, idleOf, firstOf, parametersOf, inNumberOf, byMode, stepOf}
 use Rattle.reader.specs.Inside.{inside}
-use Rattle.reader.specs.Every.{holds, every-at}
-use Rattle.reader.specs.Stream.{readNumeral, reader, _telling_, Means, done, quiet, loud}
-use Rattle.reader.specs.Numeral.{text}
-use Rattle.reader.specs.NumeralLaws.{numeral-value}
+use Rattle.mnemonics.specs.Every.{holds, every-at}
+use Rattle.numerals.specs.Marks.{readNumeral}
+use Rattle.reader.specs.Stream.{reader, _telling_, Means, done, quiet, loud}
+use Rattle.numerals.specs.Numeral.{text}
+use Rattle.numerals.specs.NumeralLaws.{numeral-value}
 use Rattle.reader.specs.Written.{one, two, letters, Literal, printed, numbersFrom, lastFrom, Two, coordinates, flat, pairs}
 use Rattle.reader.specs.TextLaws.{then, numeral-text}
 

@@ -6,20 +6,21 @@ use Prim.Native.Nat.{ℕ, _<_}
 use Prim.Native.Char.{code}
 use lib.Dec.{T}
 use lib.ListN.{length}
-use Rattle.reader.specs.declared.number.Number.{Number}
+use Rattle.numerals.specs.declared.number.Number.{Number}
 use Rattle.reader.specs.declared.Numbers.{Numbers}
 use Rattle.reader.specs.declared.Event.the-variants.{Nothing, Named, Ended, Refused}
 use Rattle.reader.specs.declared.Mode.the-variants.{Idle, Parameters, InNumber, Label}
 use Rattle.reader.specs.declared.Reader.{Reader}
-use Rattle.reader.specs.Number.{finishOf}
-use Rattle.reader.specs.Table.{rows, countFits, takesPairs}
+use Rattle.numerals.specs.Number.{finishOf}
+use Rattle.mnemonics.specs.Table.{rows, countFits, takesPairs}
 use Rattle.reader.specs.Reader.{unknown, labelEnd, noneOf, freshReader}
 use Rattle.reader.specs.Step.{stepOf, passedOver}
-use Rattle.reader.specs.Numeral.{Numeral, text, Digits, decimals, some, valueOf}
-use Rattle.reader.specs.Stream.{readNumeral, reader, _telling_, Means, NoEnd}
+use Rattle.numerals.specs.Numeral.{Numeral, text, Digits, decimals, some, valueOf}
+use Rattle.numerals.specs.Marks.{readNumeral}
+use Rattle.reader.specs.Stream.{reader, _telling_, Means, NoEnd}
 use Rattle.reader.specs.Written.{letters, Literal, printed, numbersFrom, lastFrom, Two, flat, pairs}
 use Rattle.reader.specs.Sizes.{Caused, Readable, SoundStep}
-use Rattle.reader.specs.NumeralLaws.{numeral-value}
+use Rattle.numerals.specs.NumeralLaws.{numeral-value}
 use Rattle.reader.specs.TextLaws.{numeral-text, label-byte, label-end, label-whole}
 use Rattle.reader.specs.InstructionLaws.{instruction-of-numbers, instruction-of-pairs}
 use Rattle.reader.specs.CauseLaws.{step-caused}

@@ -9,7 +9,7 @@ use Rattle.reader.specs.declared.Mode.the-variants.{Idle, First, Paramet
 use Rattle.reader.specs.declared.Reader.{Reader}
 use Rattle.reader.specs.declared.Step.{Step}
 use Rattle.reader.specs.declared.Next.{Next}
-use Rattle.reader.specs.Bytes.{isDigit}
+use Rattle.numerals.specs.Bytes.{isDigit}
 use Rattle.reader.specs.Step.{stepOf}
 
 unfoldable pub isNothing : Event → Bool

@@ -3,7 +3,7 @@ use Prim.Native.Nat.{ℕ}
 use mathlib.Core.Bool.{false, cond}
 use lib.IntN.{ℤ, pos}
 use lib.Dec.{eqb}
-use Rattle.reader.specs.declared.number.Number.{Number}
+use Rattle.numerals.specs.declared.number.Number.{Number}
 use Rattle.reader.specs.declared.Coordinates.{Coordinates}
 use Rattle.reader.specs.declared.Numbers.{Numbers}
 use Rattle.reader.specs.declared.Event.{Event}
@@ -12,8 +12,8 @@ use Rattle.reader.specs.declared.Mode.{Mode}
 use Rattle.reader.specs.declared.Mode.the-variants.{Idle, Parameters, InNumber}
 use Rattle.reader.specs.declared.Reader.{Reader}
 use Rattle.reader.specs.declared.Step.{Step}
-use Rattle.reader.specs.Number.{startOf}
-use Rattle.reader.specs.Table.{IN}
+use Rattle.numerals.specs.Number.{startOf}
+use Rattle.mnemonics.specs.Table.{IN}
 
 -- The causes of a refusal that the reader finds: unknown byte or name, or number with no instruction; count of numbers;
 -- number out of range.

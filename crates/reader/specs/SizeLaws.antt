@@ -8,13 +8,13 @@ use lib.Dec.{leb, ltb, eqb, lit<, lit≤}
 use lib.IntN.{ℤ, pos}
 use borrow.Author.Tests.{leb-true, leb-false, ltb-false}
 use Rattle.exact.specs.Fit.{Bd}
-use Rattle.reader.specs.declared.bytes.Class.{Class}
-use Rattle.reader.specs.declared.bytes.Class.the-variants.{Blank, Semicolon, Letter, Digit, Sign, Point, Other}
-use Rattle.reader.specs.declared.number.Number.{Number}
-use Rattle.reader.specs.declared.number.Value.{Value}
-use Rattle.reader.specs.declared.number.Value.the-variants.{Good, Bad}
-use Rattle.reader.specs.declared.table.Found.{Found}
-use Rattle.reader.specs.declared.table.Found.the-variants.{At, Nowhere}
+use Rattle.numerals.specs.declared.bytes.Class.{Class}
+use Rattle.numerals.specs.declared.bytes.Class.the-variants.{Blank, Semicolon, Letter, Digit, Sign, Point, Other}
+use Rattle.numerals.specs.declared.number.Number.{Number}
+use Rattle.numerals.specs.declared.number.Value.{Value}
+use Rattle.numerals.specs.declared.number.Value.the-variants.{Good, Bad}
+use Rattle.mnemonics.specs.declared.Found.{Found}
+use Rattle.mnemonics.specs.declared.Found.the-variants.{At, Nowhere}
 use Rattle.reader.specs.declared.Coordinates.{Coordinates}
 use Rattle.reader.specs.declared.Numbers.{Numbers}
 use Rattle.reader.specs.declared.Event.the-variants.{Ended}
@@ -23,12 +23,12 @@ use Rattle.reader.specs.declared.Closed.the-variants.{Kept, Complete, Fa
 use Rattle.reader.specs.declared.Mode.{Mode}
 use Rattle.reader.specs.declared.Mode.the-variants.{Idle, First, Parameters, InNumber, PassOver, Label}
 use Rattle.reader.specs.declared.Reader.{Reader}
-use Rattle.reader.specs.Bytes.{case, lowClassOf, classOf}
+use Rattle.numerals.specs.Bytes.{case, lowClassOf, classOf}
 use Rattle.reader.specs.Inside.{inside}
-use Rattle.reader.specs.Number.{places, bottom, startOf, pointOf, countedOf, digitOf, tenThousandths, signedOf, largestOf, finishOf}
-use Rattle.reader.specs.Table.{rows, namedOf, findFrom, findOf, countFits, takesPairs, hasRoom, isLabel}
+use Rattle.numerals.specs.Number.{places, bottom, startOf, pointOf, countedOf, digitOf, tenThousandths, signedOf, largestOf, finishOf}
+use Rattle.mnemonics.specs.Table.{rows, namedOf, findFrom, findOf, countFits, takesPairs, hasRoom, isLabel}
 use Rattle.reader.specs.Sizes.{Small, SmallMode, SmallNumber, Readable, SmallPair, SoundStep}
-use Rattle.reader.specs.NumeralLaws.{largest-le}
+use Rattle.numerals.specs.NumeralLaws.{largest-le}
 use Rattle.reader.specs.Reader.{noneOf, storedOf, pairOf, freshReader, goOnOf, quietOf, refuseOf, beginOf, openOf, withNumbers}
 use Rattle.reader.specs.Step.{foundOf, nameOf, keptOf, judgedOf, closedOf, endOf, completeOf, passedMode, endingOf, afterNumberOf, closeWith, closeOf, idleOf, firstOf, parametersOf, inNumberOf, passOverOf, labelOf, byMode, stepOf, passedOver}
 

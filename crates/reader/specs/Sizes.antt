@@ -10,12 +10,12 @@ use Rattle.reader.specs.declared.Event.{Event}
 use Rattle.reader.specs.declared.Event.the-variants.{Nothing, Named, Pair, Ended, Refused}
 use Rattle.reader.specs.declared.Mode.{Mode}
 use Rattle.reader.specs.declared.Mode.the-variants.{Idle, First, Parameters, InNumber, PassOver, Label}
-use Rattle.reader.specs.declared.number.Number.{Number}
+use Rattle.numerals.specs.declared.number.Number.{Number}
 use Rattle.reader.specs.declared.Reader.{Reader}
 use Rattle.reader.specs.declared.Step.{Step}
-use Rattle.reader.specs.Number.{places, bottom}
+use Rattle.numerals.specs.Number.{places, bottom}
 use Rattle.reader.specs.Reader.{unknown, range}
-use Rattle.reader.specs.Table.{rows, countFits}
+use Rattle.mnemonics.specs.Table.{rows, countFits}
 
 -- The reader refuses with 1, 2 or 3, and with no other number.
 abbrev pub isCause : ℕ → Bool

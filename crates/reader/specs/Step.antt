@@ -8,12 +8,12 @@ use Prim.Native.Nat.{ℕ}
 use mathlib.Core.Bool.{false, cond}
 use lib.IntN.{ℤ}
 use lib.Dec.{eqb}
-use Rattle.reader.specs.declared.bytes.Class.{Class}
-use Rattle.reader.specs.declared.bytes.Class.the-variants.{Blank, Semicolon, Letter, Digit, Sign, Point, Other}
-use Rattle.reader.specs.declared.number.Value.{Value}
-use Rattle.reader.specs.declared.number.Value.the-variants.{Good, Bad}
-use Rattle.reader.specs.declared.table.Found.{Found}
-use Rattle.reader.specs.declared.table.Found.the-variants.{At, Nowhere}
+use Rattle.numerals.specs.declared.bytes.Class.{Class}
+use Rattle.numerals.specs.declared.bytes.Class.the-variants.{Blank, Semicolon, Letter, Digit, Sign, Point, Other}
+use Rattle.numerals.specs.declared.number.Value.{Value}
+use Rattle.numerals.specs.declared.number.Value.the-variants.{Good, Bad}
+use Rattle.mnemonics.specs.declared.Found.{Found}
+use Rattle.mnemonics.specs.declared.Found.the-variants.{At, Nowhere}
 use Rattle.reader.specs.declared.Coordinates.{Coordinates}
 use Rattle.reader.specs.declared.Event.the-variants.{Pair, Ended}
 use Rattle.reader.specs.declared.Closed.{Closed}
@@ -23,9 +23,9 @@ use Rattle.reader.specs.declared.Mode.the-variants.{Idle, First, Paramet
 use Rattle.reader.specs.declared.Reader.{Reader}
 use Rattle.reader.specs.declared.Step.{Step}
 use Rattle.reader.specs.Reader.{unknown, count, range, labelEnd, noneOf, storedOf, pairOf, goOnOf, quietOf, refuseOf, beginOf, openOf, withNumbers}
-use Rattle.reader.specs.Bytes.{classOf}
-use Rattle.reader.specs.Number.{startOf, pointOf, digitOf, finishOf}
-use Rattle.reader.specs.Table.{findOf, countFits, takesPairs, hasRoom, isLabel}
+use Rattle.numerals.specs.Bytes.{classOf}
+use Rattle.numerals.specs.Number.{startOf, pointOf, digitOf, finishOf}
+use Rattle.mnemonics.specs.Table.{findOf, countFits, takesPairs, hasRoom, isLabel}
 use Rattle.reader.specs.Inside.{inside}
 
 -- The second letter of a name: "an unknown name [is refused] with 1 on its second letter; LB is refused with 1 on its B".

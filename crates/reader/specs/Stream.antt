@@ -1,38 +1,19 @@
--- What a whole text means: a number mark by mark, and any list of bytes.
+-- What a whole text means: any list of bytes.
 use Prim.Native.Nat.{ℕ, suc}
 use Prim.Native.Char.{code}
 use Prim.Native.String as string
 use mathlib.Core.Path.{_≡_}
 use mathlib.Core.Bool.{Bool, true, false}
 use mathlib.Core.List.{List, [], _∷_}
-use Rattle.reader.specs.declared.number.Number.{Number}
+use Rattle.numerals.specs.declared.number.Number.{Number}
 use Rattle.reader.specs.declared.Numbers.{Numbers}
 use Rattle.reader.specs.declared.Event.{Event}
 use Rattle.reader.specs.declared.Event.the-variants.{Nothing, Named, Pair, Ended, Refused}
 use Rattle.reader.specs.declared.Mode.{Mode}
 use Rattle.reader.specs.declared.Reader.{Reader}
 use Rattle.reader.specs.declared.Step.{Step}
-use Rattle.reader.specs.Number.{startOf, pointOf, digitOf}
-use Rattle.reader.specs.Numeral.{Sign, bare, plus, minus, Fraction, none, point, Numeral}
 use Rattle.reader.specs.Reader.{labelEnd, freshReader}
 use Rattle.reader.specs.Step.{stepOf}
-
-abbrev pub negative : Sign → Bool
-negative bare = false
-negative plus = false
-negative minus = true
-
--- The number after all marks of a numeral, one after the other.
-abbrev pub readDigits : Number → List ℕ → Number
-readDigits n [] = n
-readDigits n (d ∷ ds) = readDigits (digitOf n d) ds
-
-abbrev pub readFraction : Number → Fraction → Number
-readFraction n none = n
-readFraction n (point ds) = readDigits (pointOf n) ds
-
-abbrev pub readNumeral : Numeral → Number
-readNumeral t = readFraction (readDigits (startOf (negative (t .sign))) (t .whole)) (t .fraction)
 
 -- A reader by its parts: the instruction, its numbers so far, the mode, and the number that is open or was the last.
 abbrev pub reader : ℕ → Numbers → Mode → Number → Reader

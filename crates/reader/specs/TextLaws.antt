@@ -7,21 +7,22 @@ use Prim.Native.Char.{code}
 use native.Mathlib.Omega.{arith}
 use lib.Dec.{T, leb, ltb}
 use borrow.Author.Tests.{le-ltb, le-leb, ne-eqb}
-use Rattle.reader.specs.declared.bytes.Class.the-variants as class
-use Rattle.reader.specs.declared.number.Number.{Number}
+use Rattle.numerals.specs.declared.bytes.Class.the-variants as class
+use Rattle.numerals.specs.declared.number.Number.{Number}
 use Rattle.reader.specs.declared.Numbers.{Numbers}
 use Rattle.reader.specs.declared.Event.{Event}
 use Rattle.reader.specs.declared.Event.the-variants.{Nothing, Refused}
 use Rattle.reader.specs.declared.Mode.{Mode}
 use Rattle.reader.specs.declared.Mode.the-variants.{Idle, Parameters, InNumber, Label}
 use Rattle.reader.specs.declared.Reader.{Reader}
-use Rattle.reader.specs.Bytes.{classOf, lowClassOf}
-use Rattle.reader.specs.Number.{places, bottom, startOf, pointOf, countedOf, digitOf}
-use Rattle.reader.specs.Table.{isLabel}
+use Rattle.numerals.specs.Bytes.{classOf, lowClassOf}
+use Rattle.numerals.specs.Number.{places, bottom, startOf, pointOf, countedOf, digitOf}
+use Rattle.mnemonics.specs.Table.{isLabel}
 use Rattle.reader.specs.Reader.{unknown, labelEnd, goOnOf, quietOf, refuseOf, openOf}
 use Rattle.reader.specs.Step.{nameOf, idleOf, firstOf, parametersOf, inNumberOf, labelOf, byMode, stepOf}
-use Rattle.reader.specs.Stream.{NoEnd, readDigits, readFraction, readNumeral, reader, _telling_, Means, done, quiet, loud}
-use Rattle.reader.specs.Numeral.{Sign, bare, plus, minus, Fraction, none, point, Numeral, text, digitsText, fractionText, Digits, decimals, some}
+use Rattle.numerals.specs.Marks.{readDigits, readFraction, readNumeral}
+use Rattle.reader.specs.Stream.{NoEnd, reader, _telling_, Means, done, quiet, loud}
+use Rattle.numerals.specs.Numeral.{Sign, bare, plus, minus, Fraction, none, point, Numeral, text, digitsText, fractionText, Digits, decimals, some}
 
 abbrev Quiet : Reader → List ℕ → Reader → Type 0
 Quiet r bs q = Means r bs [] q

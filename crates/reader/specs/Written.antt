@@ -5,16 +5,16 @@ use Prim.Native.Nat.{ℕ}
 use Prim.Native.Char.{code}
 use lib.Dec.{T}
 use lib.IntN.{ℤ}
-use Rattle.reader.specs.declared.number.Value.the-variants.{Good}
-use Rattle.reader.specs.declared.number.Number.{Number}
+use Rattle.numerals.specs.declared.number.Value.the-variants.{Good}
+use Rattle.numerals.specs.declared.number.Number.{Number}
 use Rattle.reader.specs.declared.Coordinates.{Coordinates}
 use Rattle.reader.specs.declared.Numbers.{Numbers}
 use Rattle.reader.specs.declared.Event.{Event}
 use Rattle.reader.specs.declared.Event.the-variants.{Pair, Ended}
-use Rattle.reader.specs.Stream.{readNumeral}
-use Rattle.reader.specs.Table.{firstLetter, secondLetter, cellOf}
+use Rattle.numerals.specs.Marks.{readNumeral}
+use Rattle.mnemonics.specs.Table.{firstLetter, secondLetter, cellOf}
 use Rattle.reader.specs.Reader.{noneOf, storedOf}
-use Rattle.reader.specs.Numeral.{Numeral, text, Digits, decimals, some, valueOf}
+use Rattle.numerals.specs.Numeral.{Numeral, text, Digits, decimals, some, valueOf}
 
 -- The two letters of an instruction.
 abbrev pub one : ℕ → ℕ

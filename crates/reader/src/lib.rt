@@ -5,43 +5,18 @@ ghost use Rattle.reader.specs.Inside.{inside};
 ghost use Rattle.reader.specs.Next.{moreDigits, isNothing, nextOf};
 ghost use Rattle.reader.specs.Reader.{noneOf, storedOf, pairOf, freshReader, goOnOf, quietOf, refuseOf, beginOf, openOf, withNumbers};
 ghost use Rattle.reader.specs.Step.{nameOf, keptOf, closedOf, endOf, completeOf, endingOf, afterNumberOf, closeOf, idleOf, firstOf, parametersOf, inNumberOf, passOverOf, labelOf, stepOf, passedMode, passedOver};
-
-mod bytes;
-mod number;
-mod saved;
-mod table;
-
-use bytes::Class;
-use bytes::class_of;
-use bytes::is_digit;
-use number::Number;
-use number::Value;
-pub use saved::put_reader;
-pub use saved::reader_at;
-pub use table::CI;
-pub use table::DF;
-pub use table::EA;
-pub use table::EP;
-pub use table::ER;
-use table::Found;
-pub use table::IN;
-pub use table::IP;
-pub use table::IW;
-pub use table::PA;
-pub use table::PD;
-pub use table::PM;
-pub use table::PR;
-pub use table::PU;
-pub use table::RO;
-pub use table::SC;
-pub use table::SP;
-pub use table::changes_settings;
-use table::count_fits;
-use table::find;
-use table::has_room;
-use table::is_label;
-pub use table::known_in_polygon;
-pub use table::takes_pairs;
+use mnemonics::Found;
+use mnemonics::IN;
+use mnemonics::count_fits;
+use mnemonics::find;
+use mnemonics::has_room;
+use mnemonics::is_label;
+use mnemonics::takes_pairs;
+use numerals::bytes::Class;
+use numerals::bytes::class_of;
+use numerals::bytes::is_digit;
+use numerals::number::Number;
+use numerals::number::Value;
 
 // The causes of a refusal that the reader finds: an unknown byte or name, the count of numbers, a number out of range.
 const UNKNOWN: u8 = 1;
@@ -98,11 +73,11 @@ pub enum Mode {
 }
 
 pub struct Reader {
-    mode: Mode,
+    pub mode: Mode,
     // The instruction that was named last, its numbers, and the number that is open or was the last.
-    op: usize,
-    numbers: Numbers,
-    number: Number,
+    pub op: usize,
+    pub numbers: Numbers,
+    pub number: Number,
 }
 
 pub struct Step {

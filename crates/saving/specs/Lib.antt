@@ -1,2 +1,3 @@
+pub mod SavedReader
 pub mod Saved
 pub mod SavedLaws

@@ -13,7 +13,7 @@ use Rattle.rows.specs.declared.Row.{Row}
 use Rattle.rows.specs.Rows.{lay, rowAt, smallOf, mostByte, mostShort}
 use Rattle.rows.specs.RowLaws.{flag-back, small-back, place-back}
 use Rattle.reader.specs.Sizes.{Readable}
-use Rattle.reader.specs.Saved.{readerAt, reader-back}
+use Rattle.saving.specs.SavedReader.{readerAt, reader-back}
 use Rattle.hpgl.specs.declared.Edge.{Edge}
 use Rattle.hpgl.specs.declared.Work.{Work}
 use Rattle.hpgl.specs.declared.Work.the-variants.{Nothing, Line, Chords, Edges}

@@ -7,6 +7,7 @@ ghost use Rattle.saving.specs.Saved.{stateNumbers, savedOf, loadedOf};
 
 mod carriage;
 mod edges;
+mod reading;
 mod settings;
 mod work;
 
@@ -16,8 +17,8 @@ use edges::edges_at;
 use edges::put_edges;
 use hpgl::Core;
 use hpgl::State;
-use reader::put_reader;
-use reader::reader_at;
+use reading::put_reader;
+use reading::reader_at;
 use settings::put_settings;
 use settings::settings_at;
 use work::put_work;

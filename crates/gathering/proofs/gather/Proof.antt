@@ -41,12 +41,12 @@ use Rattle.hpgl.specs.Valid.{Valid, ValidCore, ValidActed, ValidEvent, ValidAct
 use Rattle.hpgl.specs.ValidFacts.{edge-small, limits-small}
 use Rattle.hpgl.specs.ReaderKept.{step-event}
 use Rattle.hpgl.specs.ValidKept.{valid-event}
-use Rattle.instructions.specs.declared.places.Frame.{Frame}
-use Rattle.instructions.specs.declared.hand.Hand.{Hand}
-use Rattle.instructions.specs.Alone.{action-alone}
-use Rattle.instructions.specs.First.{place-within}
-use Rattle.instructions.specs.Corners.{segmentIn, BeginsAt, segment-waits, corner-begins, next-begins, action-begins, pair-begins}
-use Rattle.instructions.specs.Hand.{frameOf, coreOf}
+use Rattle.basics.specs.declared.places.Frame.{Frame}
+use Rattle.basics.specs.declared.hand.Hand.{Hand}
+use Rattle.queue.specs.Alone.{action-alone}
+use Rattle.queue.specs.First.{place-within}
+use Rattle.queue.specs.Corners.{segmentIn, BeginsAt, segment-waits, corner-begins, next-begins, action-begins, pair-begins}
+use Rattle.basics.specs.Hand.{frameOf, coreOf}
 use Rattle.gathering.specs.Gather.{whole, stoppedAs, gatherFrom, withStroke, recordOf}
 use Rattle.gathering.specs.Far.{Far, Reached, Begun, Came}
 use Rattle.gathering.proofs.Turns.{Turn, reader-on, reader-off, turn-valid, acting, refused-acts, settled-acts, pair-acts, named-acts, unknown-acts}

@@ -27,10 +27,10 @@ use Rattle.hpgl.specs.Segment.{drawnOf}
 use Rattle.hpgl.specs.Valid.{ValidEvent}
 use Rattle.hpgl.specs.ValidFacts.{limits-small}
 use Rattle.hpgl.specs.ReaderKept.{step-event}
-use Rattle.instructions.specs.declared.places.Frame.{Frame}
-use Rattle.instructions.specs.declared.hand.Hand.{Hand}
-use Rattle.instructions.specs.Hand.{frameOf, coreOf, lineOf, nameNumber, handOf, carriageOf, locationIn}
-use Rattle.instructions.specs.Locating.{hand-locatable}
+use Rattle.basics.specs.declared.places.Frame.{Frame}
+use Rattle.basics.specs.declared.hand.Hand.{Hand}
+use Rattle.basics.specs.Hand.{frameOf, coreOf, lineOf, nameNumber, handOf, carriageOf, locationIn}
+use Rattle.basics.specs.Locating.{hand-locatable}
 use Rattle.gathering.specs.declared.Moved.{Moved}
 use Rattle.gathering.specs.Gather.{whole, stuckOf}
 use Rattle.gathering.specs.Far.{Far, Reached, Begun, Came}

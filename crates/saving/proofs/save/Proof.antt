@@ -6,7 +6,7 @@ use lib.IntN.{ℤ}
 use lib.ListN.{length}
 use Rattle.rows.specs.Rows.{over}
 use Rattle.rows.specs.RowLaws.{over-all}
-use Rattle.reader.specs.Saved.{readerNumbers}
+use Rattle.saving.specs.SavedReader.{readerNumbers}
 use Rattle.hpgl.specs.declared.State.{State}
 use Rattle.hpgl.specs.Numbers.{mostEdges}
 use Rattle.saving.specs.Saved.{stateNumbers, settingsNumbers, carriageNumbers, workNumbers, edgesNumbers, savedOf}

@@ -9,8 +9,8 @@ use Rattle.hpgl.specs.Machine as M
 use Rattle.hpgl.specs.Segment.{segmentOf, drawnOf, segment-drawn}
 use Rattle.hpgl.specs.ValidFacts.{edge-small}
 use Rattle.hpgl.specs.ValidKept.{made-valid}
-use Rattle.instructions.specs.First.{place-within}
-use Rattle.instructions.specs.Corners.{firstSegment, first-segment}
+use Rattle.queue.specs.First.{place-within}
+use Rattle.queue.specs.Corners.{firstSegment, first-segment}
 use Rattle.machine.specs.Calls.{workedOf}
 use Rattle.machine.proofs.Machine.draw.Statement.{statement}
 use Rattle.machine.proofs.Machine.draw.Tie as tie

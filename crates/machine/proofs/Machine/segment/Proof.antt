@@ -8,8 +8,8 @@ use Rattle.hpgl.specs.Machine.{noEdge}
 use Rattle.hpgl.specs.Segment.{segmentOf}
 use Rattle.hpgl.specs.ValidFacts.{edge-small}
 use Rattle.hpgl.specs.ValidKept.{made-valid}
-use Rattle.instructions.specs.First.{place-within}
-use Rattle.instructions.specs.Corners.{firstSegment, first-segment}
+use Rattle.queue.specs.First.{place-within}
+use Rattle.queue.specs.Corners.{firstSegment, first-segment}
 use Rattle.machine.proofs.Machine.segment.Statement.{statement}
 use Rattle.machine.proofs.Machine.segment.Tie as tie
 

@@ -5,11 +5,11 @@ use Prim.Native.Nat.{ℕ}
 use types.Run.{OneOf, miss}
 use denote.Enum.Declared.{tagOf}
 use Rattle.exact.proofs.Rules.{rules}
-use Rattle.reader.specs.declared.bytes.Class.{Class}
-use Rattle.reader.specs.declared.bytes.Class.the-variants.{Blank, Semicolon, Letter, Digit, Sign, Point, Other}
+use Rattle.numerals.specs.declared.bytes.Class.{Class}
+use Rattle.numerals.specs.declared.bytes.Class.the-variants.{Blank, Semicolon, Letter, Digit, Sign, Point, Other}
 use Rattle.reader.specs.declared.Reader.{Reader}
 use Rattle.reader.specs.Step.{endingOf, closeOf, inNumberOf}
-use Rattle.reader.proofs.bytes.Class.{the-type}
+use Rattle.numerals.proofs.bytes.Class.{the-type}
 use borrow.Author.Needs.{needs}
 use Rattle.reader.proofs.Reader.in_number.Statement.{statement}
 use Rattle.reader.proofs.Reader.in_number.Tie as tie

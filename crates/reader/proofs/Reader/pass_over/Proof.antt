@@ -5,13 +5,13 @@ use Prim.Native.Nat.{ℕ}
 use types.Run.{OneOf, miss}
 use denote.Enum.Declared.{tagOf}
 use Rattle.exact.proofs.Rules.{rules}
-use Rattle.reader.specs.declared.bytes.Class.{Class}
-use Rattle.reader.specs.declared.bytes.Class.the-variants.{Blank, Semicolon, Letter, Digit, Sign, Point, Other}
+use Rattle.numerals.specs.declared.bytes.Class.{Class}
+use Rattle.numerals.specs.declared.bytes.Class.the-variants.{Blank, Semicolon, Letter, Digit, Sign, Point, Other}
 use Rattle.reader.specs.declared.Mode.the-variants.{PassOver}
 use Rattle.reader.specs.declared.Reader.{Reader}
 use Rattle.reader.specs.Reader.{quietOf}
 use Rattle.reader.specs.Step.{passOverOf}
-use Rattle.reader.proofs.bytes.Class.{the-type}
+use Rattle.numerals.proofs.bytes.Class.{the-type}
 use borrow.Author.Needs.{needs}
 use Rattle.reader.proofs.Reader.pass_over.Statement.{statement}
 use Rattle.reader.proofs.Reader.pass_over.Tie as tie

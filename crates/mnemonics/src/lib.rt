@@ -1,0 +1,197 @@
+// The table of sixteen instructions, and what is looked up in it.
+ghost use mathlib.Core.Path.{_≡_};
+ghost use Prim.Native.Nat.{_+_, _*_, _<_};
+ghost use Rattle.mnemonics.specs.Table.{rows, rowOf, namesOf, findOf, isLabel, countFits, takesPairs, hasRoom, knownInPolygon, changesSettings};
+
+// An instruction's code is its place in the table.
+pub const IN: usize = 0;
+
+pub const DF: usize = 1;
+
+pub const EP: usize = 2;
+
+pub const IP: usize = 3;
+
+pub const SC: usize = 4;
+
+pub const IW: usize = 5;
+
+pub const RO: usize = 6;
+
+pub const SP: usize = 7;
+
+pub const PM: usize = 8;
+
+pub const CI: usize = 9;
+
+pub const EA: usize = 10;
+
+pub const ER: usize = 11;
+
+pub const PU: usize = 12;
+
+pub const PD: usize = 13;
+
+pub const PA: usize = 14;
+
+pub const PR: usize = 15;
+
+const ROWS: usize = 16;
+
+// The columns: two letters, least and most numbers, what the count goes up by, and whether the instruction is known in
+// polygon mode and changes settings.
+const FIRST: usize = 0;
+
+const SECOND: usize = 1;
+
+const LEAST: usize = 2;
+
+const MOST: usize = 3;
+
+const STEP: usize = 4;
+
+const POLYGON: usize = 5;
+
+const SETTINGS: usize = 6;
+
+const COLUMNS: usize = 7;
+
+// As most: no limit. Such an instruction takes pairs, each carried out on the byte that ends it.
+const ANY: u8 = 255;
+
+const TABLE: [[u8; COLUMNS]; ROWS] = [
+    [b'I', b'N', 0, 0, 1, 1, 1],
+    [b'D', b'F', 0, 0, 1, 0, 1],
+    [b'E', b'P', 0, 0, 1, 0, 0],
+    [b'I', b'P', 0, 4, 2, 0, 1],
+    [b'S', b'C', 0, 4, 4, 0, 1],
+    [b'I', b'W', 0, 4, 4, 0, 1],
+    [b'R', b'O', 0, 1, 1, 0, 1],
+    [b'S', b'P', 0, 1, 1, 0, 0],
+    [b'P', b'M', 0, 1, 1, 1, 0],
+    [b'C', b'I', 1, 2, 1, 0, 0],
+    [b'E', b'A', 2, 2, 1, 0, 0],
+    [b'E', b'R', 2, 2, 1, 0, 0],
+    [b'P', b'U', 0, ANY, 2, 1, 0],
+    [b'P', b'D', 0, ANY, 2, 1, 0],
+    [b'P', b'A', 0, ANY, 2, 1, 0],
+    [b'P', b'R', 0, ANY, 2, 1, 0],
+];
+
+pub enum Found {
+    At(usize),
+    Nowhere,
+}
+
+// The row of an instruction.
+fn row(op: usize) -> [u8; COLUMNS]
+    requires { ⌜ op < rows ⌝ }
+    ensures { λ r. ⌜ r ≡ rowOf op ⌝ }
+{
+    TABLE[op]
+}
+
+// Two letters as one number, so that they are compared at once.
+fn both(first: u8, second: u8) -> u16
+    ensures { λ r. ⌜ (r ≡ first * 256 + second) × (second < 256) ⌝ }
+{
+    (first as u16) * 256 + second as u16
+}
+
+// Whether a row has these two letters.
+fn names(row: [u8; COLUMNS], first: u8, second: u8) -> bool
+    ensures { λ r. ⌜ r ≡ namesOf row first second ⌝ }
+{
+    both(row[FIRST], row[SECOND]) == both(first, second)
+}
+
+// The instruction that two letters name.
+pub fn find(first: u8, second: u8) -> Found
+    ensures { λ r. ⌜ r ≡ findOf first second ⌝ }
+{
+    // laid out once, and not for each row
+    let table = TABLE;
+    let mut op: usize = 0;
+    while op < ROWS {
+        if names(table[op], first, second) {
+            return Found::At(op);
+        }
+        op += 1;
+    }
+    Found::Nowhere
+}
+
+// LB, a name beside the table.
+pub fn is_label(first: u8, second: u8) -> bool
+    ensures { λ r. ⌜ r ≡ isLabel first second ⌝ }
+{
+    if first == b'L' {
+        return second == b'B';
+    }
+    false
+}
+
+// Whether an instruction may end after n numbers.
+pub fn count_fits(op: usize, n: u8) -> bool
+    ensures { λ r. ⌜ r ≡ countFits op n ⌝ }
+{
+    if takes_pairs(op) {
+        return n % 2 == 0;
+    }
+    if op < ROWS {
+        let row = row(op);
+        let least = row[LEAST];
+        if least <= n {
+            if n <= row[MOST] {
+                return (n - least) % row[STEP] == 0;
+            }
+            return false;
+        }
+        return false;
+    }
+    false
+}
+
+// Whether an instruction has room for one more number after n.
+pub fn has_room(op: usize, n: u8) -> bool
+    ensures { λ r. ⌜ r ≡ hasRoom op n ⌝ }
+{
+    if takes_pairs(op) {
+        return n < ANY;
+    }
+    if op < ROWS {
+        return n < row(op)[MOST];
+    }
+    false
+}
+
+// Whether an instruction takes pairs: the last four do. Asked for every number, so the table is not laid out; nor is it for
+// their counts, above.
+pub fn takes_pairs(op: usize) -> bool
+    ensures { λ r. ⌜ r ≡ takesPairs op ⌝ }
+{
+    if op < PU {
+        return false;
+    }
+    op < ROWS
+}
+
+// Whether an instruction is known in polygon mode.
+pub fn known_in_polygon(op: usize) -> bool
+    ensures { λ r. ⌜ r ≡ knownInPolygon op ⌝ }
+{
+    if op < ROWS {
+        return row(op)[POLYGON] == 1;
+    }
+    false
+}
+
+// Whether an instruction changes settings.
+pub fn changes_settings(op: usize) -> bool
+    ensures { λ r. ⌜ r ≡ changesSettings op ⌝ }
+{
+    if op < ROWS {
+        return row(op)[SETTINGS] == 1;
+    }
+    false
+}

@@ -1,0 +1,7 @@
+pub mod Bytes
+pub mod Number
+pub mod Run
+pub mod Numeral
+pub mod Marks
+pub mod NumeralLaws
+pub mod RunLaws

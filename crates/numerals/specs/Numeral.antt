@@ -1,0 +1,87 @@
+-- A number's text and its value, as a person reads them: no state, no order of reading. That the reader comes to this value
+-- stands in NumeralLaws.
+use Prim.Native.Nat.{ℕ, zero, suc, _+_, _*_, _<_}
+use Prim.Native.Char.{code}
+use mathlib.Core.Bool.{Bool, true, false, cond, _&&_}
+use mathlib.Core.List.{List, [], _∷_, _++_}
+use lib.IntN.{ℤ, pos, negℤ}
+use lib.Signed.{leZ}
+use Rattle.numerals.specs.declared.number.Value.{Value}
+use Rattle.numerals.specs.declared.number.Value.the-variants.{Good, Bad}
+
+-- "A number is an optional sign, then digits with at most one point."
+pub data Sign : Type 0 where
+  bare plus minus : Sign
+
+pub data Fraction : Type 0 where
+  none : Fraction
+  point : List ℕ → Fraction
+
+pub record Numeral : Type 0 where
+  pub sign : Sign
+  pub whole : List ℕ
+  pub fraction : Fraction
+
+-- Its bytes.
+abbrev pub signText : Sign → List ℕ
+signText bare = []
+signText plus = code "+" ∷ []
+signText minus = code "-" ∷ []
+
+abbrev pub digitsText : List ℕ → List ℕ
+digitsText [] = []
+digitsText (d ∷ ds) = (code "0" + d) ∷ digitsText ds
+
+abbrev pub fractionText : Fraction → List ℕ
+fractionText none = []
+fractionText (point ds) = code "." ∷ digitsText ds
+
+abbrev pub text : Numeral → List ℕ
+text n = signText (n .sign) ++ (digitsText (n .whole) ++ fractionText (n .fraction))
+
+-- A list of digits.
+abbrev pub Digits : List ℕ → Type 0
+Digits [] = Unit {0}
+Digits (d ∷ ds) = (d < 10) × Digits ds
+
+-- What a list of digits is worth.
+abbrev pub worthFrom : ℕ → List ℕ → ℕ
+worthFrom v [] = v
+worthFrom v (d ∷ ds) = worthFrom (v * 10 + d) ds
+
+abbrev pub worth : List ℕ → ℕ
+worth ds = worthFrom 0 ds
+
+abbrev pub decimals : Fraction → List ℕ
+decimals none = []
+decimals (point ds) = ds
+
+-- Exactly k digits: "decimals past the fourth are dropped", and places that are not written hold zeros.
+abbrev pub exactly : ℕ → List ℕ → List ℕ
+exactly zero ds = []
+exactly (suc k) [] = 0 ∷ exactly k []
+exactly (suc k) (d ∷ ds) = d ∷ exactly k ds
+
+-- "It is kept in ten-thousandths."
+abbrev pub magnitude : Numeral → ℕ
+magnitude n = worth (n .whole) * 10000 + worth (exactly 4 (decimals (n .fraction)))
+
+abbrev pub signed : Sign → ℕ → ℤ
+signed bare m = pos m
+signed plus m = pos m
+signed minus m = negℤ (pos m)
+
+-- "At least one digit."
+abbrev pub some : List ℕ → Bool
+some [] = false
+some (d ∷ ds) = true
+
+-- "Range −32768.0000 to 32767.9999."
+abbrev pub inRange : ℤ → Bool
+inRange v = leZ (negℤ (pos 327680000)) v && leZ v (pos 327679999)
+
+unfoldable pub valueOf : Numeral → Value
+valueOf n =
+    cond (some (n .whole ++ decimals (n .fraction)))
+    (cond (inRange (signed (n .sign) (magnitude n))) (Good (signed (n .sign) (magnitude n))) Bad)
+    Bad

@@ -1,0 +1,105 @@
+-- A digit by its byte, and a run of digits place by place.
+use mathlib.Core.Path.{_≡_, refl, sym}
+use mathlib.Core.Bool.{Bool, true, false, cond, true≢false}
+use mathlib.Core.List.{List, [], _∷_}
+use Prim.Native.Nat.{ℕ, _+_, _-_, _*_, _≤_, _<_}
+use Prim.Native.Char.{code}
+use native.Mathlib.Numerals.{add-one}
+use native.Mathlib.Omega.{arith}
+use borrow.Author.Tests.{leb-true, ltb-false, le-ltb}
+use lib.Dec.{leb, ltb}
+use lib.ListN.{length, drop, getD, drop-of-length-le}
+use lib.Seq.{drop-cons}
+use Rattle.numerals.specs.declared.bytes.Class.the-variants.{Digit}
+use Rattle.numerals.specs.declared.number.Number.{Number}
+use Rattle.numerals.specs.declared.number.Run.{Run}
+use Rattle.numerals.specs.declared.number.Scanned.{Scanned}
+use Rattle.numerals.specs.Bytes.{isDigit, classOf}
+use Rattle.numerals.specs.Number.{places, bottom, countedOf, digitOf}
+use Rattle.numerals.specs.Run.{ended, runOf, countsWhole, scannedOf}
+
+pub digit-class : (b : ℕ) → isDigit b ≡ true → (code "0" ≤ b) × (b ≤ code "9") × (classOf b ≡ Digit (b - code "0"))
+unfolding isDigit classOf
+digit-class b e = go (ltb b (code "0")) (leb b (code "9")) refl refl e
+  where
+    go : (x y : Bool) → ltb b (code "0") ≡ x → leb b (code "9") ≡ y → cond x false y ≡ true → (code "0" ≤ b) × (b ≤ code "9") × (classOf b ≡ Digit (b - code "0"))
+    go false true h k t = (ltb-false b (code "0") h, leb-true b (code "9") k, simp (h, k))
+    go false false h k t = absurd (true≢false (sym t))
+    go true y h k t = absurd (true≢false (sym t))
+
+-- ---- a run of digits
+
+run-digit :
+    (m b : ℕ) (bs : List ℕ) (at : ℕ)
+    → isDigit b ≡ true
+    → ltb bottom m ≡ false
+    → runOf m (b ∷ bs) at ≡ runOf (m * 10 + (b - code "0")) bs (at + 1)
+unfolding runOf
+run-digit m b bs at d p = simp (d, p)
+
+module _ (m : ℕ) (s : List ℕ) (at : ℕ) where
+  pub run-end : length s ≤ at → runOf m (drop at s) at ≡ ended m at
+  unfolding runOf
+  run-end h = rw (drop-of-length-le s h) refl
+
+  pub run-stop : at < length s → isDigit (getD s at 0) ≡ false → runOf m (drop at s) at ≡ ended m at
+  unfolding runOf
+  run-stop h d = rw (drop-cons s at 0 h) (simp d)
+
+  pub run-past : at < length s → isDigit (getD s at 0) ≡ true → ltb bottom m ≡ true → runOf m (drop at s) at ≡ ended m at
+  unfolding runOf
+  run-past h d p = rw (drop-cons s at 0 h) (simp (d, p))
+
+  pub run-on :
+      at < length s
+      → isDigit (getD s at 0) ≡ true
+      → ltb bottom m ≡ false
+      → runOf m (drop at s) at ≡ runOf (m * 10 + (getD s at 0 - code "0")) (drop (at + 1) s) (at + 1)
+  run-on h d p = rw (drop-cons s at 0 h, ← add-one at) (run-digit m (getD s at 0) (drop (at + 1) s) at d p)
+
+pub run-place : (m : ℕ) (bs : List ℕ) (at : ℕ) → at ≤ runOf m bs at .at
+unfolding runOf
+run-place m [] at = omega arith
+run-place m (b ∷ bs) at = go (isDigit b) (ltb bottom m) (run-place (m * 10 + (b - code "0")) bs (at + 1))
+  where
+    rest : Run
+    rest = runOf (m * 10 + (b - code "0")) bs (at + 1)
+
+    go : (x y : Bool) → at + 1 ≤ rest .at → at ≤ cond x (cond y (ended m at) rest) (ended m at) .at
+    go false y h = omega arith
+    go true true h = omega arith
+    go true false h = omega (arith, h)
+
+-- One digit of a number without a point that counts it.
+pub counted-digit :
+    (n : Number) (d : ℕ)
+    → leb places (n .decimals) ≡ false
+    → ltb bottom (n .magnitude) ≡ false
+    → n .pointed ≡ false
+    → digitOf n d ≡ countedOf n (n .decimals) (n .magnitude * 10 + d)
+unfolding digitOf
+counted-digit n d k b p = simp (k, b, p)
+
+pub counts-whole : (n : Number) → countsWhole n ≡ true → (n .pointed ≡ false) × (leb places (n .decimals) ≡ false) × (ltb bottom (n .magnitude) ≡ false)
+unfolding countsWhole
+counts-whole n c = go (n .pointed) (leb places (n .decimals)) refl refl c
+  where
+    go : (x y : Bool) → n .pointed ≡ x → leb places (n .decimals) ≡ y → cond x false (cond y false (leb (n .magnitude) bottom)) ≡ true → (n .pointed ≡ false) × (leb places (n .decimals) ≡ false) × (ltb bottom (n .magnitude) ≡ false)
+    go false false p k t = (p, k, le-ltb bottom (n .magnitude) (leb-true (n .magnitude) bottom t))
+    go false true p k t = absurd (true≢false (sym t))
+    go true y p k t = absurd (true≢false (sym t))
+
+-- The two ways of `scannedOf`.
+module _ (n : Number) (s : List ℕ) (at : ℕ) (k : Number) where
+  pub scanned-run :
+      (q : Run)
+      → countsWhole n ≡ true
+      → q ≡ runOf (n .magnitude) (drop at s) at
+      → k ≡ countedOf n (n .decimals) (q .magnitude)
+      → _≡_ {A = Scanned} (record { number = k; at = q .at }) (scannedOf n s at)
+  unfolding scannedOf
+  scanned-run q w e f = rw (f, e, w) refl
+
+  pub scanned-one : countsWhole n ≡ false → k ≡ digitOf n (getD s at 0 - code "0") → _≡_ {A = Scanned} (record { number = k; at = at + 1 }) (scannedOf n s at)
+  unfolding scannedOf
+  scanned-one w f = rw (f, w) refl

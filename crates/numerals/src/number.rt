@@ -1,0 +1,238 @@
+// A number as it is read, mark by mark, and its value in ten-thousandths.
+ghost use mathlib.Core.Path.{_≡_};
+ghost use mathlib.Core.Bool.{true};
+ghost use Prim.Native.Nat.{_≤_, _<_};
+ghost use lib.ListN.{length, drop, getD};
+ghost use Rattle.numerals.specs.Bytes.{isDigit};
+ghost use Rattle.numerals.specs.Number.{bottom, startOf, pointOf, countedOf, digitOf, unitOf, tenThousandths, signedOf, largestOf, finishOf};
+ghost use Rattle.numerals.specs.Run.{runOf, countsWhole, scannedOf};
+use super::bytes::is_digit;
+
+// Decimals that are kept.
+const PLACES: u8 = 4;
+
+// The largest magnitudes, in ten-thousandths: 32767.9999, and 32768 below zero.
+const TOP: u64 = 327_679_999;
+
+const BOTTOM: u64 = 327_680_000;
+
+// Past this magnitude a number is out of range whatever follows.
+const PAST: u32 = 327_680_000;
+
+pub struct Number {
+    pub negative: bool,
+    // Whether it has a digit, and a point.
+    pub filled: bool,
+    pub pointed: bool,
+    // How many of its digits stand after the point, at most four.
+    pub decimals: u8,
+    // Its digits as one whole number, without the point. It stays once it is out of range.
+    pub magnitude: u32,
+}
+
+// A number with digits more, and the place after them.
+pub struct Scanned {
+    pub number: Number,
+    pub at: usize,
+}
+
+// Where a run of digits ends, and the magnitude that it comes to.
+pub struct Run {
+    pub magnitude: u32,
+    pub at: usize,
+}
+
+pub enum Value {
+    Good(i64),
+    Bad,
+}
+
+// What the last of so many decimals counts for, in ten-thousandths.
+fn unit(decimals: u8) -> u64
+    ensures { λ r. ⌜ r ≡ unitOf decimals ⌝ }
+{
+    if decimals == 0 {
+        return 10_000;
+    }
+    if decimals == 1 {
+        return 1_000;
+    }
+    if decimals == 2 {
+        return 100;
+    }
+    if decimals == 3 {
+        return 10;
+    }
+    1
+}
+
+// The largest magnitude on either side of zero.
+fn largest(negative: bool) -> u64
+    ensures { λ r. ⌜ r ≡ largestOf negative ⌝ }
+{
+    if negative {
+        return BOTTOM;
+    }
+    TOP
+}
+
+// A magnitude with its sign.
+fn signed(negative: bool, magnitude: u64) -> i64
+    requires { ⌜ magnitude ≤ bottom ⌝ }
+    ensures { λ r. ⌜ r ≡ signedOf negative magnitude ⌝ }
+{
+    if negative {
+        return 0 - (magnitude as i64);
+    }
+    magnitude as i64
+}
+
+// The digits from a place on, before a point, as long as the magnitude counts them.
+fn run_from(bytes: &[u8], from: usize, start: u32) -> Run
+    ensures { λ r. ⌜ r ≡ runOf start (drop from (now (bytes .entry))) from ⌝ }
+{
+    let mut magnitude = start;
+    let mut at = from;
+    while at < bytes.len() {
+        let byte = bytes[at];
+        if !is_digit(byte) {
+            return Run {
+                magnitude: magnitude,
+                at: at,
+            };
+        }
+        if PAST < magnitude {
+            return Run {
+                magnitude: magnitude,
+                at: at,
+            };
+        }
+        magnitude = magnitude * 10 + ((byte - b'0') as u32);
+        at += 1;
+    }
+    Run {
+        magnitude: magnitude,
+        at: at,
+    }
+}
+
+impl Number {
+    // A number of which at most the sign is read.
+    pub fn start(negative: bool) -> Number
+        ensures { λ r. ⌜ r ≡ startOf negative ⌝ }
+    {
+        Number {
+            negative: negative,
+            filled: false,
+            pointed: false,
+            decimals: 0,
+            magnitude: 0,
+        }
+    }
+
+    // The number with its point.
+    pub fn with_point(self) -> Number
+        ensures { λ r. ⌜ r ≡ pointOf self ⌝ }
+    {
+        Number {
+            negative: self.negative,
+            filled: self.filled,
+            pointed: true,
+            decimals: self.decimals,
+            magnitude: self.magnitude,
+        }
+    }
+
+    pub fn has_point(self) -> bool
+        ensures { λ r. ⌜ r ≡ self .pointed ⌝ }
+    {
+        self.pointed
+    }
+
+    // The number with a digit, so many decimals and that magnitude.
+    fn counted(self, decimals: u8, magnitude: u32) -> Number
+        ensures { λ r. ⌜ r ≡ countedOf self decimals magnitude ⌝ }
+    {
+        Number {
+            negative: self.negative,
+            filled: true,
+            pointed: self.pointed,
+            decimals: decimals,
+            magnitude: magnitude,
+        }
+    }
+
+    // The number with one digit more. A decimal past the fourth is dropped.
+    pub fn with_digit(self, digit: u8) -> Number
+        ensures { λ r. ⌜ r ≡ digitOf self digit ⌝ }
+    {
+        let decimals = self.decimals;
+        let magnitude = self.magnitude;
+        let pointed = self.pointed;
+        if PLACES <= decimals {
+            return self.counted(decimals, magnitude);
+        }
+        if PAST < magnitude {
+            return self.counted(decimals, magnitude);
+        }
+        if pointed {
+            return self.counted(decimals + 1, magnitude * 10 + (digit as u32));
+        }
+        self.counted(decimals, magnitude * 10 + (digit as u32))
+    }
+
+    // Whether the next digit counts, and is no decimal.
+    fn counts_whole(self) -> bool
+        ensures { λ r. ⌜ r ≡ countsWhole self ⌝ }
+    {
+        if self.pointed {
+            return false;
+        }
+        if PLACES <= self.decimals {
+            return false;
+        }
+        self.magnitude <= PAST
+    }
+
+    // The number with the digit at a place, and with those after it that count, where it has no point.
+    pub fn with_digits(self, bytes: &[u8], at: usize) -> Scanned
+        requires { ⌜ (at < length (now bytes)) × (isDigit (getD (now bytes) at 0) ≡ true) ⌝ }
+        ensures { λ r. ⌜ r ≡ scannedOf self (now (bytes .entry)) at ⌝ }
+    {
+        if self.counts_whole() {
+            let run = run_from(bytes, at, self.magnitude);
+            return Scanned {
+                number: self.counted(self.decimals, run.magnitude),
+                at: run.at,
+            };
+        }
+        Scanned {
+            number: self.with_digit(bytes[at] - b'0'),
+            at: at + 1,
+        }
+    }
+
+    // Its magnitude in ten-thousandths.
+    fn ten_thousandths(self) -> u64
+        ensures { λ r. ⌜ r ≡ tenThousandths self ⌝ }
+    {
+        let decimals = self.decimals;
+        (self.magnitude as u64) * unit(decimals)
+    }
+
+    // The value of a number that has ended; bad if it has no digit or is out of range.
+    pub fn finish(self) -> Value
+        ensures { λ r. ⌜ r ≡ finishOf self ⌝ }
+    {
+        let negative = self.negative;
+        let filled = self.filled;
+        if filled {
+            let magnitude = self.ten_thousandths();
+            if magnitude <= largest(negative) {
+                return Value::Good(signed(negative, magnitude));
+            }
+            return Value::Bad;
+        }
+        Value::Bad
+    }
+}

@@ -1,0 +1,92 @@
+-- The proof of `queued`: by its arms. A valid circle has at most 720 chords.
+use borrow.Author.Needs.{needs}
+use mathlib.Core.Path.{refl, subst}
+use Prim.Native.Nat.{_≤_}
+use native.Mathlib.Omega.{arith}
+use Rattle.hpgl.specs.Machine as M
+use Rattle.hpgl.specs.Valid.{mostChords, ValidAction, ValidCircle}
+use Rattle.hpgl.specs.ValidFacts.{chords-most}
+use Rattle.queue.proofs.storing.queued.Statement.{statement}
+use Rattle.queue.proofs.storing.queued.Tie as tie
+
+circle : (c : tie.After-a2) → ValidCircle (c .a2 .given .0 .0)
+circle c = let s : tie.Start = search in subst (ValidAction 0) (c .a2 .given .1) (s .pre)
+
+enum-told : tie.Need-enum-told
+enum-told c = search needs
+
+enum-known-a : tie.Need-enum-known-a
+enum-known-a c = search needs
+
+enum-known-a-2 : tie.Need-enum-known-a-2
+enum-known-a-2 c = search needs
+
+cast-chords : tie.Need-cast-chords
+cast-chords c = search needs
+
+chords-requires : tie.Need-chords-requires
+chords-requires c κs = let o : tie.After-a2 = search in (omega (arith, circle o .least), circle o .most)
+
+cast-t10 : tie.Need-cast-t10
+cast-t10 c =
+    let o : tie.After-a2 = search in
+    let k : c .chords .result ≤ mostChords = rw (c .chords .ensures) (chords-most (circle o .least)) in
+    record { fits = omega (arith, k) }
+
+enum-told-2 : tie.Need-enum-told-2
+enum-told-2 c = search needs
+
+enum-told-3 : tie.Need-enum-told-3
+enum-told-3 c = search needs
+
+enum-known-a-3 : tie.Need-enum-known-a-3
+enum-known-a-3 c = search needs
+
+returns : tie.Need-returns
+unfolding M.queued
+returns c = rw (c .before .before .a3 .given .1, c .if1 .taken) refl
+
+returns-2 : tie.Need-returns-2
+unfolding M.queued
+returns-2 c = rw (c .enum-told .given .1) refl
+
+returns-3 : tie.Need-returns-3
+unfolding M.queued
+returns-3 c = rw (c .before .a .given .1) refl
+
+returns-4 : tie.Need-returns-4
+unfolding M.queued
+returns-4 c = let o : tie.After-a2 = search in rw (o .a2 .given .1, c .chords .ensures) refl
+
+returns-5 : tie.Need-returns-5
+unfolding M.queued
+returns-5 c = rw (c .enum-told2 .given .1) refl
+
+returns-6 : tie.Need-returns-6
+unfolding M.queued
+returns-6 c = rw (c .enum-told3 .given .1) refl
+
+returns-7 : tie.Need-returns-7
+unfolding M.queued
+returns-7 c = rw (c .before .before .a3 .given .1, c .if1 .left) refl
+
+pub queued-spec : {M : Type 1} → statement M
+queued-spec =
+    tie.close
+    (tie.spec
+    enum-told
+    enum-known-a
+    enum-known-a-2
+    cast-chords
+    chords-requires
+    cast-t10
+    enum-told-2
+    enum-told-3
+    enum-known-a-3
+    returns
+    returns-2
+    returns-3
+    returns-4
+    returns-5
+    returns-6
+    returns-7)

@@ -1,0 +1,116 @@
+// CI: its chord angle, the range of its four points, and the circle whose chords are drawn.
+ghost use mathlib.Core.Path.{_≡_};
+ghost use Rattle.exact.specs.Fit.{Bd};
+ghost use Rattle.reader.specs.Sizes.{Small, SmallPair};
+ghost use Rattle.plane.specs.Bounds.{mostNumber};
+ghost use Rattle.hpgl.specs.Place as P;
+ghost use Rattle.hpgl.specs.Rules as R;
+ghost use Rattle.hpgl.specs.Valid.{ValidCore};
+use super::moves::inked;
+use basics::acts::done;
+use basics::acts::refuse;
+use basics::numbers::DEFAULT_ANGLE;
+use basics::numbers::LEAST_ANGLE;
+use basics::numbers::MOST_ANGLE;
+use basics::numbers::OUT_OF_RANGE;
+use basics::numbers::TENTH;
+use basics::numbers::TOO_FAR;
+use basics::places::axis_x;
+use basics::places::axis_y;
+use basics::places::located;
+use basics::places::reachable;
+use basics::places::relative_position;
+use exact::nearest_div;
+use hpgl::Acted;
+use hpgl::Action;
+use hpgl::Circle;
+use hpgl::Core;
+use plane::circle::Way;
+use plane::circle::centre_of;
+use reader::Coordinates;
+use reader::Numbers;
+
+// Whether the point a way from the position is in range.
+fn way_fits(c: Core, way: Coordinates) -> bool
+    requires { ⌜ ValidCore c × SmallPair way ⌝ }
+    ensures { λ r. ⌜ r ≡ P.inRange (P.location (c .settings) (P.relativePosition (c .carriage .position) way)) ⌝ }
+{
+    let settings = c.settings;
+    let carriage = c.carriage;
+    let position = carriage.position;
+    reachable(located(settings, relative_position(position, way)))
+}
+
+// Whether the four points at 0, 90, 180 and 270 degrees are in range.
+fn circle_fits(c: Core, radius: i64) -> bool
+    requires { ⌜ ValidCore c × Bd radius mostNumber ⌝ }
+    ensures { λ r. ⌜ r ≡ R.circleFits c radius ⌝ }
+{
+    if way_fits(c, Coordinates { x: radius, y: 0 }) {
+        if way_fits(c, Coordinates { x: 0, y: radius }) {
+            if way_fits(c, Coordinates { x: -radius, y: 0 }) {
+                return way_fits(c, Coordinates { x: 0, y: -radius });
+            }
+            return false;
+        }
+        return false;
+    }
+    false
+}
+
+// The circle about the position.
+fn circle_of(c: Core, radius: i64, angle: u16) -> Circle
+    requires { ⌜ ValidCore c × Bd radius mostNumber ⌝ }
+    ensures { λ r. ⌜ r ≡ R.circle c radius angle ⌝ }
+{
+    let settings = c.settings;
+    let carriage = c.carriage;
+    let position = carriage.position;
+    let px = position.x;
+    let py = position.y;
+    let x = centre_of(axis_x(settings), px);
+    let y = centre_of(axis_y(settings), py);
+    Circle {
+        x: x,
+        y: y,
+        radius: Way { u: radius, v: 0 },
+        angle: angle,
+    }
+}
+
+// A circle with a chord angle that is to be judged.
+fn circle_with(c: Core, radius: i64, angle: i64) -> Acted
+    requires { ⌜ ValidCore c × Bd radius mostNumber ⌝ }
+    ensures { λ r. ⌜ r ≡ R.circleWith c radius angle ⌝ }
+{
+    if angle < LEAST_ANGLE {
+        return refuse(c, OUT_OF_RANGE);
+    }
+    if MOST_ANGLE < angle {
+        return refuse(c, OUT_OF_RANGE);
+    }
+    if circle_fits(c, radius) {
+        if inked(c) {
+            return done(c, Action::Chords(circle_of(c, radius, angle as u16)));
+        }
+        return done(c, Action::Keep);
+    }
+    refuse(c, TOO_FAR)
+}
+
+fn chord_angle(n: Numbers) -> i64
+    requires { ⌜ Small n ⌝ }
+    ensures { λ r. ⌜ r ≡ R.chordAngle n ⌝ }
+{
+    if n.count == 1 {
+        return DEFAULT_ANGLE;
+    }
+    nearest_div(n.second, TENTH)
+}
+
+pub fn ci_rule(c: Core, n: Numbers) -> Acted
+    requires { ⌜ ValidCore c × Small n ⌝ }
+    ensures { λ r. ⌜ r ≡ R.ciRule c n ⌝ }
+{
+    circle_with(c, n.first, chord_angle(n))
+}

@@ -1,0 +1,364 @@
+// Names and pairs: what PU, PD, PA and PR do, outside polygon mode and in it. They are the most of a drawing, so that they take of a core what they need:
+// the frame of its settings, the hand, the polygon.
+ghost use mathlib.Core.Path.{_≡_};
+ghost use mathlib.Core.Bool.{true, false, not};
+ghost use Prim.Native.Nat.{_+_, _≤_};
+ghost use lib.Dec.{eqb};
+ghost use Rattle.exact.specs.Fit.{Bd};
+ghost use Rattle.clip.specs.Reach.{SmallPoint};
+ghost use Rattle.plane.specs.Bounds.{AxisBounds, mostProduct};
+ghost use Rattle.reader.specs.Sizes.{SmallPair};
+ghost use Rattle.hpgl.specs.Numbers.{polygonBytes, mostEdges};
+ghost use Rattle.hpgl.specs.Place as P;
+ghost use Rattle.hpgl.specs.Rules as R;
+ghost use Rattle.hpgl.specs.Valid.{LocatablePosition, ValidCore};
+ghost use Rattle.basics.specs.Hand.{frameOf, carriageOf, coreOf, actedOf, shiftedOf, lineOf, locationIn, ValidParts, ValidHand, nameNumber};
+use basics::hand::Hand;
+use basics::hand::Paired;
+use basics::hand::Shifted;
+use basics::numbers::PEN_BYTES;
+use basics::numbers::POINT_BYTES;
+use basics::numbers::POLYGON_BYTES;
+use basics::numbers::POLYGON_FULL;
+use basics::numbers::TOO_FAR;
+use basics::numbers::UNKNOWN;
+use basics::places::Frame;
+use basics::places::absolute_on;
+use basics::places::located;
+use basics::places::located_in;
+use basics::places::reachable;
+use basics::places::relative_position;
+use clip::Point;
+use hpgl::Action;
+use hpgl::Core;
+use hpgl::Edge;
+use hpgl::Pen;
+use hpgl::Polygon;
+use hpgl::Position;
+use hpgl::Segment;
+use hpgl::Settings;
+use mnemonics::PA;
+use mnemonics::PD;
+use mnemonics::PR;
+use mnemonics::PU;
+use mnemonics::known_in_polygon;
+use plane::turn::turned_by;
+use reader::Coordinates;
+
+// The pen's mark is spent by a pair, and by PA and PR.
+fn spent(p: Pen) -> Pen
+    ensures { λ r. ⌜ r ≡ R.spent p ⌝ }
+{
+    Pen {
+        number: p.number,
+        down: p.down,
+        changed: false,
+    }
+}
+
+// The number of a name: unknown, or none.
+pub fn name_number(mode: bool, op: usize) -> u8
+    ensures { λ r. ⌜ r ≡ nameNumber mode op ⌝ }
+{
+    if mode {
+        if known_in_polygon(op) {
+            return 0;
+        }
+        return UNKNOWN;
+    }
+    0
+}
+
+// What the second letter does to the hand.
+pub fn letters(h: Hand, op: usize) -> Hand
+    ensures { λ r. ⌜ ((g : Polygon) → carriageOf r g ≡ R.letters (carriageOf h g) op) ⌝ }
+{
+    let position = h.position;
+    let pen = h.pen;
+    if op == PU {
+        return Hand {
+            position: position,
+            pen: Pen {
+                number: pen.number,
+                down: false,
+                changed: pen.down,
+            },
+            relative: h.relative,
+        };
+    }
+    if op == PD {
+        return Hand {
+            position: position,
+            pen: Pen {
+                number: pen.number,
+                down: true,
+                changed: !pen.down,
+            },
+            relative: h.relative,
+        };
+    }
+    if op == PA {
+        return Hand {
+            position: position,
+            pen: spent(pen),
+            relative: false,
+        };
+    }
+    if op == PR {
+        return Hand {
+            position: position,
+            pen: spent(pen),
+            relative: true,
+        };
+    }
+    h
+}
+
+// Whether a pen has paint: pen 0 has none.
+fn paints(p: Pen) -> bool
+    ensures { λ r. ⌜ r ≡ not (eqb (p .number) 0) ⌝ }
+{
+    if p.number == 0 {
+        return false;
+    }
+    true
+}
+
+// Whether the pen paints.
+pub fn inked(c: Core) -> bool
+    ensures { λ r. ⌜ r ≡ R.inked c ⌝ }
+{
+    let k = c.carriage;
+    let pen = k.pen;
+    paints(pen)
+}
+
+// The hand at p.
+fn moved(h: Hand, p: Position) -> Hand
+    ensures { λ r. ⌜ r ≡ record { position = p; pen = R.spent (h .pen); relative = h .relative } ⌝ }
+{
+    let pen = h.pen;
+    Hand {
+        position: p,
+        pen: spent(pen),
+        relative: h.relative,
+    }
+}
+
+// A pair that is carried out.
+fn carried_out(h: Hand, g: Polygon, a: Action) -> Paired
+    ensures { λ r. ⌜ ((s : Settings) → actedOf s r ≡ R.done (coreOf s h g) a) ⌝ }
+{
+    Paired {
+        hand: h,
+        polygon: g,
+        action: a,
+        number: 0,
+    }
+}
+
+// A pair that is refused with a number.
+fn refused(h: Hand, g: Polygon, number: u8) -> Paired
+    ensures { λ r. ⌜ ((s : Settings) → actedOf s r ≡ R.refuse (coreOf s h g) number) ⌝ }
+{
+    Paired {
+        hand: h,
+        polygon: g,
+        action: Action::Keep,
+        number: number,
+    }
+}
+
+// A move outside polygon mode, to p with its location. The page points are computed only for a line.
+fn move_to(f: Frame, h: Hand, here: Point, p: Position, to: Point) -> Shifted
+    requires { ⌜ ValidHand f h × SmallPoint to × (here ≡ locationIn f (h .position)) ⌝ }
+    ensures { λ r. ⌜ ((s : Settings) (g : Polygon) → f ≡ frameOf s → to ≡ P.location s p → shiftedOf s g r ≡ R.moveTo (coreOf s h g) p) ⌝ }
+    ensures { λ r. ⌜ (r .here ≡ to) × (r .hand .position ≡ p) ⌝ }
+{
+    let there = moved(h, p);
+    let pen = h.pen;
+    if pen.down {
+        if paints(pen) {
+            let rows = f.rows;
+            let a = turned_by(rows, here);
+            let b = turned_by(rows, to);
+            return Shifted {
+                hand: there,
+                here: to,
+                segment: Segment::Line(a, b),
+                number: 0,
+            };
+        }
+        return Shifted {
+            hand: there,
+            here: to,
+            segment: Segment::Nothing,
+            number: 0,
+        };
+    }
+    Shifted {
+        hand: there,
+        here: to,
+        segment: Segment::Nothing,
+        number: 0,
+    }
+}
+
+// The bytes of a point.
+fn point_cost(p: Pen) -> u16
+    ensures { λ r. ⌜ r ≡ R.pointCost p ⌝ }
+{
+    if p.changed {
+        return POINT_BYTES + PEN_BYTES;
+    }
+    POINT_BYTES
+}
+
+// The polygon with one point more. The first of a subpolygon makes no edge.
+fn longer(g: Polygon, n: u16, p: Position) -> Polygon
+    requires { ⌜ (g .bytes + n ≤ polygonBytes) × (g .edges ≤ mostEdges) ⌝ }
+    ensures { λ r. ⌜ r ≡ R.longer g n p ⌝ }
+{
+    let first = g.first;
+    let saved = g.saved;
+    if g.empty {
+        return Polygon {
+            mode: g.mode,
+            bytes: g.bytes + n,
+            edges: g.edges,
+            empty: false,
+            first: p,
+            saved: saved,
+        };
+    }
+    Polygon {
+        mode: g.mode,
+        bytes: g.bytes + n,
+        edges: g.edges + 1,
+        empty: false,
+        first: first,
+        saved: saved,
+    }
+}
+
+// The edge from the current position.
+pub fn edge_to(c: Core, p: Position) -> Action
+    requires { ⌜ ValidCore c × LocatablePosition (c .settings) p ⌝ }
+    ensures { λ r. ⌜ r ≡ R.edgeTo c p ⌝ }
+{
+    let s = c.settings;
+    let k = c.carriage;
+    let position = k.position;
+    let pen = k.pen;
+    let from = located(s, position);
+    let to = located(s, p);
+    Action::Join(Edge {
+        from: from,
+        to: to,
+        down: pen.down,
+    })
+}
+
+// A move in polygon mode, to p with its location: it stores a point and draws nothing.
+fn store_point(f: Frame, h: Hand, g: Polygon, p: Position, to: Point) -> Paired
+    requires { ⌜ ValidParts f h g ⌝ }
+    ensures { λ r. ⌜ ((s : Settings) → f ≡ frameOf s → to ≡ P.location s p → actedOf s r ≡ R.storePoint (coreOf s h g) p) ⌝ }
+{
+    let pen = h.pen;
+    let n = point_cost(pen);
+    if g.bytes + n <= POLYGON_BYTES {
+        let there = moved(h, p);
+        let more = longer(g, n, p);
+        if g.empty {
+            return carried_out(there, more, Action::Keep);
+        }
+        let position = h.position;
+        let from = located_in(f, position);
+        let edge = Edge {
+            from: from,
+            to: to,
+            down: pen.down,
+        };
+        return carried_out(there, more, Action::Join(edge));
+    }
+    refused(h, g, POLYGON_FULL)
+}
+
+// The position of a pair, by the mode.
+fn aimed(f: Frame, h: Hand, n: Coordinates) -> Position
+    requires { ⌜ AxisBounds (f .x) × AxisBounds (f .y) × SmallPair n ⌝ }
+    requires { ⌜ Bd (h .position .x .offset) mostProduct × Bd (h .position .y .offset) mostProduct ⌝ }
+    ensures { λ r. ⌜ ((s : Settings) (g : Polygon) → f ≡ frameOf s → r ≡ R.aimed (coreOf s h g) n) ⌝ }
+{
+    if h.relative {
+        let position = h.position;
+        return relative_position(position, n);
+    }
+    let x = f.x;
+    let y = f.y;
+    absolute_on(x, y, n)
+}
+
+// A pair outside polygon mode: a move to its position, if the location is in range. The location where the hand is comes along, found once for two moves.
+pub fn shift(f: Frame, h: Hand, here: Point, n: Coordinates) -> Shifted
+    requires { ⌜ ValidHand f h × SmallPair n × (here ≡ locationIn f (h .position)) ⌝ }
+    ensures { λ r. ⌜ ((s : Settings) (g : Polygon) → f ≡ frameOf s → g .mode ≡ false → shiftedOf s g r ≡ R.pairRule (coreOf s h g) n) ⌝ }
+    ensures { λ r. ⌜ r .here ≡ locationIn f (r .hand .position) ⌝ }
+{
+    let p = aimed(f, h, n);
+    let to = located_in(f, p);
+    if reachable(to) {
+        return move_to(f, h, here, p, to);
+    }
+    Shifted {
+        hand: h,
+        here: here,
+        segment: Segment::Nothing,
+        number: TOO_FAR,
+    }
+}
+
+// A line to draw waits as one.
+fn line_of(s: Segment) -> Action
+    ensures { λ r. ⌜ r ≡ lineOf s ⌝ }
+{
+    match s {
+        Segment::Nothing => Action::Keep,
+        Segment::PenUp => Action::Keep,
+        Segment::Line(a, b) => Action::Line(a, b),
+    }
+}
+
+// A pair in polygon mode: a point at its position, if the location is in range.
+fn point(f: Frame, h: Hand, g: Polygon, n: Coordinates) -> Paired
+    requires { ⌜ ValidParts f h g × SmallPair n ⌝ }
+    ensures { λ r. ⌜ ((s : Settings) → f ≡ frameOf s → g .mode ≡ true → actedOf s r ≡ R.pairRule (coreOf s h g) n) ⌝ }
+{
+    let p = aimed(f, h, n);
+    let to = located_in(f, p);
+    if reachable(to) {
+        return store_point(f, h, g, p, to);
+    }
+    refused(h, g, TOO_FAR)
+}
+
+// A pair is complete.
+pub fn pair(f: Frame, h: Hand, g: Polygon, n: Coordinates) -> Paired
+    requires { ⌜ ValidParts f h g × SmallPair n ⌝ }
+    ensures { λ r. ⌜ ((s : Settings) → f ≡ frameOf s → actedOf s r ≡ R.pairRule (coreOf s h g) n) ⌝ }
+{
+    if g.mode {
+        return point(f, h, g, n);
+    }
+    let position = h.position;
+    let t = shift(f, h, located_in(f, position), n);
+    let there = t.hand;
+    let segment = t.segment;
+    let action = line_of(segment);
+    Paired {
+        hand: there,
+        polygon: g,
+        action: action,
+        number: t.number,
+    }
+}
