@@ -15,12 +15,12 @@ use Rattle.machine.specs.declared.Worked.{Worked}
 use Rattle.machine.specs.Calls.{workedOf}
 use Rattle.machine.specs.Run.{runOf}
 use Rattle.desk.specs.Sums.{added}
-use Rattle.survey.specs.declared.refusals.Refusals.{Refusals}
+use Rattle.counting.specs.declared.refusals.Refusals.{Refusals}
 use Rattle.survey.specs.declared.drawing.Drawing.{Drawing}
 use Rattle.survey.specs.declared.drawing.Surveyed.{Surveyed}
-use Rattle.survey.specs.Tally.{countedOf}
-use Rattle.survey.specs.Names.{lettersBefore, nameOf}
-use Rattle.survey.specs.Refusals.{notedOf}
+use Rattle.counting.specs.Tally.{countedOf}
+use Rattle.counting.specs.Names.{lettersBefore, nameOf}
+use Rattle.counting.specs.Refusals.{notedOf}
 
 unfoldable pub waitsOf : Segment → Bool
 waitsOf segment.Nothing = false

@@ -7,11 +7,7 @@ use lines::word::Limits;
 use machine::Machine;
 
 mod drawing;
-mod names;
 mod page;
-mod refusals;
-mod tally;
-mod verdict;
 
 use desk::bad_arguments;
 use desk::limits;

@@ -1,0 +1,54 @@
+-- The definition, case by case.
+use borrow.Author.Needs.{needs}
+use borrow.Author.Tests.{lt-ltb, le-ltb}
+use Rattle.counting.specs.Verdict.{fitOf}
+use Rattle.counting.proofs.verdict.fit.Statement.{statement}
+use Rattle.counting.proofs.verdict.fit.Tie as tie
+
+returns : tie.Need-returns
+unfolding fitOf
+returns c = let s : tie.Start = search in rw (lt-ltb 0 (s .args .harm) (c .if1 .taken))
+
+cut-off-requires : tie.Need-cut-off-requires
+cut-off-requires c κs = search needs
+
+returns-2 : tie.Need-returns-2
+unfolding fitOf
+returns-2 c =
+    let s : tie.Start = search in
+    let k : tie.After-cut-off = search in
+    let e1 : tie.Else1 = search in
+    rw (le-ltb 0 (s .args .harm) (e1 .if1 .left), ← k .cut-off .ensures, lt-ltb 0 (k .cut-off .result) (c .if2 .taken))
+
+returns-3 : tie.Need-returns-3
+unfolding fitOf
+returns-3 c =
+    let s : tie.Start = search in
+    let k : tie.After-cut-off = search in
+    let e1 : tie.Else1 = search in
+    let e2 : tie.Else2 = search in
+    rw (le-ltb 0 (s .args .harm) (e1 .if1 .left), ← k .cut-off .ensures, le-ltb 0 (k .cut-off .result) (e2 .if2 .left), c .if3 .taken)
+
+returns-4 : tie.Need-returns-4
+unfolding fitOf
+returns-4 c =
+    let s : tie.Start = search in
+    let k : tie.After-cut-off = search in
+    let e1 : tie.Else1 = search in
+    let e2 : tie.Else2 = search in
+    let e3 : tie.Else3 = search in
+    rw (le-ltb 0 (s .args .harm) (e1 .if1 .left), ← k .cut-off .ensures, le-ltb 0 (k .cut-off .result) (e2 .if2 .left), e3 .if3 .left, c .if4 .taken)
+
+returns-5 : tie.Need-returns-5
+unfolding fitOf
+returns-5 c =
+    let s : tie.Start = search in
+    let k : tie.After-cut-off = search in
+    let e1 : tie.Else1 = search in
+    let e2 : tie.Else2 = search in
+    let e3 : tie.Else3 = search in
+    let e4 : tie.Else4 = search in
+    rw (le-ltb 0 (s .args .harm) (e1 .if1 .left), ← k .cut-off .ensures, le-ltb 0 (k .cut-off .result) (e2 .if2 .left), e3 .if3 .left, e4 .if4 .left)
+
+pub fit-spec : {M : Type 1} → statement M
+fit-spec = tie.close (tie.spec returns cut-off-requires returns-2 returns-3 returns-4 returns-5)

@@ -1,0 +1,5 @@
+pub mod Tally
+pub mod Names
+pub mod Refusals
+pub mod Verdict
+pub mod Laws
