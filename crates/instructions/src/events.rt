@@ -1,4 +1,4 @@
-// What an instruction that ends does to the core. Names and pairs have done their work before: moves.rt.
+// What an instruction that ends does to the core. Names and pairs have done their work before: the crate shapes.
 ghost use mathlib.Core.Path.{_≡_};
 ghost use Rattle.reader.specs.Sizes.{Small};
 ghost use Rattle.hpgl.specs.Rules as R;

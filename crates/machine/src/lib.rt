@@ -7,7 +7,7 @@ ghost use Rattle.hpgl.specs.Segment.{segmentOf};
 ghost use Rattle.hpgl.specs.Feed.{feedFrom, laidNumbers};
 ghost use Rattle.hpgl.specs.Plot.{plotFrom, laidMarks};
 ghost use Rattle.hpgl.specs.Made.{Made};
-ghost use Rattle.saving.specs.Saved.{stateNumbers, savedOf, loadedOf};
+ghost use Rattle.saved.specs.Saved.{stateNumbers, savedOf, loadedOf};
 ghost use Rattle.machine.specs.Calls.{startedOf, takenOf, workedOf};
 ghost use Rattle.machine.specs.Run.{runOf};
 ghost use Rattle.machine.specs.Gather.{gatheredOf, plottedOf, gatheredBy};

@@ -1,9 +1,9 @@
 // The machine's state written out as numbers, and read back. A caller in another language keeps it between two calls as 127 rows of five.
-// specs/Saved.antt says which number stands where; specs/SavedLaws.antt proves that what is written is read back.
+// The crate saved says which number stands where (Saved.antt), and proves that what is written is read back (SavedLaws.antt).
 ghost use mathlib.Core.Path.{_≡_};
 ghost use lib.ListN.{length};
 ghost use Rattle.hpgl.specs.Numbers.{mostEdges};
-ghost use Rattle.saving.specs.Saved.{stateNumbers, savedOf, loadedOf};
+ghost use Rattle.saved.specs.Saved.{stateNumbers, savedOf, loadedOf};
 
 mod carriage;
 mod edges;

@@ -3,7 +3,7 @@ ghost use mathlib.Core.Path.{_≡_};
 ghost use Prim.Native.Nat.{_≤_};
 ghost use lib.ListN.{length};
 ghost use Rattle.rows.specs.Rows.{over};
-ghost use Rattle.saving.specs.SavedReader.{modeTag, modeLetter, modeOf, placeRow, numbersRow, numbersOf, numberRow, numberOf, readerNumbers, readerOf, readerAt};
+ghost use Rattle.saved.specs.SavedReader.{modeTag, modeLetter, modeOf, placeRow, numbersRow, numbersOf, numberRow, numberOf, readerNumbers, readerOf, readerAt};
 use numerals::number::Number;
 use reader::Mode;
 use reader::Numbers;

@@ -3,7 +3,7 @@ ghost use mathlib.Core.Path.{_≡_};
 ghost use Prim.Native.Nat.{_≤_};
 ghost use lib.ListN.{length};
 ghost use Rattle.rows.specs.Rows.{over};
-ghost use Rattle.saving.specs.Saved as S;
+ghost use Rattle.saved.specs.Saved as S;
 use super::settings::from_of;
 use super::settings::to_of;
 use clip::Point;

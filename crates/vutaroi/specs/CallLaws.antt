@@ -12,8 +12,8 @@ use Rattle.hpgl.specs.Feed.{feedOf}
 use Rattle.hpgl.specs.FeedLaws.{feed-made}
 use Rattle.hpgl.specs.Plot.{plotFrom}
 use Rattle.hpgl.specs.PlotLaws.{plot-made}
-use Rattle.saving.specs.Saved.{savedOf, loadedOf}
-use Rattle.saving.specs.SavedLaws.{Held, held-made}
+use Rattle.saved.specs.Saved.{savedOf, loadedOf}
+use Rattle.saved.specs.SavedLaws.{Held, held-made}
 
 held : (m : State) → Made m → Held (savedOf m)
 held m made = record { machine = m; made = made; is = refl }

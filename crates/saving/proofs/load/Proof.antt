@@ -1,6 +1,6 @@
 -- The proof of `load`: by its parts.
 use borrow.Author.Needs.{needs}
-use Rattle.saving.specs.Saved.{loadedOf}
+use Rattle.saved.specs.Saved.{loadedOf}
 use Rattle.saving.proofs.load.Statement.{statement}
 use Rattle.saving.proofs.load.Tie as tie
 

@@ -6,11 +6,11 @@ use lib.IntN.{ℤ}
 use lib.ListN.{length}
 use Rattle.rows.specs.Rows.{over}
 use Rattle.rows.specs.RowLaws.{over-all}
-use Rattle.saving.specs.SavedReader.{readerNumbers}
+use Rattle.saved.specs.SavedReader.{readerNumbers}
 use Rattle.hpgl.specs.declared.State.{State}
 use Rattle.hpgl.specs.Numbers.{mostEdges}
-use Rattle.saving.specs.Saved.{stateNumbers, settingsNumbers, carriageNumbers, workNumbers, edgesNumbers, savedOf}
-use Rattle.saving.specs.SavedLaws.{saved-length}
+use Rattle.saved.specs.Saved.{stateNumbers, settingsNumbers, carriageNumbers, workNumbers, edgesNumbers, savedOf}
+use Rattle.saved.specs.SavedLaws.{saved-length}
 use Rattle.saving.proofs.save.Statement.{statement}
 use Rattle.saving.proofs.save.Tie as tie
 

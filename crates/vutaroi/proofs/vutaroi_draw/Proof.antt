@@ -5,8 +5,8 @@ use Rattle.rows.specs.Rows.{over}
 use Rattle.hpgl.specs.Made.{Made, draw}
 use Rattle.machine.specs.declared.Worked.{Worked}
 use Rattle.machine.specs.Calls.{workedOf}
-use Rattle.saving.specs.Saved.{savedOf, loadedOf}
-use Rattle.saving.specs.SavedLaws.{held-length, held-made}
+use Rattle.saved.specs.Saved.{savedOf, loadedOf}
+use Rattle.saved.specs.SavedLaws.{held-length, held-made}
 use Rattle.vutaroi.specs.Calls.{drawnKind, drawnNumbers}
 use Rattle.vutaroi.proofs.vutaroi_draw.Statement.{statement}
 use Rattle.vutaroi.proofs.vutaroi_draw.Tie as tie

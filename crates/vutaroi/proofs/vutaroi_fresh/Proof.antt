@@ -7,7 +7,7 @@ use Rattle.hpgl.specs.Machine.{rect, freshState, freshNumber}
 use Rattle.hpgl.specs.Made as made
 use Rattle.machine.specs.declared.Started.{Started}
 use Rattle.machine.specs.Calls.{startedOf}
-use Rattle.saving.specs.Saved.{savedOf}
+use Rattle.saved.specs.Saved.{savedOf}
 use Rattle.vutaroi.proofs.vutaroi_fresh.Statement.{statement}
 use Rattle.vutaroi.proofs.vutaroi_fresh.Tie as tie
 

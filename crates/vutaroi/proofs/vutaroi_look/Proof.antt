@@ -5,7 +5,7 @@ use Rattle.rows.specs.declared.Row.{Row}
 use Rattle.rows.specs.Rows.{withRow, over}
 use Rattle.hpgl.specs.Machine.{lookAt}
 use Rattle.hpgl.specs.Made.{Made}
-use Rattle.saving.specs.SavedLaws.{held-length, held-made}
+use Rattle.saved.specs.SavedLaws.{held-length, held-made}
 use Rattle.vutaroi.specs.Calls.{lookRow, lookNumbers}
 use Rattle.vutaroi.proofs.vutaroi_look.Statement.{statement}
 use Rattle.vutaroi.proofs.vutaroi_look.Tie as tie

@@ -6,8 +6,8 @@ use Rattle.hpgl.specs.declared.State.{State}
 use Rattle.hpgl.specs.Made.{Made, take}
 use Rattle.machine.specs.declared.Taken.{Taken}
 use Rattle.machine.specs.Calls.{takenOf}
-use Rattle.saving.specs.Saved.{savedOf, loadedOf}
-use Rattle.saving.specs.SavedLaws.{held-length, held-made}
+use Rattle.saved.specs.Saved.{savedOf, loadedOf}
+use Rattle.saved.specs.SavedLaws.{held-length, held-made}
 use Rattle.vutaroi.proofs.vutaroi_take.Statement.{statement}
 use Rattle.vutaroi.proofs.vutaroi_take.Tie as tie
 

@@ -1,7 +1,7 @@
 -- The proof of `carriage_at`: by its parts.
 use borrow.Author.Needs.{needs}
 use mathlib.Core.Path.{refl}
-use Rattle.saving.specs.Saved.{carriageAt}
+use Rattle.saved.specs.Saved.{carriageAt}
 use Rattle.saving.proofs.carriage.carriage_at.Statement.{statement}
 use Rattle.saving.proofs.carriage.carriage_at.Tie as tie
 

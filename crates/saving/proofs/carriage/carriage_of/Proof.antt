@@ -1,7 +1,7 @@
 -- The proof of `carriage_of`: by its parts.
 use borrow.Author.Needs.{needs}
 use mathlib.Core.Path.{refl}
-use Rattle.saving.specs.Saved.{carriageOf}
+use Rattle.saved.specs.Saved.{carriageOf}
 use Rattle.saving.proofs.carriage.carriage_of.Statement.{statement}
 use Rattle.saving.proofs.carriage.carriage_of.Tie as tie
 

@@ -4,7 +4,7 @@ use mathlib.Core.Path.{ap, _∙_}
 use mir.Syntax.{w64}
 use Rattle.exact.specs.Fit.{arg}
 use Rattle.rows.specs.Rows.{flagOf, smallOf, mostByte}
-use Rattle.saving.specs.Saved.{penOf}
+use Rattle.saved.specs.Saved.{penOf}
 use Rattle.saving.proofs.carriage.pen_of.Statement.{statement}
 use Rattle.saving.proofs.carriage.pen_of.Tie as tie
 

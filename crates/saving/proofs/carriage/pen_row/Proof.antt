@@ -1,7 +1,7 @@
 -- The proof of `pen_row`: each part is a number of the row.
 use borrow.Author.Needs.{needs}
 use Rattle.exact.proofs.Rules.{rules}
-use Rattle.saving.specs.Saved.{penRow}
+use Rattle.saved.specs.Saved.{penRow}
 use Rattle.saving.proofs.carriage.pen_row.Statement.{statement}
 use Rattle.saving.proofs.carriage.pen_row.Tie as tie
 

@@ -4,7 +4,7 @@ use mathlib.Core.Path.{ap, _∙_}
 use mir.Syntax.{w64}
 use Rattle.exact.specs.Fit.{arg}
 use Rattle.rows.specs.Rows.{flagOf, smallOf, mostByte, mostShort}
-use Rattle.saving.specs.Saved.{polygonOf}
+use Rattle.saved.specs.Saved.{polygonOf}
 use Rattle.saving.proofs.carriage.polygon_of.Statement.{statement}
 use Rattle.saving.proofs.carriage.polygon_of.Tie as tie
 

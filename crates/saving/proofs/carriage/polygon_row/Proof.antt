@@ -1,7 +1,7 @@
 -- The proof of `polygon_row`: each part is a number of the row.
 use borrow.Author.Needs.{needs}
 use Rattle.exact.proofs.Rules.{rules}
-use Rattle.saving.specs.Saved.{polygonRow}
+use Rattle.saved.specs.Saved.{polygonRow}
 use Rattle.saving.proofs.carriage.polygon_row.Statement.{statement}
 use Rattle.saving.proofs.carriage.polygon_row.Tie as tie
 

@@ -1,6 +1,6 @@
 -- The proof of `position_of`: each part is a number of the row.
 use Rattle.exact.proofs.Rules.{rules}
-use Rattle.saving.specs.Saved.{positionOf}
+use Rattle.saved.specs.Saved.{positionOf}
 use Rattle.saving.proofs.carriage.position_of.Statement.{statement}
 use Rattle.saving.proofs.carriage.position_of.Tie as tie
 

@@ -1,7 +1,7 @@
 -- The proof of `position_row`: each part is a number of the row.
 use borrow.Author.Needs.{needs}
 use Rattle.exact.proofs.Rules.{rules}
-use Rattle.saving.specs.Saved.{positionRow}
+use Rattle.saved.specs.Saved.{positionRow}
 use Rattle.saving.proofs.carriage.position_row.Statement.{statement}
 use Rattle.saving.proofs.carriage.position_row.Tie as tie
 

@@ -6,7 +6,7 @@ use mathlib.Core.List.{List}
 use lib.IntN.{ℤ}
 use Rattle.rows.specs.declared.Row.{Row}
 use Rattle.rows.specs.Rows.{withRow, over}
-use Rattle.saving.specs.Saved.{carriageNumbers}
+use Rattle.saved.specs.Saved.{carriageNumbers}
 use Rattle.saving.proofs.carriage.put_carriage.Statement.{statement}
 use Rattle.saving.proofs.carriage.put_carriage.Tie as tie
 

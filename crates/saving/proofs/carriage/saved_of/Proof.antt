@@ -4,7 +4,7 @@ use mathlib.Core.Path.{ap, _∙_}
 use mir.Syntax.{w64}
 use Rattle.exact.specs.Fit.{arg}
 use Rattle.rows.specs.Rows.{flagOf}
-use Rattle.saving.specs.Saved.{pm0Of}
+use Rattle.saved.specs.Saved.{pm0Of}
 use Rattle.saving.proofs.carriage.saved_of.Statement.{statement}
 use Rattle.saving.proofs.carriage.saved_of.Tie as tie
 

@@ -1,7 +1,7 @@
 -- The proof of `edge_of`: by its parts.
 use borrow.Author.Needs.{needs}
 use mathlib.Core.Path.{refl}
-use Rattle.saving.specs.Saved.{edgeOf}
+use Rattle.saved.specs.Saved.{edgeOf}
 use Rattle.saving.proofs.edges.edge_of.Statement.{statement}
 use Rattle.saving.proofs.edges.edge_of.Tie as tie
 

@@ -1,7 +1,7 @@
 -- The proof of `edge_row`: each part is a number of the row.
 use borrow.Author.Needs.{needs}
 use Rattle.exact.proofs.Rules.{rules}
-use Rattle.saving.specs.Saved.{edgeRow}
+use Rattle.saved.specs.Saved.{edgeRow}
 use Rattle.saving.proofs.edges.edge_row.Statement.{statement}
 use Rattle.saving.proofs.edges.edge_row.Tie as tie
 

@@ -9,7 +9,7 @@ use lib.ListN.{length, set, length-set}
 use Rattle.rows.specs.Rows.{rowAt, over}
 use Rattle.rows.specs.RowLaws.{over-all}
 use Rattle.hpgl.specs.declared.Edge.{Edge}
-use Rattle.saving.specs.Saved.{edgeOf, edgesFrom, storeAt}
+use Rattle.saved.specs.Saved.{edgeOf, edgesFrom, storeAt}
 use Rattle.saving.proofs.edges.edges_at.Statement.{statement}
 use Rattle.saving.proofs.edges.edges_at.Tie as tie
 

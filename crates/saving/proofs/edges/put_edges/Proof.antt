@@ -11,7 +11,7 @@ use lib.Seq.{drop-cons}
 use Rattle.rows.specs.Rows.{over, withRow}
 use Rattle.rows.specs.RowLaws.{over-row}
 use Rattle.hpgl.specs.declared.Edge.{Edge}
-use Rattle.saving.specs.Saved.{edgeRow, edgesNumbers}
+use Rattle.saved.specs.Saved.{edgeRow, edgesNumbers}
 use Rattle.saving.proofs.edges.put_edges.Statement.{statement}
 use Rattle.saving.proofs.edges.put_edges.Tie as tie
 

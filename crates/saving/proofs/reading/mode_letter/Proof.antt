@@ -1,5 +1,5 @@
 use Rattle.exact.proofs.Rules.{rules}
-use Rattle.saving.specs.SavedReader.{modeLetter}
+use Rattle.saved.specs.SavedReader.{modeLetter}
 use borrow.Author.Needs.{needs}
 use Rattle.saving.proofs.reading.mode_letter.Statement.{statement}
 use Rattle.saving.proofs.reading.mode_letter.Tie as tie

@@ -1,5 +1,5 @@
 use Rattle.exact.proofs.Rules.{rules}
-use Rattle.saving.specs.SavedReader.{modeOf}
+use Rattle.saved.specs.SavedReader.{modeOf}
 use Rattle.saving.proofs.reading.mode_of.Statement.{statement}
 use Rattle.saving.proofs.reading.mode_of.Tie as tie
 

@@ -1,5 +1,5 @@
 use Rattle.exact.proofs.Rules.{rules}
-use Rattle.saving.specs.SavedReader.{modeTag}
+use Rattle.saved.specs.SavedReader.{modeTag}
 use borrow.Author.Needs.{needs}
 use Rattle.saving.proofs.reading.mode_tag.Statement.{statement}
 use Rattle.saving.proofs.reading.mode_tag.Tie as tie

@@ -4,7 +4,7 @@ use mathlib.Core.Path.{ap, _∙_}
 use mir.Syntax.{w64}
 use Rattle.exact.specs.Fit.{arg}
 use Rattle.rows.specs.Rows.{flagOf, smallOf, mostByte, mostWord}
-use Rattle.saving.specs.SavedReader.{numberOf}
+use Rattle.saved.specs.SavedReader.{numberOf}
 use Rattle.saving.proofs.reading.number_of.Statement.{statement}
 use Rattle.saving.proofs.reading.number_of.Tie as tie
 

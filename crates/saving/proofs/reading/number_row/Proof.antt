@@ -1,5 +1,5 @@
 use Rattle.exact.proofs.Rules.{rules}
-use Rattle.saving.specs.SavedReader.{numberRow}
+use Rattle.saved.specs.SavedReader.{numberRow}
 use borrow.Author.Needs.{needs}
 use Rattle.saving.proofs.reading.number_row.Statement.{statement}
 use Rattle.saving.proofs.reading.number_row.Tie as tie

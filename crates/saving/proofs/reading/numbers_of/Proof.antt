@@ -4,7 +4,7 @@ use mathlib.Core.Path.{ap, _∙_}
 use mir.Syntax.{w64}
 use Rattle.exact.specs.Fit.{arg}
 use Rattle.rows.specs.Rows.{smallOf, mostByte}
-use Rattle.saving.specs.SavedReader.{numbersOf}
+use Rattle.saved.specs.SavedReader.{numbersOf}
 use Rattle.saving.proofs.reading.numbers_of.Statement.{statement}
 use Rattle.saving.proofs.reading.numbers_of.Tie as tie
 

@@ -1,5 +1,5 @@
 use Rattle.exact.proofs.Rules.{rules}
-use Rattle.saving.specs.SavedReader.{numbersRow}
+use Rattle.saved.specs.SavedReader.{numbersRow}
 use borrow.Author.Needs.{needs}
 use Rattle.saving.proofs.reading.numbers_row.Statement.{statement}
 use Rattle.saving.proofs.reading.numbers_row.Tie as tie

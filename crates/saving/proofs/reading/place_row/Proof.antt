@@ -1,5 +1,5 @@
 use Rattle.exact.proofs.Rules.{rules}
-use Rattle.saving.specs.SavedReader.{placeRow}
+use Rattle.saved.specs.SavedReader.{placeRow}
 use borrow.Author.Needs.{needs}
 use Rattle.saving.proofs.reading.place_row.Statement.{statement}
 use Rattle.saving.proofs.reading.place_row.Tie as tie

@@ -5,7 +5,7 @@ use mathlib.Core.List.{List}
 use lib.IntN.{ℤ}
 use Rattle.rows.specs.declared.Row.{Row}
 use Rattle.rows.specs.Rows.{withRow, over}
-use Rattle.saving.specs.SavedReader.{readerNumbers}
+use Rattle.saved.specs.SavedReader.{readerNumbers}
 use Rattle.saving.proofs.reading.put_reader.Statement.{statement}
 use Rattle.saving.proofs.reading.put_reader.Tie as tie
 

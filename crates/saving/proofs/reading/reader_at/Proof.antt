@@ -1,7 +1,7 @@
 -- The proof of `reader_at`: by its rows.
 use borrow.Author.Needs.{needs}
 use mathlib.Core.Path.{refl}
-use Rattle.saving.specs.SavedReader.{readerAt}
+use Rattle.saved.specs.SavedReader.{readerAt}
 use Rattle.saving.proofs.reading.reader_at.Statement.{statement}
 use Rattle.saving.proofs.reading.reader_at.Tie as tie
 

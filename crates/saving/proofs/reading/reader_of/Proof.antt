@@ -4,7 +4,7 @@ use mathlib.Core.Path.{ap, ap₂, _∙_}
 use mir.Syntax.{w64}
 use Rattle.exact.specs.Fit.{arg}
 use Rattle.rows.specs.Rows.{smallOf, mostByte}
-use Rattle.saving.specs.SavedReader.{modeOf, readerOf}
+use Rattle.saved.specs.SavedReader.{modeOf, readerOf}
 use Rattle.saving.proofs.reading.reader_of.Statement.{statement}
 use Rattle.saving.proofs.reading.reader_of.Tie as tie
 

@@ -1,6 +1,6 @@
 -- The proof of `box_of`: each part is a number of the row.
 use Rattle.exact.proofs.Rules.{rules}
-use Rattle.saving.specs.Saved.{boxOf}
+use Rattle.saved.specs.Saved.{boxOf}
 use Rattle.saving.proofs.settings.box_of.Statement.{statement}
 use Rattle.saving.proofs.settings.box_of.Tie as tie
 

@@ -1,6 +1,6 @@
 -- The proof of `corners_row`: each part is a number of the row.
 use Rattle.exact.proofs.Rules.{rules}
-use Rattle.saving.specs.Saved.{cornersRow}
+use Rattle.saved.specs.Saved.{cornersRow}
 use Rattle.saving.proofs.settings.corners_row.Statement.{statement}
 use Rattle.saving.proofs.settings.corners_row.Tie as tie
 

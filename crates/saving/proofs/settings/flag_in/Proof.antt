@@ -4,7 +4,7 @@ use mathlib.Core.Path.{ap, _∙_}
 use mir.Syntax.{w64}
 use Rattle.exact.specs.Fit.{arg}
 use Rattle.rows.specs.Rows.{flagOf}
-use Rattle.saving.specs.Saved.{flagIn}
+use Rattle.saved.specs.Saved.{flagIn}
 use Rattle.saving.proofs.settings.flag_in.Statement.{statement}
 use Rattle.saving.proofs.settings.flag_in.Tie as tie
 

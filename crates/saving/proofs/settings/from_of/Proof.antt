@@ -1,6 +1,6 @@
 -- The proof of `from_of`: each part is a number of the row.
 use Rattle.exact.proofs.Rules.{rules}
-use Rattle.saving.specs.Saved.{fromOf}
+use Rattle.saved.specs.Saved.{fromOf}
 use Rattle.saving.proofs.settings.from_of.Statement.{statement}
 use Rattle.saving.proofs.settings.from_of.Tie as tie
 

@@ -1,7 +1,7 @@
 -- The proof of `limits_row`: each part is a number of the row.
 use borrow.Author.Needs.{needs}
 use Rattle.exact.proofs.Rules.{rules}
-use Rattle.saving.specs.Saved.{limitsRow}
+use Rattle.saved.specs.Saved.{limitsRow}
 use Rattle.saving.proofs.settings.limits_row.Statement.{statement}
 use Rattle.saving.proofs.settings.limits_row.Tie as tie
 

@@ -6,7 +6,7 @@ use mathlib.Core.List.{List}
 use lib.IntN.{ℤ}
 use Rattle.rows.specs.declared.Row.{Row}
 use Rattle.rows.specs.Rows.{withRow, over}
-use Rattle.saving.specs.Saved.{settingsNumbers}
+use Rattle.saved.specs.Saved.{settingsNumbers}
 use Rattle.saving.proofs.settings.put_settings.Statement.{statement}
 use Rattle.saving.proofs.settings.put_settings.Tie as tie
 

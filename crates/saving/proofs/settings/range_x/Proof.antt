@@ -1,6 +1,6 @@
 -- The proof of `range_x`: each part is a number of the row.
 use Rattle.exact.proofs.Rules.{rules}
-use Rattle.saving.specs.Saved.{rangeX}
+use Rattle.saved.specs.Saved.{rangeX}
 use Rattle.saving.proofs.settings.range_x.Statement.{statement}
 use Rattle.saving.proofs.settings.range_x.Tie as tie
 

@@ -1,6 +1,6 @@
 -- The proof of `range_y`: each part is a number of the row.
 use Rattle.exact.proofs.Rules.{rules}
-use Rattle.saving.specs.Saved.{rangeY}
+use Rattle.saved.specs.Saved.{rangeY}
 use Rattle.saving.proofs.settings.range_y.Statement.{statement}
 use Rattle.saving.proofs.settings.range_y.Tie as tie
 

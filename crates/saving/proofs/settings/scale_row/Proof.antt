@@ -1,7 +1,7 @@
 -- The proof of `scale_row`: each part is a number of the row.
 use borrow.Author.Needs.{needs}
 use Rattle.exact.proofs.Rules.{rules}
-use Rattle.saving.specs.Saved.{scaleRow}
+use Rattle.saved.specs.Saved.{scaleRow}
 use Rattle.saving.proofs.settings.scale_row.Statement.{statement}
 use Rattle.saving.proofs.settings.scale_row.Tie as tie
 

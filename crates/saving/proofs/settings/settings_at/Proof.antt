@@ -1,7 +1,7 @@
 -- The proof of `settings_at`: by its parts.
 use borrow.Author.Needs.{needs}
 use mathlib.Core.Path.{refl}
-use Rattle.saving.specs.Saved.{settingsAt}
+use Rattle.saved.specs.Saved.{settingsAt}
 use Rattle.saving.proofs.settings.settings_at.Statement.{statement}
 use Rattle.saving.proofs.settings.settings_at.Tie as tie
 

@@ -1,7 +1,7 @@
 -- The proof of `settings_of`: by its parts.
 use borrow.Author.Needs.{needs}
 use mathlib.Core.Path.{refl}
-use Rattle.saving.specs.Saved.{settingsOf}
+use Rattle.saved.specs.Saved.{settingsOf}
 use Rattle.saving.proofs.settings.settings_of.Statement.{statement}
 use Rattle.saving.proofs.settings.settings_of.Tie as tie
 

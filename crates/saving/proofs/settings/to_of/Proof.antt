@@ -1,6 +1,6 @@
 -- The proof of `to_of`: each part is a number of the row.
 use Rattle.exact.proofs.Rules.{rules}
-use Rattle.saving.specs.Saved.{toOf}
+use Rattle.saved.specs.Saved.{toOf}
 use Rattle.saving.proofs.settings.to_of.Statement.{statement}
 use Rattle.saving.proofs.settings.to_of.Tie as tie
 

@@ -4,7 +4,7 @@ use mathlib.Core.Path.{ap, _∙_}
 use mir.Syntax.{w64}
 use Rattle.exact.specs.Fit.{arg}
 use Rattle.rows.specs.Rows.{smallOf, mostByte}
-use Rattle.saving.specs.Saved.{smallIn}
+use Rattle.saved.specs.Saved.{smallIn}
 use Rattle.saving.proofs.settings.turn_in.Statement.{statement}
 use Rattle.saving.proofs.settings.turn_in.Tie as tie
 

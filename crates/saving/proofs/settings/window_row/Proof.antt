@@ -1,7 +1,7 @@
 -- The proof of `window_row`: each part is a number of the row.
 use borrow.Author.Needs.{needs}
 use Rattle.exact.proofs.Rules.{rules}
-use Rattle.saving.specs.Saved.{windowRow}
+use Rattle.saved.specs.Saved.{windowRow}
 use Rattle.saving.proofs.settings.window_row.Statement.{statement}
 use Rattle.saving.proofs.settings.window_row.Tie as tie
 

@@ -1,6 +1,6 @@
 -- The proof of `across_row`: each part is a number of the row.
 use Rattle.exact.proofs.Rules.{rules}
-use Rattle.saving.specs.Saved.{acrossRow}
+use Rattle.saved.specs.Saved.{acrossRow}
 use Rattle.saving.proofs.work.across_row.Statement.{statement}
 use Rattle.saving.proofs.work.across_row.Tie as tie
 

@@ -1,6 +1,6 @@
 -- The proof of `along_row`: each part is a number of the row.
 use Rattle.exact.proofs.Rules.{rules}
-use Rattle.saving.specs.Saved.{alongRow}
+use Rattle.saved.specs.Saved.{alongRow}
 use Rattle.saving.proofs.work.along_row.Statement.{statement}
 use Rattle.saving.proofs.work.along_row.Tie as tie
 

@@ -4,7 +4,7 @@ use mathlib.Core.Path.{ap, _∙_}
 use mir.Syntax.{w64}
 use Rattle.exact.specs.Fit.{arg}
 use Rattle.rows.specs.Rows.{smallOf, mostShort}
-use Rattle.saving.specs.Saved.{angleIn}
+use Rattle.saved.specs.Saved.{angleIn}
 use Rattle.saving.proofs.work.angle_in.Statement.{statement}
 use Rattle.saving.proofs.work.angle_in.Tie as tie
 

@@ -1,6 +1,6 @@
 -- The proof of `blank_row`: each part is a number of the row.
 use Rattle.exact.proofs.Rules.{rules}
-use Rattle.saving.specs.Saved.{blankRow}
+use Rattle.saved.specs.Saved.{blankRow}
 use Rattle.saving.proofs.work.blank_row.Statement.{statement}
 use Rattle.saving.proofs.work.blank_row.Tie as tie
 

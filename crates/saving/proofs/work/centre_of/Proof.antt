@@ -1,6 +1,6 @@
 -- The proof of `centre_of`: each part is a number of the row.
 use Rattle.exact.proofs.Rules.{rules}
-use Rattle.saving.specs.Saved.{centreOf}
+use Rattle.saved.specs.Saved.{centreOf}
 use Rattle.saving.proofs.work.centre_of.Statement.{statement}
 use Rattle.saving.proofs.work.centre_of.Tie as tie
 

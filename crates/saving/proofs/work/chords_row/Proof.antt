@@ -1,7 +1,7 @@
 -- The proof of `chords_row`: each part is a number of the row.
 use borrow.Author.Needs.{needs}
 use Rattle.exact.proofs.Rules.{rules}
-use Rattle.saving.specs.Saved.{chordsRow}
+use Rattle.saved.specs.Saved.{chordsRow}
 use Rattle.saving.proofs.work.chords_row.Statement.{statement}
 use Rattle.saving.proofs.work.chords_row.Tie as tie
 

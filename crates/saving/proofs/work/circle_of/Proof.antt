@@ -1,7 +1,7 @@
 -- The proof of `circle_of`: by its parts.
 use borrow.Author.Needs.{needs}
 use mathlib.Core.Path.{refl}
-use Rattle.saving.specs.Saved.{circleOf}
+use Rattle.saved.specs.Saved.{circleOf}
 use Rattle.saving.proofs.work.circle_of.Statement.{statement}
 use Rattle.saving.proofs.work.circle_of.Tie as tie
 

@@ -1,7 +1,7 @@
 -- The proof of `edges_row`: each part is a number of the row.
 use borrow.Author.Needs.{needs}
 use Rattle.exact.proofs.Rules.{rules}
-use Rattle.saving.specs.Saved.{edgesRow}
+use Rattle.saved.specs.Saved.{edgesRow}
 use Rattle.saving.proofs.work.edges_row.Statement.{statement}
 use Rattle.saving.proofs.work.edges_row.Tie as tie
 

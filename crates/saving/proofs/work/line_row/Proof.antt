@@ -1,6 +1,6 @@
 -- The proof of `line_row`: each part is a number of the row.
 use Rattle.exact.proofs.Rules.{rules}
-use Rattle.saving.specs.Saved.{lineRow}
+use Rattle.saved.specs.Saved.{lineRow}
 use Rattle.saving.proofs.work.line_row.Statement.{statement}
 use Rattle.saving.proofs.work.line_row.Tie as tie
 

@@ -5,7 +5,7 @@ use mathlib.Core.List.{List}
 use lib.IntN.{ℤ}
 use Rattle.rows.specs.declared.Row.{Row}
 use Rattle.rows.specs.Rows.{withRow, over}
-use Rattle.saving.specs.Saved.{workNumbers}
+use Rattle.saved.specs.Saved.{workNumbers}
 use Rattle.saving.proofs.work.put_work.Statement.{statement}
 use Rattle.saving.proofs.work.put_work.Tie as tie
 

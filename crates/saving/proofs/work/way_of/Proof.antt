@@ -1,6 +1,6 @@
 -- The proof of `way_of`: each part is a number of the row.
 use Rattle.exact.proofs.Rules.{rules}
-use Rattle.saving.specs.Saved.{wayOf}
+use Rattle.saved.specs.Saved.{wayOf}
 use Rattle.saving.proofs.work.way_of.Statement.{statement}
 use Rattle.saving.proofs.work.way_of.Tie as tie
 

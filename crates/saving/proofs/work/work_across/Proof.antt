@@ -1,6 +1,6 @@
 -- The proof of `work_across`: by its arms.
 use borrow.Author.Needs.{needs}
-use Rattle.saving.specs.Saved.{workAcross}
+use Rattle.saved.specs.Saved.{workAcross}
 use Rattle.saving.proofs.work.work_across.Statement.{statement}
 use Rattle.saving.proofs.work.work_across.Tie as tie
 

@@ -1,6 +1,6 @@
 -- The proof of `work_along`: by its arms.
 use borrow.Author.Needs.{needs}
-use Rattle.saving.specs.Saved.{workAlong}
+use Rattle.saved.specs.Saved.{workAlong}
 use Rattle.saving.proofs.work.work_along.Statement.{statement}
 use Rattle.saving.proofs.work.work_along.Tie as tie
 

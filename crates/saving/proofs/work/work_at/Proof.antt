@@ -1,7 +1,7 @@
 -- The proof of `work_at`: by its parts.
 use borrow.Author.Needs.{needs}
 use mathlib.Core.Path.{refl}
-use Rattle.saving.specs.Saved.{workAt}
+use Rattle.saved.specs.Saved.{workAt}
 use Rattle.saving.proofs.work.work_at.Statement.{statement}
 use Rattle.saving.proofs.work.work_at.Tie as tie
 

@@ -6,7 +6,7 @@ use mir.Syntax.{w64}
 use Rattle.exact.specs.Fit.{arg}
 use Rattle.rows.specs.Rows.{smallOf, mostByte, mostShort}
 use Rattle.hpgl.specs.declared.Work.the-variants.{Line, Chords, Edges}
-use Rattle.saving.specs.Saved.{smallIn, workOf}
+use Rattle.saved.specs.Saved.{smallIn, workOf}
 use Rattle.saving.proofs.work.work_of.Statement.{statement}
 use Rattle.saving.proofs.work.work_of.Tie as tie
 

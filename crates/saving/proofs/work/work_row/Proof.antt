@@ -1,6 +1,6 @@
 -- The proof of `work_row`: by its arms.
 use borrow.Author.Needs.{needs}
-use Rattle.saving.specs.Saved.{workRow}
+use Rattle.saved.specs.Saved.{workRow}
 use Rattle.saving.proofs.work.work_row.Statement.{statement}
 use Rattle.saving.proofs.work.work_row.Tie as tie
 

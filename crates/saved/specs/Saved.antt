@@ -10,7 +10,7 @@ use Rattle.clip.specs.declared.Point.{Point}
 use Rattle.clip.specs.declared.Rect.{Rect}
 use Rattle.plane.specs.declared.circle.Centre.{Centre}
 use Rattle.plane.specs.declared.circle.Way.{Way}
-use Rattle.saving.specs.SavedReader.{readerThen, readerAt}
+use Rattle.saved.specs.SavedReader.{readerThen, readerAt}
 use Rattle.hpgl.specs.declared.Position.{Position}
 use Rattle.hpgl.specs.declared.Range.{Range}
 use Rattle.hpgl.specs.declared.Scale.{Scale}

@@ -13,7 +13,7 @@ use Rattle.rows.specs.declared.Row.{Row}
 use Rattle.rows.specs.Rows.{lay, rowAt, smallOf, mostByte, mostShort}
 use Rattle.rows.specs.RowLaws.{flag-back, small-back, place-back}
 use Rattle.reader.specs.Sizes.{Readable}
-use Rattle.saving.specs.SavedReader.{readerAt, reader-back}
+use Rattle.saved.specs.SavedReader.{readerAt, reader-back}
 use Rattle.hpgl.specs.declared.Edge.{Edge}
 use Rattle.hpgl.specs.declared.Work.{Work}
 use Rattle.hpgl.specs.declared.Work.the-variants.{Nothing, Line, Chords, Edges}
@@ -22,7 +22,7 @@ use Rattle.hpgl.specs.Numbers.{mostEdges}
 use Rattle.hpgl.specs.Valid.{ValidSettings, ValidCore, ValidWork, Valid}
 use Rattle.hpgl.specs.Made.{Made}
 use Rattle.hpgl.specs.ValidKept.{made-valid}
-use Rattle.saving.specs.Saved.{stateNumbers, flagIn, smallIn, limitsRow, cornersRow, scaleRow, windowRow, boxOf, fromOf, toOf, rangeX, rangeY, settingsOf, settingsAt, positionRow, penRow, polygonRow, positionOf, penOf, pm0Of, polygonOf, carriageOf, carriageAt, blankRow, lineRow, chordsRow, edgesRow, acrossRow, alongRow, workRow, workAcross, workAlong, centreOf, wayOf, angleIn, circleOf, workOf, workAt, edgeRow, edgesNumbers, edgeOf, edgesFrom, storeAt, savedOf, loadedOf}
+use Rattle.saved.specs.Saved.{stateNumbers, flagIn, smallIn, limitsRow, cornersRow, scaleRow, windowRow, boxOf, fromOf, toOf, rangeX, rangeY, settingsOf, settingsAt, positionRow, penRow, polygonRow, positionOf, penOf, pm0Of, polygonOf, carriageOf, carriageAt, blankRow, lineRow, chordsRow, edgesRow, acrossRow, alongRow, workRow, workAcross, workAlong, centreOf, wayOf, angleIn, circleOf, workOf, workAt, edgeRow, edgesNumbers, edgeOf, edgesFrom, storeAt, savedOf, loadedOf}
 
 -- ---- the parts, each from its place on
 
