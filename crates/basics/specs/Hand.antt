@@ -19,16 +19,16 @@ use Rattle.hpgl.specs.declared.Carriage.{Carriage}
 use Rattle.hpgl.specs.declared.Core.{Core}
 use Rattle.hpgl.specs.declared.Acted.{Acted}
 use Rattle.hpgl.specs.declared.Action.{Action}
-use Rattle.hpgl.specs.declared.Action.the-variants.{Keep, Line}
+use Rattle.hpgl.specs.declared.Action.the-variants.{Keep, Line, Join}
 use Rattle.hpgl.specs.declared.Segment.{Segment}
 use Rattle.hpgl.specs.declared.Segment.the-variants as segment
 use Rattle.hpgl.specs.Numbers.{unknown}
 use Rattle.hpgl.specs.Place.{point, axisX, axisY, location, pagePoint, limits}
-use Rattle.hpgl.specs.Rules.{done, refuse, letters, nameRule, endRule}
+use Rattle.hpgl.specs.Rules.{done, refuse, letters, nameRule, longer, endRule}
 use Rattle.hpgl.specs.Valid.{ValidCore}
 use Rattle.basics.specs.declared.places.Frame.{Frame}
 use Rattle.basics.specs.declared.hand.Hand.{Hand}
-use Rattle.basics.specs.declared.hand.Paired.{Paired}
+use Rattle.basics.specs.declared.hand.Pointed.{Pointed}
 use Rattle.basics.specs.declared.hand.Shifted.{Shifted}
 
 -- ---- the parts
@@ -46,9 +46,6 @@ carriageOf h g = record { position = h .position; pen = h .pen; relative = h .re
 abbrev pub coreOf : Settings → Hand → Polygon → Core
 coreOf s h g = record { settings = s; carriage = carriageOf h g }
 
-abbrev pub actedOf : Settings → Paired → Acted
-actedOf s t = record { core = coreOf s (t .hand) (t .polygon); action = t .action; number = t .number }
-
 -- a line to draw waits as one
 unfoldable pub lineOf : Segment → Action
 lineOf segment.Nothing = Keep
@@ -58,6 +55,12 @@ lineOf (segment.Line a b) = Line a b
 -- outside polygon mode, beside a polygon
 abbrev pub shiftedOf : Settings → Polygon → Shifted → Acted
 shiftedOf s g t = record { core = coreOf s (t .hand) g; action = lineOf (t .segment); number = t .number }
+
+-- in polygon mode, of this polygon: a point more, and an edge to it but from the first of a subpolygon on; or the number
+unfoldable pub pointedOf : Settings → Hand → Polygon → Pointed → Acted
+pointedOf s h g t =
+    cond (eqb (t .number) 0) (done (coreOf s (t .hand) (longer g (t .cost) (t .hand .position))) (cond (g .empty) Keep (Join (t .edge))))
+    (refuse (coreOf s h g) (t .number))
 
 -- the location of a position, by the frame
 abbrev pub locationIn : Frame → Position → Point

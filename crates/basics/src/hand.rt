@@ -2,9 +2,9 @@
 ghost use mathlib.Core.Path.{_≡_};
 ghost use Rattle.basics.specs.Hand.{handOf, coreOf};
 use clip::Point;
-use hpgl::Action;
 use hpgl::Carriage;
 use hpgl::Core;
+use hpgl::Edge;
 use hpgl::Pen;
 use hpgl::Polygon;
 use hpgl::Position;
@@ -26,11 +26,13 @@ pub struct Shifted {
     pub number: u8,
 }
 
-// What a pair does: the new hand and polygon, the action, and 01's number (0 for none).
-pub struct Paired {
+// What a pair in polygon mode does: the new hand and the location where it is, the edge that ends there, the bytes of the point, and 01's number
+// (0 for none).
+pub struct Pointed {
     pub hand: Hand,
-    pub polygon: Polygon,
-    pub action: Action,
+    pub here: Point,
+    pub edge: Edge,
+    pub cost: u16,
     pub number: u8,
 }
 

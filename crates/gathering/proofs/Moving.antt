@@ -1,13 +1,14 @@
--- The turns of the loop of `moves`: a name or a pair with its stroke, or a refusal that is stored.
+-- The turns of the loop of `gather` that end at once: a name, a pair with its stroke or its edge, EP, or a refusal that is stored.
 -- Why: each is a turn that takes a byte (Gathers.antt), and a line is worked off at once.
 use mathlib.Core.Path.{_≡_, refl, sym, ap, subst, _∙_}
-use mathlib.Core.Bool.{Bool, true, false, true≢false}
+use mathlib.Core.Bool.{Bool, true, false, true≢false, cond, not}
 use mathlib.Core.List.{List}
 use Prim.Native.Nat.{ℕ, _+_, _*_, _/_, _≤_, _<_}
 use native.Mathlib.Omega.{arith}
 use lib.Dec.{T, eqb}
 use lib.IntN.{ℤ}
 use lib.ListN.{length, getD}
+use lib.ListN as list
 use Rattle.reader.specs.declared.Reader.{Reader}
 use Rattle.reader.specs.declared.Event.{Event}
 use Rattle.reader.specs.declared.Event.the-variants as event
@@ -15,17 +16,20 @@ use Rattle.reader.specs.declared.Step.{Step}
 use Rattle.reader.specs.declared.Next.{Next}
 use Rattle.reader.specs.Step.{passedOver}
 use Rattle.reader.specs.Stream.{_telling_}
-use Rattle.mnemonics.specs.Table.{PU, PD, PA, PR}
-use Rattle.reader.specs.Next.{isNothing}
+use Rattle.mnemonics.specs.Table.{EP, PU, PD, PA, PR}
 use Rattle.reader.specs.Sizes.{isCause, Caused}
 use Rattle.reader.specs.Laws.{cause-law}
+use Rattle.reader.specs.declared.Numbers.{Numbers}
+use Rattle.hpgl.specs.declared.Settings.{Settings}
+use Rattle.hpgl.specs.declared.Polygon.{Polygon}
 use Rattle.hpgl.specs.declared.Carriage.{Carriage}
+use Rattle.hpgl.specs.declared.Edge.{Edge}
 use Rattle.hpgl.specs.declared.Core.{Core}
 use Rattle.hpgl.specs.declared.Acted.{Acted}
-use Rattle.hpgl.specs.declared.Action.the-variants.{Keep}
+use Rattle.hpgl.specs.declared.Action.the-variants.{Keep, Join, Outline}
 use Rattle.hpgl.specs.declared.Store.{Store}
 use Rattle.hpgl.specs.declared.Work.{Work}
-use Rattle.hpgl.specs.declared.Work.the-variants.{Nothing}
+use Rattle.hpgl.specs.declared.Work.the-variants.{Nothing, Edges}
 use Rattle.hpgl.specs.declared.State.{State}
 use Rattle.hpgl.specs.declared.Stroke.{Stroke}
 use Rattle.hpgl.specs.declared.Drawn.{Drawn}
@@ -33,15 +37,15 @@ use Rattle.hpgl.specs.declared.Segment.{Segment}
 use Rattle.hpgl.specs.declared.Segment.the-variants as segment
 use Rattle.hpgl.specs.Cases.{pick}
 use Rattle.hpgl.specs.Place.{limits}
-use Rattle.hpgl.specs.Rules.{refuse, letters, actOn}
+use Rattle.hpgl.specs.Rules.{done, refuse, letters, inked, longer, epRule, endRule, actOn}
 use Rattle.hpgl.specs.Machine.{waiting, stored, queued, readerAfter, workAfter, drawAnswer}
 use Rattle.hpgl.specs.Segment.{workSegment, segmentOf, drawnOf, segment-drawn, SmallSegment, segment-small}
 use Rattle.hpgl.specs.Plot.{Plot, refusal}
-use Rattle.basics.specs.declared.places.Frame.{Frame}
 use Rattle.basics.specs.declared.hand.Hand.{Hand}
-use Rattle.basics.specs.Hand.{handOf, lineOf}
-use Rattle.gathering.specs.Gather.{whole, countAfter, withStroke, recordOf, putOf}
-use Rattle.gathering.specs.Far.{Far, Reached, Begun, Told}
+use Rattle.basics.specs.declared.hand.Pointed.{Pointed}
+use Rattle.basics.specs.Hand.{coreOf, lineOf, pointedOf}
+use Rattle.gathering.specs.Gather.{whole, countAfter, withStroke, recordOf, putOf, outlineOf}
+use Rattle.gathering.specs.Far.{Far, Reached}
 use Rattle.gathering.proofs.Turns.{Turn, reader-off, turn-valid}
 use Rattle.gathering.proofs.Gathers.{far-draw, far-turn, far-refusal}
 
@@ -52,40 +56,19 @@ letters-position k op =
     let P : Carriage → Type 0 = λ x. x .position ≡ k .position in
     pick P (eqb op PU) refl (pick P (eqb op PD) refl (pick P (eqb op PA) refl (pick P (eqb op PR) refl refl)))
 
--- what the loop begins with, of any core with this hand and mode
-pub record Sets (on : Bool) (s : List ℕ) (now : List ℤ) (r : Reader) (h : Hand) (mode : Bool) (f : Frame) (from count : ℕ) : Type 0 where
-  pub core : Core
-  pub begun : Begun on s now r core f from count
-  pub hand : handOf (core .carriage) ≡ h
-  pub mode-is : core .carriage .polygon .mode ≡ mode
+-- EP changes no edge, and what it leaves waiting is said by the pen alone
+outline-kept : (es : List Edge) (k : ℕ) (b : Bool) → es ≡ stored es k (cond b Outline Keep)
+unfolding stored
+outline-kept es k true = refl
+outline-kept es k false = refl
 
--- how far it is; after the first turn no work is left
-pub record Going (on : Bool) (all : Plot) (s : List ℕ) (entry now : List ℤ) (r : Reader) (c : Core) (store : Store) (from at count : ℕ) : Type 0 where
-  pub work : Work
-  pub idle : waiting work ≡ 0
-  pub turned : from < at → work ≡ Nothing
-  pub far : Far on all s entry now (whole r c store work) at count
-
-pub going-on : {on : Bool} {all : Plot} {s : List ℕ} {entry now : List ℤ} {r : Reader} {c : Core} {store : Store} {from at count : ℕ} →
-    Far on all s entry now (whole r c store Nothing) at count → Going on all s entry now r c store from at count
-unfolding waiting
-going-on f = record { work = Nothing; idle = refl; turned = λ h. refl; far = f }
-
-pub told-other : (A B : Type 0) (e : Event) → isNothing e ≡ false → B → Told e A B
-unfolding isNothing
-told-other A B event.Nothing h b = absurd (true≢false h)
-told-other A B (event.Named op) h b = b
-told-other A B (event.Pair n) h b = b
-told-other A B (event.Ended op n) h b = b
-told-other A B (event.Refused k) h b = b
-
-pub told-met : (A B : Type 0) (e : Event) → isNothing e ≡ false → Told e A B → B
-unfolding isNothing
-told-met A B event.Nothing h b = absurd (true≢false h)
-told-met A B (event.Named op) h b = b
-told-met A B (event.Pair n) h b = b
-told-met A B (event.Ended op n) h b = b
-told-met A B (event.Refused k) h b = b
+outline-waits : (c : Core) → outlineOf (c .carriage .pen) (c .carriage .polygon .edges) ≡ queued (c .carriage .polygon .edges) (cond (inked c) Outline Keep)
+unfolding outlineOf queued inked
+outline-waits c = go (eqb (c .carriage .pen .number) 0)
+  where
+    go : (b : Bool) → cond b Nothing (Edges 0 (c .carriage .polygon .edges)) ≡ queued (c .carriage .polygon .edges) (cond (not b) Outline Keep)
+    go true = refl
+    go false = refl
 
 -- a line that is drawn, or nothing
 abbrev pub doing : Core → Segment → Acted
@@ -101,19 +84,10 @@ module _ {on : Bool} {all : Plot} {s : List ℕ} {entry now : List ℤ} {m : Sta
   at-next : {numbers : List ℤ} {i : State} {k : ℕ} → Far on all s entry numbers i (r .place + 1) k → Far on all s entry numbers i (q .at) k
   at-next {numbers} {i} {k} f = subst (λ (t : ℕ). Far on all s entry numbers i t k) (sym (r .ends)) f
 
-  -- for a caller who began before it
-  pub reached-from : {i : State} {from : ℕ} → i .core ≡ m .core → i .store ≡ m .store → from ≤ at → Reached on all s entry now i from count q
-  reached-from e f h = record {
-    reader = r .reader;
-    work = r .work;
-    place = r .place;
-    further = omega (arith, r .further);
-    within = r .within;
-    ends = r .ends;
-    step = r .step;
-    idle = r .idle;
-    far = rw (e, f) (r .far);
-  }
+  -- a turn that nothing is stored in
+  pub next-turned : {t : Acted} {next : State} → Turn last byte (q .reader telling q .event) t next → t .number ≡ 0 → (on ≡ true → count < length entry / 5) →
+      Far on all s entry now next (q .at) count
+  next-turned turn z free = at-next (far-turn (r .far) turn (r .idle) (r .within) free z)
 
   module _ (c : Core) where
     abbrev next : Segment → State
@@ -158,6 +132,36 @@ module _ {on : Bool} {all : Plot} {s : List ℕ} {entry now : List ℤ} {m : Sta
       pub next-drawn : (g : Segment) → doing c g ≡ actOn (m .core) (q .event) → {d : Drawn} {numbers : List ℤ} {k : ℕ} → d ≡ drawnBy g → numbers ≡ putOf d (count * 5) now → k ≡ countAfter d count →
           Far on all s entry numbers (whole (q .reader) c (m .store) Nothing) (q .at) k
       next-drawn g e f h k = rw (h, k, f) (at-next (worked g e))
+
+  -- a point of a polygon
+  module _ (set : Settings) (h : Hand) (g : Polygon) (t : Pointed) (same : m .core ≡ coreOf set h g) (acts : pointedOf set h g t ≡ actOn (coreOf set h g) (q .event)) (z : t .number ≡ 0)
+      (free : on ≡ true → count < length entry / 5) where
+    abbrev longer-core : Core
+    longer-core = coreOf set (t .hand) (longer g (t .cost) (t .hand .position))
+
+    points : {b : Bool} → g .empty ≡ b → done longer-core (cond b Keep (Join (t .edge))) ≡ actOn (m .core) (q .event)
+    unfolding pointedOf
+    points {b} e = sym (rw (z, e) refl) ∙ acts ∙ ap (λ (c : Core). actOn c (q .event)) (sym same)
+
+    pub next-first : g .empty ≡ true → Far on all s entry now (whole (q .reader) longer-core (m .store) Nothing) (q .at) count
+    unfolding readerAfter stored queued done
+    next-first e = next-turned (record { step = r .step; act = points e; reader = refl; core = refl; edges = refl; work = refl }) refl free
+
+    pub next-edge : g .empty ≡ false → {st : Store} → st .edges ≡ list.set (m .store .edges) (g .edges) (t .edge) →
+        Far on all s entry now (whole (q .reader) longer-core st Nothing) (q .at) count
+    unfolding readerAfter stored queued done
+    next-edge e f =
+        let k = ap (λ (c : Core). list.set (m .store .edges) (c .carriage .polygon .edges) (t .edge)) (sym same) in
+        next-turned (record { step = r .step; act = points e; reader = refl; core = refl; edges = f ∙ k; work = refl }) refl free
+
+  -- EP: the stored edges wait
+  pub next-outline : {k : ℕ} {n : Numbers} → q .event ≡ event.Ended k n → k ≡ EP → {w : Work} → w ≡ outlineOf (m .core .carriage .pen) (m .core .carriage .polygon .edges) →
+      (on ≡ true → count < length entry / 5) → Far on all s entry now (whole (q .reader) (m .core) (m .store) w) (q .at) count
+  unfolding readerAfter done actOn endRule epRule
+  next-outline {n = n} told e f free =
+      let acts = ap (actOn (m .core)) (told ∙ ap (λ (k : ℕ). event.Ended k n) e) in
+      let b = inked (m .core) in
+      next-turned (record { step = r .step; act = sym acts; reader = refl; core = refl; edges = outline-kept (m .store .edges) _ b; work = f ∙ outline-waits (m .core) }) refl free
 
   -- a refusal is stored
   pub next-refusal : {k : ℕ} → q .event ≡ event.Refused k → on ≡ true → count < length entry / 5 → {numbers : List ℤ} {x : Stroke} {n : ℕ} {z : Reader} →

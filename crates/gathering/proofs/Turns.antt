@@ -1,8 +1,9 @@
 -- A turn of the loop of `gather` that takes a byte: the loop keeps the parts of the machine apart.
 -- Why: what the turn's calls gave are the parts of `applied`, and a byte that means nothing yet changes the reader alone and leaves no work.
 use mathlib.Core.Path.{_≡_, refl, sym, ap, ap₂, _∙_, subst}
-use mathlib.Core.Bool.{true, false, true≢false}
-use Prim.Native.Nat.{ℕ, _≤_}
+use mathlib.Core.Bool.{Bool, true, false, true≢false, cond}
+use Prim.Native.Nat.{ℕ, _+_, _≤_}
+use lib.Dec.{leb}
 use borrow.Author.Tests.{eq-eqb, ne-eqb}
 use Rattle.reader.specs.declared.Coordinates.{Coordinates}
 use Rattle.reader.specs.declared.Numbers.{Numbers}
@@ -21,7 +22,9 @@ use Rattle.hpgl.specs.declared.Action.the-variants.{Keep}
 use Rattle.hpgl.specs.declared.Acted.{Acted}
 use Rattle.hpgl.specs.declared.Work.the-variants.{Nothing}
 use Rattle.hpgl.specs.declared.State.{State}
-use Rattle.hpgl.specs.Rules.{done, refuse, letters, pairRule, endRule, actOn}
+use Rattle.hpgl.specs.Numbers.{tooFar, polygonFull, polygonBytes}
+use Rattle.hpgl.specs.Place.{location, inRange}
+use Rattle.hpgl.specs.Rules.{done, refuse, letters, moveTo, pointCost, storePoint, aimed, goTo, pairRule, endRule, actOn}
 use Rattle.hpgl.specs.Machine.{waiting, stored, queued, readerAfter, applied, acted, takeState, takeNumber}
 use Rattle.hpgl.specs.Valid.{Valid}
 use Rattle.hpgl.specs.ValidKept.{valid-take}
@@ -124,3 +127,16 @@ module _ (s : Settings) (h : Hand) (g : Polygon) where
     unknown-acts f =
         ap (λ (n : ℕ). acting s h g Keep n) number
         ∙ sym (name-parts s h g op ∙ rw (ne-eqb (nameNumber (g .mode) op) 0 (λ e. f (number ∙ e))) refl)
+
+-- a pair that is refused changes nothing
+pub pair-refused : (c : Core) (n : Coordinates) → (pairRule c n .number ≡ 0 → ⊥) → pairRule c n ≡ refuse c (pairRule c n .number)
+unfolding pairRule goTo storePoint moveTo done refuse
+pair-refused c n f = go (inRange (location (c .settings) (aimed c n))) (c .carriage .polygon .mode) (leb (c .carriage .polygon .bytes + pointCost (c .carriage .pen)) polygonBytes) _ _ _ _ f
+  where
+    go : (near mode fits : Bool) (i j : Core) (x y : Action) →
+        let t = cond near (cond mode (cond fits (done i x) (refuse c polygonFull)) (done j y)) (refuse c tooFar) in
+        (t .number ≡ 0 → ⊥) → t ≡ refuse c (t .number)
+    go true true true i j x y f = absurd (f refl)
+    go true true false i j x y f = refl
+    go true false fits i j x y f = absurd (f refl)
+    go false mode fits i j x y f = refl

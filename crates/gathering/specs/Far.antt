@@ -1,27 +1,27 @@
--- How far a feed or a plot is, and what its moves come to.
+-- How far a feed or a plot is.
 use mathlib.Core.Path.{_≡_}
-use mathlib.Core.Bool.{Bool, true}
+use mathlib.Core.Bool.{Bool}
 use mathlib.Core.List.{List, _++_}
 use Prim.Native.Nat.{ℕ, _+_, _-_, _/_, _≤_, _<_}
 use lib.IntN.{ℤ}
 use lib.ListN.{length, getD, drop}
 use Rattle.reader.specs.declared.Reader.{Reader}
-use Rattle.reader.specs.declared.Event.{Event}
-use Rattle.reader.specs.declared.Event.the-variants as event
 use Rattle.reader.specs.declared.Next.{Next}
 use Rattle.reader.specs.Step.{stepOf}
 use Rattle.reader.specs.Stream.{_telling_}
+use Rattle.clip.specs.declared.Rect.{Rect}
+use Rattle.plane.specs.declared.turn.Rows.{Rows}
+use Rattle.plane.specs.Turn.{rowsOf}
+use Rattle.hpgl.specs.declared.Circle.{Circle}
 use Rattle.hpgl.specs.declared.Core.{Core}
 use Rattle.hpgl.specs.declared.Store.{Store}
 use Rattle.hpgl.specs.declared.Work.{Work}
-use Rattle.hpgl.specs.declared.Work.the-variants.{Nothing}
+use Rattle.hpgl.specs.declared.Work.the-variants.{Chords}
 use Rattle.hpgl.specs.declared.State.{State}
+use Rattle.hpgl.specs.Place.{limits}
 use Rattle.hpgl.specs.Machine.{waiting}
 use Rattle.hpgl.specs.Plot.{Mark, Plot, laidMarks}
 use Rattle.hpgl.specs.Valid.{Valid}
-use Rattle.basics.specs.declared.places.Frame.{Frame}
-use Rattle.basics.specs.Hand.{frameOf, coreOf}
-use Rattle.gathering.specs.declared.Moved.{Moved}
 use Rattle.gathering.specs.Gather.{whole, gatherFrom}
 
 -- marks that were stored before what f stores
@@ -50,35 +50,24 @@ pub record Reached (on : Bool) (all : Plot) (s : List ℕ) (entry now : List ℤ
   pub idle : waiting work ≡ 0
   pub far : Far on all s entry now (whole reader (m .core) (m .store) work) place count
 
--- ---- moves
+-- ---- chords
 
--- some feed or plot is so far: a byte is left, no segment waits, and where refusals are stored a record is free
-pub record Begun (on : Bool) (s : List ℕ) (now : List ℤ) (r : Reader) (c : Core) (f : Frame) (from count : ℕ) : Type 0 where
-  pub framed : f ≡ frameOf (c .settings)
-  pub left : from < length s
-  pub free : on ≡ true → count < length now / 5
+-- some feed or plot is so far, and these chords wait; it has this turn, these limits and this pen
+pub record Chording (now : List ℤ) (r : Rows) (l : Rect) (pen : ℕ) (o : Circle) (i n count : ℕ) : Type 0 where
+  pub on : Bool
   pub all : Plot
+  pub bytes : List ℕ
   pub entry : List ℤ
+  pub reader : Reader
+  pub core : Core
   pub store : Store
-  pub work : Work
-  pub idle : waiting work ≡ 0
-  pub far : Far on all s entry now (whole r c store work) from count
+  pub at : ℕ
+  pub turned : r ≡ rowsOf (core .settings .turn)
+  pub limited : l ≡ limits (core .settings)
+  pub held : pen ≡ core .carriage .pen .number
+  pub some : 0 < n
+  pub far : Far on all bytes entry now (whole reader core store (Chords o i n)) at count
 
--- A holds where the moves ended between two bytes, B where they met an event that is not theirs
-abbrev pub Told : Event → Type 0 → Type 0 → Type 0
-Told event.Nothing A B = A
-Told (event.Named op) A B = B
-Told (event.Pair n) A B = B
-Told (event.Ended op n) A B = B
-Told (event.Refused k) A B = B
-
--- the core with another hand
-abbrev pub handed : Core → Moved → Core
-handed c r = coreOf (c .settings) (r .hand) (c .carriage .polygon)
-
--- every move that came is done; an event that is not a move's was met and not carried out, and where refusals are stored there is a record for its own
-abbrev pub Came : Bool → Plot → List ℕ → List ℤ → List ℤ → Core → Store → ℕ → Moved → Type 0
-Came on all s entry now c store from r =
-    let m = whole (r .reader) (handed c r) store Nothing in
-    Told (r .event) (Far on all s entry now m (r .at) (r .count))
-    (Reached on all s entry now m from (r .count) (record { reader = r .reader; event = r .event; at = r .at }) × (on ≡ true → r .count < length entry / 5))
+-- how far it is once this work is left
+abbrev pub Drew : {now : List ℤ} {r : Rows} {l : Rect} {pen : ℕ} {o : Circle} {i n count : ℕ} → Chording now r l pen o i n count → List ℤ → Work → ℕ → Type 0
+Drew d exit w k = Far (d .on) (d .all) (d .bytes) (d .entry) exit (whole (d .reader) (d .core) (d .store) w) (d .at) k

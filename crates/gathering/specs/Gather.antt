@@ -9,7 +9,10 @@ use lib.ListN.{length, set}
 use Rattle.reader.specs.declared.Reader.{Reader}
 use Rattle.hpgl.specs.declared.Core.{Core}
 use Rattle.hpgl.specs.declared.Store.{Store}
+use Rattle.hpgl.specs.declared.Pen.{Pen}
+use Rattle.hpgl.specs.declared.Circle.{Circle}
 use Rattle.hpgl.specs.declared.Work.{Work}
+use Rattle.hpgl.specs.declared.Work.the-variants.{Nothing, Chords, Edges}
 use Rattle.hpgl.specs.declared.State.{State}
 use Rattle.hpgl.specs.declared.Stroke.{Stroke}
 use Rattle.hpgl.specs.declared.Drawn.{Drawn}
@@ -72,3 +75,11 @@ unfoldable pub putOf : Drawn → ℕ → List ℤ → List ℤ
 putOf (drawn.Stroke s) i numbers = withStroke s i numbers
 putOf drawn.Hidden i numbers = numbers
 putOf drawn.Idle i numbers = numbers
+
+-- what EP leaves waiting: the stored edges, if the pen has paint
+unfoldable pub outlineOf : Pen → ℕ → Work
+outlineOf p k = cond (eqb (p .number) 0) Nothing (Edges 0 k)
+
+-- chords that wait, n of them from i on
+unfoldable pub chordsLeft : Circle → ℕ → ℕ → Work
+chordsLeft o i n = cond (eqb n 0) Nothing (Chords o i n)

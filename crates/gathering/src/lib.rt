@@ -2,32 +2,36 @@
 ghost use mathlib.Core.Path.{_≡_};
 ghost use Prim.Native.Nat.{_/_, _*_, _+_, _^_, _<_, _≤_};
 ghost use lib.ListN.{length, drop};
+ghost use Rattle.sines.specs.Table as T;
+ghost use Rattle.hpgl.specs.Machine.{waiting};
 ghost use Rattle.hpgl.specs.Plot.{refusal};
 ghost use Rattle.hpgl.specs.Valid.{Valid};
 ghost use Rattle.gathering.specs.Gather as S;
 ghost use Rattle.gathering.specs.Far as F;
-use basics::hand::Hand;
 use basics::hand::core_of;
 use basics::hand::hand_of;
 use basics::numbers::LIST_FULL;
-use basics::places::Frame;
 use basics::places::frame_of;
 use basics::places::located_in;
+use clip::Rect;
 use hpgl::Action;
+use hpgl::Circle;
 use hpgl::Core;
 use hpgl::Drawn;
+use hpgl::Pen;
+use hpgl::Segment;
 use hpgl::State;
 use hpgl::Store;
 use hpgl::Stroke;
 use hpgl::Work;
 use instructions::events::end_rule;
+use mnemonics::EP;
 use mnemonics::PU;
-use queue::drawing::corner;
+use plane::turn::Rows;
 use queue::drawing::drawn_of;
 use queue::drawing::edge_place;
-use queue::drawing::first_corner;
-use queue::drawing::next_corner;
 use queue::drawing::segment;
+use queue::drawing::vertex;
 use queue::drawing::work_after;
 use queue::storing::queued;
 use queue::storing::stored;
@@ -35,8 +39,10 @@ use queue::storing::waiting;
 use reader::Event;
 use reader::Reader;
 use shapes::moves::letters;
+use shapes::moves::line_of;
+use shapes::moves::longer;
 use shapes::moves::name_number;
-use shapes::moves::pair;
+use shapes::moves::point;
 use shapes::moves::shift;
 use sines::table;
 
@@ -146,107 +152,76 @@ fn stuck(on: bool, w: Work, count: usize, room: usize) -> bool
     false
 }
 
-// What moves come to: the reader, the hand, the event that is not a move's (Nothing where they ended between two bytes), the place and the count.
-struct Moved {
-    reader: Reader,
-    hand: Hand,
-    event: Event,
-    at: usize,
+// What EP leaves waiting: the stored edges, if the pen has paint.
+fn outline(pen: Pen, edges: u8) -> Work
+    ensures { λ r. ⌜ r ≡ S.outlineOf pen edges ⌝ }
+{
+    if pen.number == 0 {
+        return Work::Nothing;
+    }
+    Work::Edges(0, edges)
+}
+
+// Chords that wait, from one on.
+fn chords_left(circle: Circle, next: u16, left: u16) -> Work
+    ensures { λ r. ⌜ r ≡ S.chordsLeft circle next left ⌝ }
+{
+    if left == 0 {
+        return Work::Nothing;
+    }
+    Work::Chords(circle, next, left)
+}
+
+// How far chords were drawn: what still waits, and the count.
+struct Chorded {
+    work: Work,
     count: usize,
 }
 
-fn moved_to(reader: Reader, hand: Hand, event: Event, at: usize, count: usize) -> Moved
-    ensures { λ r. ⌜ r ≡ record { reader = reader; hand = hand; event = event; at = at; count = count } ⌝ }
+// Draws chords that wait, up to the last, or one with no record left. A vertex at which two of them meet is found once.
+fn chords(
+    rows: Rows,
+    limits: Rect,
+    pen: u8,
+    circle: Circle,
+    from: u16,
+    many: u16,
+    sines: &[u32],
+    numbers: &mut [i64],
+    before: usize,
+) -> Chorded
+    requires { ⌜ F.Chording (now numbers) rows limits pen circle from many before × (before < length (now numbers) / 5) × (now sines ≡ T.sines) ⌝ }
+    ensures { λ r. ⌜ waiting (r .work) < many ⌝ }
+    ensures { λ r. ⌜ ((d : F.Chording (now (numbers .entry)) rows limits pen circle from many before) → F.Drew d (now (numbers .exit)) (r .work) (r .count)) ⌝ }
 {
-    Moved {
-        reader: reader,
-        hand: hand,
-        event: event,
-        at: at,
+    let room = numbers.len() / NUMBERS;
+    let mut next = from;
+    let mut left = many;
+    let mut count = before;
+    let mut corner = vertex(rows, circle, next, sines);
+    while left > 0 {
+        if count == room {
+            return Chorded {
+                work: chords_left(circle, next, left),
+                count: count,
+            };
+        }
+        next += 1;
+        left -= 1;
+        let end = vertex(rows, circle, next, sines);
+        let drawn = drawn_of(limits, pen, Segment::Line(corner, end));
+        count = put(numbers, count, drawn);
+        corner = end;
+    }
+    Chorded {
+        work: chords_left(circle, next, left),
         count: count,
     }
 }
 
-// Names and pairs of moves with their strokes, and refusals where they are stored, up to an event that asks for more, which is left to the caller,
-// up to the last byte, or one with no room for what it may leave.
-fn moves(
-    started: Reader,
-    core: Core,
-    frame: Frame,
-    bytes: &[u8],
-    from: usize,
-    numbers: &mut [i64],
-    before: usize,
-    on: bool,
-) -> Moved
-    requires { ⌜ F.Begun on (now bytes) (now numbers) started core frame from before ⌝ }
-    ensures { λ r. ⌜ from < r .at ⌝ }
-    ensures { λ r. ⌜ ((b : F.Begun on (now (bytes .entry)) (now (numbers .entry)) started core frame from before) → F.Came on (b .all) (now (bytes .entry)) (b .entry) (now (numbers .exit)) core (b .store) from r) ⌝ }
-{
-    let carriage = core.carriage;
-    let polygon = carriage.polygon;
-    let mode = polygon.mode;
-    let most = numbers.len() / NUMBERS;
-    let mut reader = started;
-    let mut hand = hand_of(carriage);
-    let position = carriage.position;
-    let mut here = located_in(frame, position);
-    let mut at = from;
-    let mut count = before;
-    while at < bytes.len() {
-        if stuck(on, Work::Nothing, count, most) {
-            return moved_to(reader, hand, Event::Nothing, at, count);
-        }
-        let q = reader.next(bytes, at);
-        at = q.at;
-        reader = q.reader;
-        let event = q.event;
-        match event {
-            Event::Nothing => {}
-            Event::Named(op) => {
-                if 0 < name_number(mode, op) {
-                    return moved_to(reader, hand, event, at, count);
-                }
-                hand = letters(hand, op);
-            }
-            Event::Pair(n) => {
-                if mode {
-                    return moved_to(reader, hand, event, at, count);
-                }
-                if count == most {
-                    return moved_to(reader, hand, event, at, count);
-                }
-                let t = shift(frame, hand, here, n);
-                if 0 < t.number {
-                    return moved_to(reader, hand, event, at, count);
-                }
-                hand = t.hand;
-                here = t.here;
-                let pen = hand.pen;
-                let segment = t.segment;
-                let drawn = drawn_of(frame.limits, pen.number, segment);
-                count = put(numbers, count, drawn);
-            }
-            Event::Ended(op, _) => {
-                if op < PU {
-                    return moved_to(reader, hand, event, at, count);
-                }
-            }
-            Event::Refused(k) => {
-                if on {
-                    reader = reader.passed_over();
-                    count = put_record(numbers, count, refusal_record(k, at));
-                } else {
-                    return moved_to(reader, hand, event, at, count);
-                }
-            }
-        }
-    }
-    moved_to(reader, hand, Event::Nothing, at, count)
-}
-
 // Draws while a segment waits, else takes bytes up to the next that means something, up to the last, or one with no room for what it may leave.
-// A byte that is refused ends it, or it goes on with the refusal stored.
+// The line of a pair is drawn at once, and where refusals are stored the reader's own is stored at once. A byte that is refused ends it, or it goes on
+// with the refusal stored.
 pub fn gather(m: State, bytes: &[u8], from: usize, numbers: &mut [i64], on: bool) -> Stopped
     requires { ⌜ Valid m ⌝ }
     ensures { λ r. ⌜ S.Gathers (S.gatherFrom on m (drop from (now (bytes .entry))) from (length (now (numbers .entry)) / 5)) (now (numbers .entry)) (now (numbers .exit)) r ⌝ }
@@ -254,14 +229,15 @@ pub fn gather(m: State, bytes: &[u8], from: usize, numbers: &mut [i64], on: bool
     let sines = table();
     let first = m.core;
     let carriage = first.carriage;
+    let position = carriage.position;
     let mut reader = m.reader;
     let mut settings = first.settings;
     let mut frame = frame_of(settings);
     let mut hand = hand_of(carriage);
+    let mut here = located_in(frame, position);
     let mut polygon = carriage.polygon;
     let mut store = m.store;
     let mut work = m.work;
-    let mut vertex = corner(frame.rows, work, &sines);
     let mut at = from;
     let mut count = 0;
     let room = numbers.len() / NUMBERS;
@@ -271,22 +247,33 @@ pub fn gather(m: State, bytes: &[u8], from: usize, numbers: &mut [i64], on: bool
             return gathered(reader, core, store, work, at, count, LIST_FULL);
         }
         if 0 < waiting(work) {
-            let e = store.edges[edge_place(work)];
             let pen = hand.pen;
-            let next = next_corner(frame.rows, work, &sines);
-            let s = segment(frame.rows, e, work, vertex, next);
+            if let Work::Chords(circle, i, n) = work {
+                let c = chords(
+                    frame.rows,
+                    frame.limits,
+                    pen.number,
+                    circle,
+                    i,
+                    n,
+                    &sines,
+                    numbers,
+                    count,
+                );
+                count = c.count;
+                work = c.work;
+                continue;
+            }
+            let e = store.edges[edge_place(work)];
+            let s = segment(frame.rows, e, work, here, here);
             let drawn = drawn_of(frame.limits, pen.number, s);
             count = put(numbers, count, drawn);
             work = work_after(work);
-            vertex = next;
             continue;
         }
-        let whole = core_of(settings, hand, polygon);
-        let q = moves(reader, whole, frame, bytes, at, numbers, count, on);
+        let q = reader.next(bytes, at);
         at = q.at;
-        count = q.count;
         reader = q.reader;
-        hand = q.hand;
         let event = q.event;
         let edges = polygon.edges;
         let mut action = Action::Keep;
@@ -300,29 +287,78 @@ pub fn gather(m: State, bytes: &[u8], from: usize, numbers: &mut [i64], on: bool
                 number = name_number(polygon.mode, op);
                 if number == 0 {
                     hand = letters(hand, op);
+                    work = Work::Nothing;
+                    continue;
                 }
             }
             Event::Pair(n) => {
-                let t = pair(frame, hand, polygon, n);
-                hand = t.hand;
-                polygon = t.polygon;
-                action = t.action;
-                number = t.number;
+                if polygon.mode {
+                    let t = point(frame, hand, here, polygon.bytes, n);
+                    number = t.number;
+                    if number == 0 {
+                        hand = t.hand;
+                        here = t.here;
+                        work = Work::Nothing;
+                        let there = hand.position;
+                        if polygon.empty {
+                            polygon = longer(polygon, t.cost, there);
+                            continue;
+                        }
+                        // in its place: the store is large
+                        let e = t.edge;
+                        let k = edges as usize;
+                        store.edges[k] = e;
+                        polygon = longer(polygon, t.cost, there);
+                        continue;
+                    }
+                } else {
+                    let t = shift(frame, hand, here, n);
+                    number = t.number;
+                    if number == 0 {
+                        hand = t.hand;
+                        here = t.here;
+                        let line = t.segment;
+                        if count < room {
+                            let pen = hand.pen;
+                            let drawn = drawn_of(frame.limits, pen.number, line);
+                            count = put(numbers, count, drawn);
+                            work = Work::Nothing;
+                            continue;
+                        }
+                        action = line_of(line);
+                    }
+                }
             }
             Event::Ended(op, n) => {
+                if PU <= op {
+                    work = Work::Nothing;
+                    continue;
+                }
+                if op == EP {
+                    // once for each polygon: no core is put together for it
+                    let pen = hand.pen;
+                    work = outline(pen, edges);
+                    continue;
+                }
                 let t = end_rule(core_of(settings, hand, polygon), op, n);
                 let c = t.core;
                 let k = c.carriage;
+                let position = k.position;
                 settings = c.settings;
                 frame = frame_of(settings);
                 hand = hand_of(k);
+                here = located_in(frame, position);
                 polygon = k.polygon;
                 action = t.action;
                 number = t.number;
-                // no other event leaves chords
-                vertex = first_corner(frame.rows, action, &sines);
             }
             Event::Refused(k) => {
+                if on {
+                    reader = reader.passed_over();
+                    count = put_record(numbers, count, refusal_record(k, at));
+                    work = Work::Nothing;
+                    continue;
+                }
                 number = k;
             }
         }
@@ -331,7 +367,6 @@ pub fn gather(m: State, bytes: &[u8], from: usize, numbers: &mut [i64], on: bool
             Action::Line(_, _) => {}
             Action::Chords(_) => {}
             Action::Join(e) => {
-                // in its place: the store is large
                 let k = edges as usize;
                 store.edges[k] = e;
             }

@@ -6,8 +6,8 @@ use native.Mathlib.Nat.{sub-zero}
 use native.Mathlib.Omega.{arith}
 use borrow.Author.Tests.{ltb-true, ltb-false, le-leb}
 use lib.Dec.{T, ltb→lt, leb, ltb, eqb}
-use Rattle.mnemonics.specs.declared.Found.the-variants.{At}
-use Rattle.mnemonics.specs.Table.{PU, PD, PA, PR, rows, step, any, cellOf, namedOf, findFrom, countFits, hasRoom, takesPairs}
+use Rattle.mnemonics.specs.declared.Found.the-variants.{At, Nowhere}
+use Rattle.mnemonics.specs.Table.{PU, PD, PA, PR, rows, firstLetter, step, any, cellOf, namedOf, findFrom, findOf, beginsFrom, beginsName, countFits, hasRoom, takesPairs}
 use Rattle.mnemonics.specs.Every.{every-at}
 
 -- The search of n instructions from place i on: it ends at i, or goes on after it.
@@ -19,6 +19,21 @@ find-here a b i (suc n) h e = simp e
 pub find-later : (a b i n : ℕ) → namedOf i a b ≡ false → findFrom a b i (suc n) ≡ findFrom a b (i + 1) n
 unfolding findFrom
 find-later a b i n e = simp e
+
+-- It finds nothing where no name begins with the first letter.
+none-from : (a b i n : ℕ) → beginsFrom a i n ≡ false → findFrom a b i n ≡ Nowhere
+unfolding findFrom beginsFrom namedOf cellOf
+none-from a b i zero e = refl
+none-from a b i (suc n) e = go (eqb (cellOf i firstLetter) a) refl e (none-from a b (i + 1) n)
+  where
+    go : (t : Bool) → eqb (cellOf i firstLetter) a ≡ t → cond t true (beginsFrom a (i + 1) n) ≡ false → (beginsFrom a (i + 1) n ≡ false → findFrom a b (i + 1) n ≡ Nowhere) →
+        findFrom a b i (suc n) ≡ Nowhere
+    go true h k later = absurd (true≢false k)
+    go false h k later = rw h (later k)
+
+pub none-begins : (a b : ℕ) → beginsName a ≡ false → findOf a b ≡ Nowhere
+unfolding findOf beginsName
+none-begins a b e = none-from a b 0 rows e
 
 -- The divisor of a count.
 pub step-above-0 : (op : ℕ) → op < rows → 0 < cellOf op step

@@ -1,7 +1,7 @@
 -- The table of sixteen instructions, row by row as in the source, and what is looked up in it.
 use Prim.Native.Nat.{ℕ, zero, suc, _+_, _-_, _%_}
 use Prim.Native.Char.{Char, code}
-use mathlib.Core.Bool.{Bool, false, cond}
+use mathlib.Core.Bool.{Bool, true, false, cond}
 use mathlib.Core.List.{List, [], _∷_}
 use lib.ListN.{getD}
 use lib.Dec.{leb, ltb, eqb}
@@ -132,6 +132,14 @@ findFrom a b i (suc n) = cond (namedOf i a b) (At i) (findFrom a b (i + 1) n)
 
 unfoldable pub findOf : ℕ → ℕ → Found
 findOf a b = findFrom a b 0 rows
+
+-- Whether a name of the table begins with this letter, of n from place i on.
+unfoldable pub beginsFrom : ℕ → ℕ → ℕ → Bool
+beginsFrom a i zero = false
+beginsFrom a i (suc n) = cond (eqb (cellOf i firstLetter) a) true (beginsFrom a (i + 1) n)
+
+unfoldable pub beginsName : ℕ → Bool
+beginsName a = beginsFrom a 0 rows
 
 -- LB, a name beside the table.
 unfoldable pub isLabel : ℕ → ℕ → Bool

@@ -1,7 +1,7 @@
 // The table of sixteen instructions, and what is looked up in it.
 ghost use mathlib.Core.Path.{_≡_};
 ghost use Prim.Native.Nat.{_+_, _*_, _<_};
-ghost use Rattle.mnemonics.specs.Table.{rows, rowOf, namesOf, findOf, isLabel, countFits, takesPairs, hasRoom, knownInPolygon, changesSettings};
+ghost use Rattle.mnemonics.specs.Table.{rows, rowOf, namesOf, findOf, beginsName, isLabel, countFits, takesPairs, hasRoom, knownInPolygon, changesSettings};
 
 // An instruction's code is its place in the table.
 pub const IN: usize = 0;
@@ -105,10 +105,41 @@ fn names(row: [u8; COLUMNS], first: u8, second: u8) -> bool
     both(row[FIRST], row[SECOND]) == both(first, second)
 }
 
+// Whether an instruction's name begins with a letter. Most other names are told by it at once, without a search.
+fn begins_name(first: u8) -> bool
+    ensures { λ r. ⌜ r ≡ beginsName first ⌝ }
+{
+    if first == b'P' {
+        return true;
+    }
+    if first == b'S' {
+        return true;
+    }
+    if first == b'I' {
+        return true;
+    }
+    if first == b'C' {
+        return true;
+    }
+    if first == b'D' {
+        return true;
+    }
+    if first == b'E' {
+        return true;
+    }
+    if first == b'R' {
+        return true;
+    }
+    false
+}
+
 // The instruction that two letters name.
 pub fn find(first: u8, second: u8) -> Found
     ensures { λ r. ⌜ r ≡ findOf first second ⌝ }
 {
+    if !begins_name(first) {
+        return Found::Nowhere;
+    }
     // laid out once, and not for each row
     let table = TABLE;
     let mut op: usize = 0;

@@ -6,7 +6,7 @@ ghost use Rattle.plane.specs.Bounds.{UnitRows};
 ghost use Rattle.hpgl.specs.Machine as M;
 ghost use Rattle.hpgl.specs.Place as P;
 ghost use Rattle.hpgl.specs.Segment as G;
-ghost use Rattle.hpgl.specs.Valid.{ValidSettings, SmallEdge, ValidCircle, ValidAction, ValidWork};
+ghost use Rattle.hpgl.specs.Valid.{ValidSettings, SmallEdge, ValidCircle, ValidWork};
 ghost use Rattle.queue.specs.First as S;
 ghost use Rattle.queue.specs.Corners as C;
 use basics::places::limits_of;
@@ -14,7 +14,6 @@ use clip::Clipped;
 use clip::Point;
 use clip::Rect;
 use clip::clip;
-use hpgl::Action;
 use hpgl::Circle;
 use hpgl::Core;
 use hpgl::Drawn;
@@ -44,7 +43,7 @@ fn stroke_of(pen: u8, c: Clipped) -> Drawn
 }
 
 // A vertex of a circle, on the page.
-fn vertex(rows: Rows, o: Circle, i: u16, sines: &[u32]) -> Point
+pub fn vertex(rows: Rows, o: Circle, i: u16, sines: &[u32]) -> Point
     requires { ⌜ UnitRows rows × ValidCircle o × (now sines ≡ T.sines) ⌝ }
     ensures { λ r. ⌜ r ≡ C.vertexAt rows o i ⌝ }
 {
@@ -118,21 +117,6 @@ pub fn next_corner(rows: Rows, w: Work, sines: &[u32]) -> Point
         Work::Line(_, _) => Point { x: 0, y: 0 },
         Work::Chords(o, i, _) => vertex(rows, o, i + 1, sines),
         Work::Edges(_, _) => Point { x: 0, y: 0 },
-    }
-}
-
-// Where the first chord of an action begins, once it waits; of other actions the origin.
-pub fn first_corner(rows: Rows, a: Action, sines: &[u32]) -> Point
-    requires { ⌜ UnitRows rows × ValidAction 0 a × (now sines ≡ T.sines) ⌝ }
-    ensures { λ r. ⌜ r ≡ C.firstCornerOf rows a ⌝ }
-{
-    match a {
-        Action::Keep => Point { x: 0, y: 0 },
-        Action::Line(_, _) => Point { x: 0, y: 0 },
-        Action::Chords(o) => vertex(rows, o, 0, sines),
-        Action::Join(_) => Point { x: 0, y: 0 },
-        Action::Outline => Point { x: 0, y: 0 },
-        Action::Rectangle(_, _, _) => Point { x: 0, y: 0 },
     }
 }
 

@@ -12,9 +12,9 @@ ghost use Rattle.hpgl.specs.Numbers.{polygonBytes, mostEdges};
 ghost use Rattle.hpgl.specs.Place as P;
 ghost use Rattle.hpgl.specs.Rules as R;
 ghost use Rattle.hpgl.specs.Valid.{LocatablePosition, ValidCore};
-ghost use Rattle.basics.specs.Hand.{frameOf, carriageOf, coreOf, actedOf, shiftedOf, lineOf, locationIn, ValidParts, ValidHand, nameNumber};
+ghost use Rattle.basics.specs.Hand.{frameOf, carriageOf, coreOf, shiftedOf, pointedOf, lineOf, locationIn, ValidHand, nameNumber};
 use basics::hand::Hand;
-use basics::hand::Paired;
+use basics::hand::Pointed;
 use basics::hand::Shifted;
 use basics::numbers::PEN_BYTES;
 use basics::numbers::POINT_BYTES;
@@ -145,30 +145,6 @@ fn moved(h: Hand, p: Position) -> Hand
     }
 }
 
-// A pair that is carried out.
-fn carried_out(h: Hand, g: Polygon, a: Action) -> Paired
-    ensures { λ r. ⌜ ((s : Settings) → actedOf s r ≡ R.done (coreOf s h g) a) ⌝ }
-{
-    Paired {
-        hand: h,
-        polygon: g,
-        action: a,
-        number: 0,
-    }
-}
-
-// A pair that is refused with a number.
-fn refused(h: Hand, g: Polygon, number: u8) -> Paired
-    ensures { λ r. ⌜ ((s : Settings) → actedOf s r ≡ R.refuse (coreOf s h g) number) ⌝ }
-{
-    Paired {
-        hand: h,
-        polygon: g,
-        action: Action::Keep,
-        number: number,
-    }
-}
-
 // A move outside polygon mode, to p with its location. The page points are computed only for a line.
 fn move_to(f: Frame, h: Hand, here: Point, p: Position, to: Point) -> Shifted
     requires { ⌜ ValidHand f h × SmallPoint to × (here ≡ locationIn f (h .position)) ⌝ }
@@ -215,7 +191,7 @@ fn point_cost(p: Pen) -> u16
 }
 
 // The polygon with one point more. The first of a subpolygon makes no edge.
-fn longer(g: Polygon, n: u16, p: Position) -> Polygon
+pub fn longer(g: Polygon, n: u16, p: Position) -> Polygon
     requires { ⌜ (g .bytes + n ≤ polygonBytes) × (g .edges ≤ mostEdges) ⌝ }
     ensures { λ r. ⌜ r ≡ R.longer g n p ⌝ }
 {
@@ -260,28 +236,35 @@ pub fn edge_to(c: Core, p: Position) -> Action
 }
 
 // A move in polygon mode, to p with its location: it stores a point and draws nothing.
-fn store_point(f: Frame, h: Hand, g: Polygon, p: Position, to: Point) -> Paired
-    requires { ⌜ ValidParts f h g ⌝ }
-    ensures { λ r. ⌜ ((s : Settings) → f ≡ frameOf s → to ≡ P.location s p → actedOf s r ≡ R.storePoint (coreOf s h g) p) ⌝ }
+fn store_point(h: Hand, here: Point, bytes: u16, p: Position, to: Point) -> Pointed
+    requires { ⌜ bytes ≤ polygonBytes ⌝ }
+    ensures { λ r. ⌜ ((s : Settings) (g : Polygon) → here ≡ P.location s (h .position) → to ≡ P.location s p → g .bytes ≡ bytes → pointedOf s h g r ≡ R.storePoint (coreOf s h g) p) ⌝ }
+    ensures { λ r. ⌜ ((f : Frame) → here ≡ locationIn f (h .position) → to ≡ locationIn f p → r .here ≡ locationIn f (r .hand .position)) ⌝ }
 {
     let pen = h.pen;
     let n = point_cost(pen);
-    if g.bytes + n <= POLYGON_BYTES {
+    let edge = Edge {
+        from: here,
+        to: to,
+        down: pen.down,
+    };
+    if bytes + n <= POLYGON_BYTES {
         let there = moved(h, p);
-        let more = longer(g, n, p);
-        if g.empty {
-            return carried_out(there, more, Action::Keep);
-        }
-        let position = h.position;
-        let from = located_in(f, position);
-        let edge = Edge {
-            from: from,
-            to: to,
-            down: pen.down,
+        return Pointed {
+            hand: there,
+            here: to,
+            edge: edge,
+            cost: n,
+            number: 0,
         };
-        return carried_out(there, more, Action::Join(edge));
     }
-    refused(h, g, POLYGON_FULL)
+    Pointed {
+        hand: h,
+        here: here,
+        edge: edge,
+        cost: 0,
+        number: POLYGON_FULL,
+    }
 }
 
 // The position of a pair, by the mode.
@@ -319,7 +302,7 @@ pub fn shift(f: Frame, h: Hand, here: Point, n: Coordinates) -> Shifted
 }
 
 // A line to draw waits as one.
-fn line_of(s: Segment) -> Action
+pub fn line_of(s: Segment) -> Action
     ensures { λ r. ⌜ r ≡ lineOf s ⌝ }
 {
     match s {
@@ -329,36 +312,27 @@ fn line_of(s: Segment) -> Action
     }
 }
 
-// A pair in polygon mode: a point at its position, if the location is in range.
-fn point(f: Frame, h: Hand, g: Polygon, n: Coordinates) -> Paired
-    requires { ⌜ ValidParts f h g × SmallPair n ⌝ }
-    ensures { λ r. ⌜ ((s : Settings) → f ≡ frameOf s → g .mode ≡ true → actedOf s r ≡ R.pairRule (coreOf s h g) n) ⌝ }
+// A pair in polygon mode, of a polygon with so many bytes: a point at its position, if the location is in range. The polygon itself is the caller's.
+pub fn point(f: Frame, h: Hand, here: Point, bytes: u16, n: Coordinates) -> Pointed
+    requires { ⌜ ValidHand f h × SmallPair n × (here ≡ locationIn f (h .position)) × (bytes ≤ polygonBytes) ⌝ }
+    ensures { λ r. ⌜ ((s : Settings) (g : Polygon) → f ≡ frameOf s → g .mode ≡ true → g .bytes ≡ bytes → pointedOf s h g r ≡ R.pairRule (coreOf s h g) n) ⌝ }
+    ensures { λ r. ⌜ r .here ≡ locationIn f (r .hand .position) ⌝ }
 {
     let p = aimed(f, h, n);
     let to = located_in(f, p);
     if reachable(to) {
-        return store_point(f, h, g, p, to);
+        return store_point(h, here, bytes, p, to);
     }
-    refused(h, g, TOO_FAR)
-}
-
-// A pair is complete.
-pub fn pair(f: Frame, h: Hand, g: Polygon, n: Coordinates) -> Paired
-    requires { ⌜ ValidParts f h g × SmallPair n ⌝ }
-    ensures { λ r. ⌜ ((s : Settings) → f ≡ frameOf s → actedOf s r ≡ R.pairRule (coreOf s h g) n) ⌝ }
-{
-    if g.mode {
-        return point(f, h, g, n);
-    }
-    let position = h.position;
-    let t = shift(f, h, located_in(f, position), n);
-    let there = t.hand;
-    let segment = t.segment;
-    let action = line_of(segment);
-    Paired {
-        hand: there,
-        polygon: g,
-        action: action,
-        number: t.number,
+    let pen = h.pen;
+    Pointed {
+        hand: h,
+        here: here,
+        edge: Edge {
+            from: here,
+            to: to,
+            down: pen.down,
+        },
+        cost: 0,
+        number: TOO_FAR,
     }
 }

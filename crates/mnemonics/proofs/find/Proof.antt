@@ -1,10 +1,11 @@
--- The loop's invariant: what the search of the whole table gives is what the search from `op` on gives.
+-- No name begins with another letter. The loop's invariant: what the search of the whole table gives is what the search from `op` on gives.
 use mathlib.Core.Path.{_≡_, refl, sym, _∙_}
 use Prim.Native.Nat.{suc, _+_, _≤_, _-_}
 use native.Mathlib.Omega.{arith}
 use borrow.Author.Needs.{needs}
+use borrow.Author.Tests.{not-true}
 use Rattle.mnemonics.specs.Table.{rows, namedOf, findFrom, findOf}
-use Rattle.mnemonics.proofs.Laws.{find-here, find-later}
+use Rattle.mnemonics.proofs.Laws.{find-here, find-later, none-begins}
 use Rattle.mnemonics.proofs.find.Statement.{statement}
 use Rattle.mnemonics.proofs.find.Tie as tie
 
@@ -27,14 +28,21 @@ array-copy-out-names c = search needs
 names-requires : tie.Need-names-requires Inv-loop μ-loop
 names-requires c κs = search needs
 
+begins-name-requires : tie.Need-begins-name-requires Inv-loop μ-loop
+begins-name-requires c κs = search needs
+
 returns : tie.Need-returns Inv-loop μ-loop
+returns c = let a = c .before .before .args in sym (none-begins (a .first) (a .second) (sym (c .before .begins-name .ensures) ∙ not-true (c .before .begins-name .result) (c .if1 .taken)))
+
+returns-2 : tie.Need-returns-2 Inv-loop μ-loop
 unfolding namedOf
-returns c =
-    let at = c .before .before .before .before in
-    let a = at .before .args in
+returns-2 c =
+    let at : tie.At-loop Inv-loop μ-loop = search in
+    let s : tie.Start Inv-loop μ-loop = search in
+    let a = s .args in
     sym
     (at .loop .inv .1
-    ∙ find-here (a .first) (a .second) (at .loop .op) (rows - at .loop .op) (omega arith) (sym (c .before .names .ensures) ∙ c .if1 .taken))
+    ∙ find-here (a .first) (a .second) (at .loop .op) (rows - at .loop .op) (omega arith) (sym (c .before .names .ensures) ∙ c .if2 .taken))
 
 add-op : tie.Need-add-op Inv-loop μ-loop
 add-op c = search needs
@@ -45,18 +53,19 @@ loop-less c = search needs
 loop-again : tie.Need-loop-again Inv-loop μ-loop
 unfolding namedOf
 loop-again c =
-    let at = c .before .before .before .before in
-    let a = at .before .args in
+    let at : tie.At-loop Inv-loop μ-loop = search in
+    let s : tie.Start Inv-loop μ-loop = search in
+    let a = s .args in
     let op = at .loop .op in
     let left : rows - op ≡ suc (rows - (op + 1)) = omega arith in (
       search needs,
       (at .loop .inv .1
-          ∙ rw left (find-later (a .first) (a .second) op (rows - (op + 1)) (sym (c .before .names .ensures) ∙ c .if1 .left))),
+          ∙ rw left (find-later (a .first) (a .second) op (rows - (op + 1)) (sym (c .before .names .ensures) ∙ c .if2 .left))),
     )
 
-returns-2 : tie.Need-returns-2 Inv-loop μ-loop
+returns-3 : tie.Need-returns-3 Inv-loop μ-loop
 unfolding findFrom
-returns-2 c =
+returns-3 c =
     let at = c .before in
     let none : rows - at .loop .op ≡ 0 = omega arith in
     sym (at .loop .inv .1 ∙ rw none refl)
@@ -67,12 +76,14 @@ find-spec =
     (tie.spec
     Inv-loop
     μ-loop
+    begins-name-requires
+    returns
     loop-holds
     mul-names
     array-copy-out-names
     names-requires
-    returns
+    returns-2
     add-op
     loop-less
     loop-again
-    returns-2)
+    returns-3)

@@ -1,0 +1,97 @@
+-- A chord that is drawn from one vertex to the next, and other segments, which need none.
+use mathlib.Core.Path.{_≡_, refl, sym, ap, subst, _∙_}
+use mathlib.Core.Bool.{Bool}
+use mathlib.Core.List.{List, [], _∷_}
+use mathlib.Core.Logic.{⊎-elim}
+use Prim.Native.Nat.{ℕ, zero, suc, _+_, _*_, _-_, _/_, _<_}
+use native.Mathlib.Omega.{arith}
+use lib.IntN.{ℤ}
+use lib.ListN.{length, getD}
+use borrow.Author.Tests.{ne-eqb}
+use types.Run.{OneOf}
+use denote.Enum.Declared.{tagOf}
+use Rattle.clip.specs.declared.Rect.{Rect}
+use Rattle.plane.specs.declared.turn.Rows.{Rows}
+use Rattle.plane.specs.Turn.{rowsOf}
+use Rattle.reader.specs.declared.Reader.{Reader}
+use Rattle.clip.specs.declared.Point.{Point}
+use Rattle.hpgl.specs.declared.Edge.{Edge}
+use Rattle.hpgl.specs.declared.Circle.{Circle}
+use Rattle.hpgl.specs.declared.Core.{Core}
+use Rattle.hpgl.specs.declared.Store.{Store}
+use Rattle.hpgl.specs.declared.Work.{Work}
+use Rattle.hpgl.specs.declared.Work.the-variants.{Nothing, Line, Chords, Edges}
+use Rattle.hpgl.proofs.Work.{the-type}
+use Rattle.hpgl.specs.declared.State.{State}
+use Rattle.hpgl.specs.declared.Drawn.{Drawn}
+use Rattle.hpgl.specs.declared.Segment.{Segment}
+use Rattle.hpgl.specs.declared.Segment.the-variants as segment
+use Rattle.hpgl.specs.Place.{limits}
+use Rattle.hpgl.specs.Machine.{noEdge, waiting, workAfter}
+use Rattle.hpgl.specs.Segment.{segmentOf, drawnOf, segment-drawn}
+use Rattle.hpgl.specs.Plot.{Plot}
+use Rattle.queue.specs.First.{edgePlace}
+use Rattle.queue.specs.Corners.{vertexAt, nextCornerOf, segmentIn, BeginsAt, segment-waits}
+use Rattle.gathering.specs.Gather.{whole, countAfter, putOf, chordsLeft}
+use Rattle.gathering.specs.Far.{Far}
+use Rattle.gathering.proofs.Gathers.{far-draw}
+
+pub chords-some : (o : Circle) (i n : ℕ) → 0 < n → chordsLeft o i n ≡ Chords o i n
+unfolding chordsLeft
+chords-some o i n h = rw (ne-eqb n 0 (λ e. omega (arith, h, e))) refl
+
+chords-after : (o : Circle) (i n : ℕ) → 0 < n → chordsLeft o (i + 1) (n - 1) ≡ workAfter (Chords o i n)
+unfolding chordsLeft workAfter
+chords-after o i zero h = absurd (omega (arith, h))
+chords-after o i (suc n) h = let less : suc n - 1 ≡ n = omega arith in ap (chordsLeft o (i + 1)) less
+
+pub chords-waiting : (o : Circle) (i n : ℕ) → waiting (chordsLeft o i n) ≡ n
+unfolding chordsLeft waiting
+chords-waiting o i zero = refl
+chords-waiting o i (suc n) = rw (ne-eqb (suc n) 0 (λ e. omega (arith, e))) refl
+
+abbrev pub chord : Rows → Circle → ℕ → Segment
+chord r o i = segment.Line (vertexAt r o i) (vertexAt r o (i + 1))
+
+module _ (reader : Reader) (core : Core) (store : Store) {r : Rows} (turned : r ≡ rowsOf (core .settings .turn)) where
+  pub chord-waits : (o : Circle) (i n : ℕ) → 0 < n → chord r o i ≡ segmentOf (whole reader core store (Chords o i n))
+  unfolding segmentIn nextCornerOf
+  chord-waits o i zero h = absurd (omega (arith, h))
+  chord-waits o i (suc n) h = segment-waits (whole reader core store (Chords o i (suc n))) (vertexAt r o i) turned refl
+
+  module _ {on : Bool} {all : Plot} {s : List ℕ} {entry now : List ℤ} {at count : ℕ} {l : Rect} {pen : ℕ} (limited : l ≡ limits (core .settings)) (held : pen ≡ core .carriage .pen .number) where
+    pub far-chord : (o : Circle) (i n : ℕ) → 0 < n → Far on all s entry now (whole reader core store (chordsLeft o i n)) at count → count < length entry / 5 →
+        {d : Drawn} {numbers : List ℤ} {k : ℕ} → d ≡ drawnOf l pen (chord r o i) → numbers ≡ putOf d (count * 5) now → k ≡ countAfter d count →
+        Far on all s entry numbers (whole reader core store (chordsLeft o (i + 1) (n - 1))) at k
+    unfolding waiting
+    far-chord o i n h far free e g k =
+        let m = whole reader core store (Chords o i n) in
+        far-draw (subst (λ (w : Work). Far on all s entry now (whole reader core store w) at count) (chords-some o i n h) far) h free
+        (e ∙ (λ j. drawnOf (limited j) (held j) (chord-waits o i n h j)) ∙ sym (segment-drawn m))
+        g k (chords-after o i n h)
+
+-- ---- other work than chords, by its tag
+
+abbrev pub Unchorded : Work → Type 0
+Unchorded w = OneOf (0 ∷ 1 ∷ 3 ∷ []) (tagOf the-type w)
+
+no-chords : (o : Circle) (i n : ℕ) → Unchorded (Chords o i n) → ⊥
+no-chords o i n h = ⊎-elim (λ e. omega (arith, e)) (⊎-elim (λ e. omega (arith, e)) (λ e. omega (arith, e))) h
+
+alone : (r : Rows) (e : Edge) (w : Work) (p : Point) → Unchorded w → segmentIn r e w p p ≡ segmentIn r e w p (nextCornerOf r w)
+unfolding segmentIn
+alone r e Nothing p h = refl
+alone r e (Line a b) p h = refl
+alone r e (Chords o i n) p h = absurd (no-chords o i n h)
+alone r e (Edges i zero) p h = refl
+alone r e (Edges i (suc n)) p h = refl
+
+begins : (r : Rows) (w : Work) (p : Point) → Unchorded w → BeginsAt r w p
+begins r Nothing p h = tt
+begins r (Line a b) p h = tt
+begins r (Chords o i n) p h = absurd (no-chords o i n h)
+begins r (Edges i n) p h = tt
+
+pub alone-waits : (m : State) {r : Rows} (p : Point) → r ≡ rowsOf (m .core .settings .turn) → Unchorded (m .work) →
+    segmentIn r (getD (m .store .edges) (edgePlace (m .work)) noEdge) (m .work) p p ≡ segmentOf m
+alone-waits m {r} p e h = alone r _ (m .work) p h ∙ segment-waits m p e (begins r (m .work) p h)

@@ -1,0 +1,194 @@
+-- The proof of `chords`. The invariant: for every feed or plot that was so far at the start, how far it is now, with the chords from `next` on waiting.
+use borrow.Author.Needs.{needs}
+use mathlib.Core.Path.{_≡_, refl, sym, ap, subst, _∙_}
+use mathlib.Core.List.{List}
+use Prim.Native.Nat.{ℕ, _+_, _*_, _-_, _/_, _≤_, _<_}
+use native.Mathlib.Omega.{arith}
+use lib.IntN.{ℤ}
+use lib.ListN.{length}
+use Rattle.clip.specs.Reach.{SmallRect}
+use Rattle.plane.specs.Bounds.{UnitRows}
+use Rattle.plane.specs.TurnLaws.{rows-unit}
+use Rattle.hpgl.specs.declared.Work.{Work}
+use Rattle.hpgl.specs.declared.Segment.the-variants as segment
+use Rattle.hpgl.specs.Machine.{waiting}
+use Rattle.hpgl.specs.Segment.{drawnOf, SmallSegment, segment-small}
+use Rattle.hpgl.specs.Valid.{mostChords, Valid}
+use Rattle.hpgl.specs.ValidFacts.{limits-small}
+use Rattle.queue.specs.Corners.{vertexAt}
+use Rattle.gathering.specs.Gather.{whole, chordsLeft}
+use Rattle.gathering.specs.Far.{Chording, Drew}
+use Rattle.gathering.proofs.Gathers.{far-fits}
+use Rattle.gathering.proofs.Chording.{chord, chords-some, chords-waiting, chord-waits, far-chord}
+use Rattle.gathering.proofs.chords.Statement.{statement}
+use Rattle.gathering.proofs.chords.Tie as tie
+
+abbrev Inv-loop : tie.InvT-loop
+Inv-loop rows limits pen circle from many sines numbers₀ before room next₀ left₀ count₀ corner₀ numbers next left count corner =
+    ((d : Chording numbers₀ rows limits pen circle from many before) → Drew d numbers (chordsLeft circle next left) count)
+    × (corner ≡ vertexAt rows circle next)
+    × (next + left ≡ from + many)
+    × (left ≤ many)
+    × (left ≡ many → count ≡ before)
+
+abbrev μ-loop : tie.MeasureT-loop
+μ-loop rows limits pen circle from many sines numbers₀ before room next₀ left₀ count₀ corner₀ numbers next left count corner = left
+
+abbrev Loop : Type 0
+Loop = tie.At-loop Inv-loop μ-loop
+
+abbrev entry : Loop → tie.Start Inv-loop μ-loop
+entry l = search
+
+abbrev Known : tie.Start Inv-loop μ-loop → Type 0
+Known s = let a = s .args in Chording (a .numbers .now) (a .rows) (a .limits) (a .pen) (a .circle) (a .from) (a .many) (a .before)
+
+abbrev known : (s : tie.Start Inv-loop μ-loop) → Known s
+known s = s .pre .0
+
+far : (l : Loop) (d : Known (entry l)) → Drew d (l .loop .numbers) (chordsLeft (entry l .args .circle) (l .loop .next) (l .loop .left)) (l .loop .count)
+far l d = l .loop .inv .0 d
+
+long : (l : Loop) → length (l .loop .numbers) ≡ length (entry l .args .numbers .now)
+long l = let d = known (entry l) in far l d .long ∙ sym (d .far .long)
+
+rows-small : (s : tie.Start Inv-loop μ-loop) → UnitRows (s .args .rows)
+rows-small s = let d = known s in rw (d .turned) (rows-unit (d .far .valid .core .settings .turn))
+
+most : (s : tie.Start Inv-loop μ-loop) → s .args .from + s .args .many ≤ mostChords
+most s = known s .far .valid .work .1
+
+-- a chord is left, and a record for it
+abbrev Turn : Type 0
+Turn = tie.Else1 Inv-loop μ-loop
+
+abbrev turn : Turn → Loop
+turn e = e .before .before
+
+some : (e : Turn) → 0 < turn e .loop .left
+some e = let i : tie.In-loop Inv-loop μ-loop = search in i .loop-test .taken
+
+free : (e : Turn) (d : Known (entry (turn e))) → turn e .loop .count < length (d .entry) / 5
+free e d =
+    let l = turn e in
+    let n : length (d .entry) / 5 ≡ length (entry l .args .numbers .now) / 5 = ap (λ (n : ℕ). n / 5) (sym (d .far .long)) in
+    omega (arith, e .if1 .left, far l d .room, n)
+
+-- the ends of the segment that is drawn
+drawn-chord : (v : tie.After-vertex2 Inv-loop μ-loop) → let l = turn (v .before) in segment.Line (l .loop .corner) (v .vertex2 .result) ≡ chord (entry l .args .rows) (entry l .args .circle) (l .loop .next)
+drawn-chord v = let l = turn (v .before) in λ j. segment.Line (l .loop .inv .1 j) (v .vertex2 .ensures j)
+
+vertex-requires : tie.Need-vertex-requires Inv-loop μ-loop
+vertex-requires c κs = let s : tie.Start Inv-loop μ-loop = search in (rows-small s, known s .far .valid .work .0, s .pre .2)
+
+loop-holds : tie.Need-loop-holds Inv-loop μ-loop
+loop-holds c =
+    let s : tie.Start Inv-loop μ-loop = search in
+    let a = s .args in (
+      λ d. subst (λ (w : Work). Drew d (a .numbers .now) w (a .before)) (sym (chords-some (a .circle) (a .from) (a .many) (d .some))) (d .far),
+      c .vertex .ensures,
+      refl,
+      omega arith,
+      λ e. refl,
+    )
+
+chords-left-requires : tie.Need-chords-left-requires Inv-loop μ-loop
+chords-left-requires c κs = search needs
+
+same-length : tie.Need-same-length Inv-loop μ-loop
+same-length c = let l : Loop = search in long l
+
+returns : tie.Need-returns Inv-loop μ-loop
+returns c =
+    let l : Loop = search in
+    let t : tie.Then1 Inv-loop μ-loop = search in
+    let a = entry l .args in
+    let w = c .chords-left .ensures in
+    let apart : l .loop .left ≡ a .many → ⊥ = λ e. omega (arith, l .loop .inv .4 e, t .if1 .taken, entry l .pre .1) in (
+      rw (w, chords-waiting (a .circle) (l .loop .next) (l .loop .left)) (omega (arith, apart, l .loop .inv .3)),
+      λ d. subst (λ (w : Work). Drew d (l .loop .numbers) w (l .loop .count)) (sym w) (far l d),
+    )
+
+add-next : tie.Need-add-next Inv-loop μ-loop
+add-next c = let l : Loop = search in record { fits = omega (arith, most (entry l), l .loop .inv .2, some c) }
+
+sub-left : tie.Need-sub-left Inv-loop μ-loop
+sub-left c = search needs
+
+vertex-requires-2 : tie.Need-vertex-requires-2 Inv-loop μ-loop
+vertex-requires-2 c κs = let l : Loop = search in let s = entry l in (rows-small s, known s .far .valid .work .0, s .pre .2)
+
+drawn-of-requires : tie.Need-drawn-of-requires Inv-loop μ-loop
+drawn-of-requires c κs =
+    let e : Turn = search in
+    let l = turn e in
+    let s = entry l in
+    let d = known s in
+    let i = l .loop .next in
+    let v = subst (λ (w : Work). Valid (whole (d .reader) (d .core) (d .store) w)) (chords-some (s .args .circle) i (l .loop .left) (some e)) (far l d .valid) in (
+      subst SmallRect (sym (d .limited)) (limits-small (d .far .valid .core .settings)),
+      subst SmallSegment (sym (drawn-chord c ∙ chord-waits (d .reader) (d .core) (d .store) (d .turned) (s .args .circle) i (l .loop .left) (some e))) (segment-small v),
+    )
+
+put-requires : tie.Need-put-requires Inv-loop μ-loop
+put-requires c κs = let e : Turn = search in let d = known (entry (turn e)) in far-fits (far (turn e) d) (free e d)
+
+loop-less : tie.Need-loop-less Inv-loop μ-loop
+loop-less c = let e : Turn = search in omega (arith, some e)
+
+loop-again : tie.Need-loop-again Inv-loop μ-loop
+loop-again c =
+    let e : Turn = search in
+    let x : tie.After-drawn-of Inv-loop μ-loop = search in
+    let u : tie.After-put Inv-loop μ-loop = search in
+    let l = turn e in
+    let s = entry l in
+    let o = s .args .circle in
+    let i = l .loop .next in
+    let n = l .loop .left in (
+      λ d.
+          far-chord (d .reader) (d .core) (d .store) (d .turned) (d .limited) (d .held) o i n (some e) (far l d) (free e d)
+          (x .drawn-of .ensures ∙ ap (drawnOf (s .args .limits) (s .args .pen)) (drawn-chord (x .before))) (u .put .ensures .1) (u .put .ensures .0),
+      x .before .vertex2 .ensures,
+      omega (arith, l .loop .inv .2, some e),
+      omega (arith, l .loop .inv .3),
+      λ h. absurd (omega (arith, h, l .loop .inv .3, some e)),
+    )
+
+chords-left-requires-2 : tie.Need-chords-left-requires-2 Inv-loop μ-loop
+chords-left-requires-2 c κs = search needs
+
+same-length-2 : tie.Need-same-length-2 Inv-loop μ-loop
+same-length-2 c = let l : Loop = search in long l
+
+returns-2 : tie.Need-returns-2 Inv-loop μ-loop
+returns-2 c =
+    let l : Loop = search in
+    let x : tie.After-loop Inv-loop μ-loop = search in
+    let a = entry l .args in
+    let w = c .chords-left2 .ensures in (
+      rw (w, chords-waiting (a .circle) (l .loop .next) (l .loop .left)) (omega (arith, x .loop-test .left, known (entry l) .some)),
+      λ d. subst (λ (w : Work). Drew d (l .loop .numbers) w (l .loop .count)) (sym w) (far l d),
+    )
+
+pub chords-spec : {M : Type 1} → statement M
+chords-spec =
+    tie.close
+    (tie.spec
+    Inv-loop
+    μ-loop
+    vertex-requires
+    loop-holds
+    chords-left-requires
+    same-length
+    returns
+    add-next
+    sub-left
+    vertex-requires-2
+    drawn-of-requires
+    put-requires
+    loop-less
+    loop-again
+    chords-left-requires-2
+    same-length-2
+    returns-2)
