@@ -3,17 +3,32 @@ use mathlib.Core.Path.{_≡_}
 use mathlib.Core.Bool.{Bool, true, false}
 use mathlib.Core.List.{List, []}
 use Prim.Native.Nat.{ℕ, _+_, _-_, _≤_, _<_}
-use lib.ListN.{length, take, drop}
-use Rattle.hpgl.specs.Feed.{Feed, feedFrom}
+use lib.ListN.{length, take, drop, replicate, length-replicate}
+use Rattle.hpgl.specs.Feed.{Feed, feedFrom, laid}
+use Rattle.hpgl.specs.declared.Stroke.{Stroke}
 use Rattle.hpgl.specs.PartsOfFeed.{storeAll}
 use Rattle.hpgl.specs.Made.{Made}
 use Rattle.machine.specs.declared.Machine.{Machine}
 use Rattle.feed.specs.declared.Fed.{Fed}
 use Rattle.feed.specs.declared.Batch.{Batch}
+use Rattle.feed.specs.declared.Listed.{Listed}
+use Rattle.feed.specs.Records.{noStroke}
 
 -- "Answer: bytes taken, strokes stored, number"
 abbrev pub fedOf : Feed → Fed
 fedOf f = record { machine = record { state = f .state }; taken = f .taken; stored = length (f .strokes); number = f .number }
+
+-- a list's records before anything is stored
+unfoldable pub blanks : List Stroke
+blanks = replicate 64 noStroke
+
+pub blanks-long : length blanks ≡ 64
+unfolding blanks
+blanks-long = length-replicate 64 noStroke
+
+-- the answer with the list itself: the strokes, and after them records that hold nothing
+abbrev pub listedOf : Feed → Listed
+listedOf f = record { list = laid (f .strokes) blanks; fed = fedOf f }
 
 -- nothing is fed yet
 abbrev pub start : Machine → Fed

@@ -7,7 +7,7 @@ ghost use lib.ListN.{length, take};
 ghost use Rattle.hpgl.specs.Numbers.{listFull};
 ghost use Rattle.hpgl.specs.Feed.{feedOf, laid};
 ghost use Rattle.hpgl.specs.Made.{Made};
-ghost use Rattle.feed.specs.Fed.{fedOf, start, Batched};
+ghost use Rattle.feed.specs.Fed.{fedOf, start, Batched, blanks, listedOf};
 ghost use Rattle.feed.specs.Records.{strokeAt, strokesOf, PenAt, PensBefore};
 use basics::numbers::LIST_FULL;
 use hpgl::Stroke;
@@ -37,7 +37,7 @@ struct Batch {
 
 // Records that hold nothing yet.
 fn blank() -> [Stroke; 64]
-    ensures { λ r. ⌜ length r ≡ 64 ⌝ }
+    ensures { λ r. ⌜ r ≡ blanks ⌝ }
 {
     [Stroke {
         pen: 0,
@@ -176,5 +176,24 @@ pub fn feed(machine: Machine, bytes: &[u8], out: &mut [Stroke]) -> Fed
         } else {
             return b.fed;
         }
+    }
+}
+
+// A list of records by value, and the answer of a feed into it.
+pub struct Listed {
+    pub list: [Stroke; 64],
+    pub fed: Fed,
+}
+
+// A feed into a list of its own, for a caller that has no records to lend: such a caller is covered by the prover.
+pub fn feed_list(machine: Machine, bytes: &[u8]) -> Listed
+    requires { ⌜ Made (machine .state) ⌝ }
+    ensures { λ r. ⌜ r ≡ listedOf (feedOf (machine .state) (now (bytes .entry)) 64) ⌝ }
+{
+    let mut list = blank();
+    let fed = feed(machine, bytes, &mut list);
+    Listed {
+        list: list,
+        fed: fed,
     }
 }

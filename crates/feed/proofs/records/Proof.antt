@@ -9,6 +9,7 @@ use lib.IntN.{ℤ}
 use lib.ListN.{length, take, set, length-set}
 use lib.Seq.{take-suc-set}
 use Rattle.hpgl.specs.declared.Stroke.{Stroke}
+use Rattle.feed.specs.Fed.{blanks-long}
 use Rattle.feed.specs.Records.{strokeAt, strokesOf}
 use Rattle.feed.proofs.records.Statement.{statement}
 use Rattle.feed.proofs.records.Tie as tie
@@ -32,7 +33,7 @@ blank-requires c κs = search needs
 
 loop-holds : tie.Need-loop-holds Inv-loop μ-loop
 unfolding strokesOf
-loop-holds c = (omega arith, (c .blank .ensures, refl))
+loop-holds c = (omega arith, (ap length (c .blank .ensures) ∙ blanks-long, refl))
 
 stroke-at-requires : tie.Need-stroke-at-requires Inv-loop μ-loop
 stroke-at-requires c κs =
