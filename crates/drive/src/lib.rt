@@ -84,7 +84,7 @@ fn ends_inside(s: Stroke) -> bool
 }
 
 // The stroke is a dot.
-fn ends_equal(s: Stroke) -> bool
+pub fn ends_equal(s: Stroke) -> bool
     ensures { λ r. ⌜ r ≡ endsEqualOf s ⌝ }
 {
     if s.x0 != s.x1 {

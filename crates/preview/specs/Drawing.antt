@@ -1,21 +1,41 @@
 -- How far a drawing is, after a feed and at the start of a block.
-use mathlib.Core.Bool.{Bool, true, not}
-use Prim.Native.Nat.{ℕ}
+use mathlib.Core.Bool.{true, not, cond}
+use mathlib.Core.List.{List, [], _∷_}
+use Prim.Native.Nat.{ℕ, _+_}
 use lib.Dec.{eqb}
-use Rattle.machine.specs.declared.Gathered.{Gathered}
+use lib.ListN.{take, drop}
+use Rattle.hpgl.specs.declared.Stroke.{Stroke}
+use Rattle.hpgl.specs.Feed.{feedOf}
+use Rattle.drive.specs.Drive.{endsEqualOf}
+use Rattle.feed.specs.declared.Listed.{Listed}
+use Rattle.feed.specs.Fed.{listedOf}
 use Rattle.desk.specs.Sums.{added}
 use Rattle.preview.specs.declared.strokes.Drawing.{Drawing}
 use Rattle.preview.specs.Refusals.{notedOf}
 
-abbrev pub afterOf : Drawing → Gathered → Drawing
-afterOf d g = record {
-  machine = g .machine;
+-- "one dot if its ends are equal"
+unfoldable pub dotCount : Stroke → ℕ
+dotCount s = cond (endsEqualOf s) 1 0
+
+unfoldable pub dotsOf : List Stroke → ℕ
+dotsOf [] = 0
+dotsOf (s ∷ ss) = dotCount s + dotsOf ss
+
+-- feed counts the bytes from the place on
+abbrev pub afterOf : Drawing → Listed → Drawing
+afterOf d l = record {
+  machine = l .fed .machine;
   before = d .before;
-  at = g .at;
-  strokes = added (d .strokes) (g .stored);
-  refusals = notedOf (d .refusals) (g .number) (added (d .before) (g .at));
-  more = not (eqb (g .number) 0);
+  at = d .at + l .fed .taken;
+  strokes = added (d .strokes) (l .fed .stored);
+  dots = added (d .dots) (dotsOf (take (l .fed .stored) (l .list)));
+  refusals = notedOf (d .refusals) (l .fed .number) (added (d .before) (d .at + l .fed .taken));
+  more = not (eqb (l .fed .number) 0);
 }
 
+-- a feed of what is left of a block
+abbrev pub stepOf : Drawing → List ℕ → Drawing
+stepOf d block = afterOf d (listedOf (feedOf (d .machine .state) (drop (d .at) block) 64))
+
 abbrev pub begunOf : Drawing → ℕ → Drawing
-begunOf d before = record { machine = d .machine; before = before; at = 0; strokes = d .strokes; refusals = d .refusals; more = true }
+begunOf d before = record { machine = d .machine; before = before; at = 0; strokes = d .strokes; dots = d .dots; refusals = d .refusals; more = true }

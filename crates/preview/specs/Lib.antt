@@ -1,3 +1,4 @@
 pub mod Refusals
 pub mod Drawing
 pub mod Sheet
+pub mod DrawingLaws

@@ -14,7 +14,7 @@ letterOf width height = (width + height) / 160 + 1
 abbrev pub lineOf : ℕ → ℕ
 lineOf letter = letter * 3 / 2
 
--- three letters around the sheet, and as many before the text; a text has room for 62 letters and 48 lines
+-- a dot is a third wider than a letter is high; three letters around the sheet, and as many before the text; a text has room for 62 letters and 48 lines
 abbrev pub laidOut : ℤ → ℤ → ℕ → ℕ → ℕ → Sheet
 laidOut left bottom width height letter = record {
   left = left;
@@ -23,6 +23,7 @@ laidOut left bottom width height letter = record {
   height = height;
   letter = letter;
   line = lineOf letter;
+  dot = letter * 2 / 3 + 1;
   margin = letter * 3;
   base = letter * 3 + height;
   column = width + letter * 6;

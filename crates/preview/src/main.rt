@@ -22,9 +22,9 @@ fn page(machine: Machine, s: Sheet)
     requires { ⌜ Made (machine .state) ⌝ }
 {
     head(s);
-    let p = paint(machine);
+    let p = paint(machine, s.dot);
     say(b"</svg></g>\n");
-    list(s, p.refusals, p.strokes);
+    list(s, p.refusals, p.strokes, p.dots);
     if !say(b"</g></svg>\n") {
         os::fail(b"preview: standard output");
     }

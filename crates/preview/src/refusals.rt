@@ -91,13 +91,16 @@ fn rows(s: Sheet, r: Refusals, from: u64) -> u64 {
     y
 }
 
-// What stands beside the sheet: how many strokes and refusals there are, and the first of these.
-pub fn list(s: Sheet, r: Refusals, strokes: u64) {
+// What stands beside the sheet: how many strokes, dots among them, and refusals there are, and the first of these.
+pub fn list(s: Sheet, r: Refusals, strokes: u64, dots: u64) {
     row(s, s.margin);
-    say_natural(strokes, b' ');
-    say(b"strokes, ");
-    say_natural(r.count, b' ');
-    say(b"refusals</text>\n");
+    say(b"strokes: ");
+    say_natural(strokes, b',');
+    say(b" of them dots: ");
+    say_natural(dots, b',');
+    say(b" refusals: ");
+    say_natural(r.count, b'<');
+    say(b"/text>\n");
     let first = sum(s.margin, sum(s.line, s.line));
     let end = rows(s, r, first);
     if r.count > 40 {

@@ -7,8 +7,8 @@ use desk::say;
 use desk::say_natural;
 use desk::say_whole;
 
-// Where the sheet begins, and how wide and high it is; the height of a letter, and from line to line; where sheet and text stand on the page; and
-// how many millimetres the page has.
+// Where the sheet begins, and how wide and high it is; the height of a letter, from line to line, and from the middle of a dot to its edge; where
+// sheet and text stand on the page; and how many millimetres the page has.
 pub struct Sheet {
     pub left: i64,
     pub bottom: i64,
@@ -16,6 +16,7 @@ pub struct Sheet {
     pub height: u64,
     pub letter: u64,
     pub line: u64,
+    pub dot: u64,
     pub margin: u64,
     pub base: u64,
     pub column: u64,
@@ -64,6 +65,7 @@ pub fn sheet_of(left: i64, bottom: i64, right: i64, top: i64) -> Sheet
         height: height,
         letter: letter,
         line: line,
+        dot: letter * 2 / 3 + 1,
         margin: letter * 3,
         base: letter * 3 + height,
         column: width + letter * 6,
@@ -72,12 +74,14 @@ pub fn sheet_of(left: i64, bottom: i64, right: i64, top: i64) -> Sheet
     }
 }
 
-// The colours of the pens, and what strokes, frame and text look like.
+// The colours of the pens, and what lines, dots, frame and text look like. A dot has a white rim, to be seen on a line.
 fn style(s: Sheet) {
-    say(b"<style>path{fill:none;stroke-linecap:round;stroke-width:");
+    say(b"<style>path{fill:none;stroke:currentColor;stroke-linecap:round;stroke-width:");
     say_natural(s.letter / 8 + 1, b'}');
-    say(b"\n.p1{stroke:#000000}.p2{stroke:#d00000}.p3{stroke:#0040d0}.p4{stroke:#d0a000}\n");
-    say(b".p5{stroke:#00902a}.p6{stroke:#c000c0}.p7{stroke:#00a0b0}.p8{stroke:#804000}\n");
+    say(b"\ncircle{fill:currentColor;stroke:#ffffff;stroke-width:");
+    say_natural(s.letter / 8 + 1, b'}');
+    say(b"\n.p1{color:#000000}.p2{color:#d00000}.p3{color:#0040d0}.p4{color:#d0a000}\n");
+    say(b".p5{color:#00902a}.p6{color:#c000c0}.p7{color:#00a0b0}.p8{color:#804000}\n");
     say(b"rect{fill:none;stroke:#909090;stroke-width:");
     say_natural(s.letter / 12 + 1, b'}');
     say(b"\ntext{font-family:monospace;fill:#202020;font-size:");

@@ -1,31 +1,37 @@
-// The strokes of standard input, each a line of the picture. Feed gives them, in lists of at most 256.
-ghost use Prim.Native.Nat.{_*_, _+_, _≤_};
-ghost use lib.ListN.{length};
+// The strokes of standard input, each a line or a dot of the picture. Feed gives them, in lists of at most 64.
+ghost use Prim.Native.Nat.{_+_, _≤_};
+ghost use lib.ListN.{length, take};
 ghost use mathlib.Core.Path.{_≡_};
+ghost use Rattle.desk.specs.Sums.{largest};
 ghost use Rattle.hpgl.specs.Made.{Made};
-ghost use Rattle.preview.specs.Drawing.{afterOf, begunOf};
+ghost use Rattle.preview.specs.Drawing.{dotCount, dotsOf, afterOf, stepOf, begunOf};
 use super::refusals::Refusals;
 use super::refusals::none;
 use super::refusals::noted;
 use desk::sum;
+use drive::ends_equal;
+use feed::Listed;
+use feed::feed_list;
+use hpgl::Stroke;
 use libc::STDIN_FILENO;
-use machine::Gathered;
 use machine::Machine;
 use text::flush;
 use text::put_byte;
 use text::put_bytes;
+use text::put_natural;
 use text::put_whole;
 
 // A proved loop has to end: these go round so often at most, which no input uses up.
 const TURNS: u64 = 0x800000000000;
 
-// How far the drawing is: the machine, the bytes before the block, the place in it, the strokes painted, what was refused, and whether some of the
-// block is left.
+// How far the drawing is: the machine, the bytes before the block, the place in it, the strokes painted, the dots among them, what was refused, and
+// whether some of the block is left.
 struct Drawing {
     machine: Machine,
     before: u64,
     at: usize,
     strokes: u64,
+    dots: u64,
     refusals: Refusals,
     more: bool,
 }
@@ -33,73 +39,120 @@ struct Drawing {
 // A whole input.
 pub struct Painted {
     pub strokes: u64,
+    pub dots: u64,
     pub refusals: Refusals,
     pub unread: bool,
 }
 
-// The i-th five numbers, as a line of the picture: a stroke of no length is a dot, by its round ends.
-fn element(text: &mut [u8; 65536], used: usize, numbers: &[i64], i: usize) -> usize
-    requires { ⌜ i * 5 + 5 ≤ length (now numbers) ⌝ }
-{
-    let k = i * 5;
-    let pen = numbers[k];
-    let x0 = numbers[k + 1];
-    let y0 = numbers[k + 2];
-    let x1 = numbers[k + 3];
-    let y1 = numbers[k + 4];
+// A line of the picture.
+fn line(text: &mut [u8; 65536], used: usize, s: Stroke) -> usize {
     let mut end = put_bytes(text, used, b"<path class=\"p");
-    end = put_whole(text, end, pen);
+    end = put_natural(text, end, s.pen as u64);
     end = put_bytes(text, end, b"\" d=\"M");
-    end = put_whole(text, end, x0);
+    end = put_whole(text, end, s.x0);
     end = put_byte(text, end, b' ');
-    end = put_whole(text, end, y0);
+    end = put_whole(text, end, s.y0);
     end = put_byte(text, end, b'L');
-    end = put_whole(text, end, x1);
+    end = put_whole(text, end, s.x1);
     end = put_byte(text, end, b' ');
-    end = put_whole(text, end, y1);
+    end = put_whole(text, end, s.y1);
     put_bytes(text, end, b"\"/>\n")
 }
 
+// A stroke of no length: a line of it would be too small to be found.
+fn dot(text: &mut [u8; 65536], used: usize, s: Stroke, radius: u64) -> usize {
+    let mut end = put_bytes(text, used, b"<circle class=\"p");
+    end = put_natural(text, end, s.pen as u64);
+    end = put_bytes(text, end, b"\" cx=\"");
+    end = put_whole(text, end, s.x0);
+    end = put_bytes(text, end, b"\" cy=\"");
+    end = put_whole(text, end, s.y0);
+    end = put_bytes(text, end, b"\" r=\"");
+    end = put_natural(text, end, radius);
+    put_bytes(text, end, b"\"/>\n")
+}
+
+fn element(text: &mut [u8; 65536], used: usize, s: Stroke, radius: u64) -> usize {
+    if ends_equal(s) {
+        return dot(text, used, s, radius);
+    }
+    line(text, used, s)
+}
+
 // The first strokes of a list.
-fn elements(text: &mut [u8; 65536], numbers: &[i64], count: usize)
-    requires { ⌜ count * 5 ≤ length (now numbers) ⌝ }
+fn elements(text: &mut [u8; 65536], list: [Stroke; 64], count: usize, radius: u64)
+    requires { ⌜ count ≤ 64 ⌝ }
 {
     let mut used = 0;
     let mut i = 0;
     while i < count {
-        used = element(text, used, numbers, i);
+        let s = list[i];
+        used = element(text, used, s, radius);
         i += 1;
     }
     flush(text, used);
 }
 
-// What a feed leaves: its strokes are counted, and a byte that was refused is kept.
-fn after(d: Drawing, g: Gathered) -> Drawing
-    ensures { λ r. ⌜ r ≡ afterOf d g ⌝ }
+// One for a dot.
+fn dot_count(s: Stroke) -> u64
+    ensures { λ r. ⌜ r ≡ dotCount s ⌝ }
 {
-    let machine = g.machine;
+    if ends_equal(s) {
+        return 1;
+    }
+    0
+}
+
+// The dots among the first strokes of a list.
+fn dots_of(list: [Stroke; 64], count: usize) -> u64
+    requires { ⌜ count ≤ 64 ⌝ }
+    ensures { λ r. ⌜ r ≡ dotsOf (take count list) ⌝ }
+{
+    let mut dots = 0;
+    let mut i = 0;
+    while i < count {
+        let s = list[i];
+        dots += dot_count(s);
+        i += 1;
+    }
+    dots
+}
+
+// What a feed of the block from its place on leaves: its strokes are counted, and a byte that was refused is kept.
+fn after(d: Drawing, l: Listed) -> Drawing
+    requires { ⌜ (l .fed .stored ≤ 64) × (d .at + l .fed .taken ≤ largest) ⌝ }
+    ensures { λ r. ⌜ r ≡ afterOf d l ⌝ }
+{
+    let fed = l.fed;
+    let machine = fed.machine;
     let refused = d.refusals;
-    let place = sum(d.before, g.at as u64);
+    let list = l.list;
+    let dots = dots_of(list, fed.stored);
+    let at = d.at + fed.taken;
+    let place = sum(d.before, at as u64);
     Drawing {
         machine: machine,
         before: d.before,
-        at: g.at,
-        strokes: sum(d.strokes, g.stored as u64),
-        refusals: noted(refused, g.number, place),
-        more: g.number != 0,
+        at: at,
+        strokes: sum(d.strokes, fed.stored as u64),
+        dots: sum(d.dots, dots),
+        refusals: noted(refused, fed.number, place),
+        more: fed.number != 0,
     }
 }
 
 // One feed.
-fn step(d: Drawing, block: &[u8], numbers: &mut [i64], text: &mut [u8; 65536]) -> Drawing
+fn step(d: Drawing, block: &[u8], text: &mut [u8; 65536], radius: u64) -> Drawing
     requires { ⌜ Made (d .machine .state) ⌝ }
-    requires { ⌜ length (now numbers) ≡ 1280 ⌝ }
-    ensures { λ r. ⌜ Made (r .machine .state) ⌝ }
+    requires { ⌜ d .at ≤ length (now block) ⌝ }
+    ensures { λ r. ⌜ r ≡ stepOf d (now (block .entry)) ⌝ }
 {
     let machine = d.machine;
-    let g = machine.gather(block, d.at, numbers);
-    elements(text, numbers, g.stored);
-    after(d, g)
+    let at = d.at;
+    let l = feed_list(machine, &block[at..]);
+    let list = l.list;
+    elements(text, list, l.fed.stored, radius);
+    after(d, l)
 }
 
 // The next block begins, with so many bytes before it.
@@ -113,32 +166,32 @@ fn begun(d: Drawing, before: u64) -> Drawing
         before: before,
         at: 0,
         strokes: d.strokes,
+        dots: d.dots,
         refusals: refused,
         more: true,
     }
 }
 
-// A block.
-fn paint_block(d: Drawing, block: &[u8]) -> Drawing
+// A block, with so many bytes before it.
+fn paint_block(d: Drawing, before: u64, block: &[u8], radius: u64) -> Drawing
     requires { ⌜ Made (d .machine .state) ⌝ }
     ensures { λ r. ⌜ Made (r .machine .state) ⌝ }
 {
-    let mut numbers = [0; 1280];
     let mut text = io::large_buffer();
-    let mut q = d;
+    let mut q = begun(d, before);
     let mut turns = TURNS;
     while turns > 0 {
         if !q.more {
-            return begun(q, sum(q.before, block.len() as u64));
+            return q;
         }
-        q = step(q, block, &mut numbers, &mut text);
+        q = step(q, block, &mut text, radius);
         turns -= 1;
     }
     q
 }
 
 // Paints standard input to its end.
-pub fn paint(machine: Machine) -> Painted
+pub fn paint(machine: Machine, radius: u64) -> Painted
     requires { ⌜ Made (machine .state) ⌝ }
 {
     let mut block = io::large_buffer();
@@ -147,9 +200,11 @@ pub fn paint(machine: Machine) -> Painted
         before: 0,
         at: 0,
         strokes: 0,
+        dots: 0,
         refusals: none(),
         more: true,
     };
+    let mut before = 0;
     let mut turns = TURNS;
     let mut unread = false;
     while turns > 0 {
@@ -162,12 +217,14 @@ pub fn paint(machine: Machine) -> Painted
         if n == 0 {
             break;
         }
-        d = paint_block(d, &block[..n]);
+        d = paint_block(d, before, &block[..n], radius);
+        before = sum(before, n as u64);
         turns -= 1;
     }
     let refused = d.refusals;
     Painted {
         strokes: d.strokes,
+        dots: d.dots,
         refusals: refused,
         unread: unread,
     }

@@ -33,26 +33,32 @@ mul-line c = search needs
 mul-t10 : tie.Need-mul-t10
 mul-t10 c = search needs
 
-mul-t9 : tie.Need-mul-t9
-mul-t9 c = search needs
-
 add-t11 : tie.Need-add-t11
 add-t11 c = search needs
 
 mul-t12 : tie.Need-mul-t12
 mul-t12 c = search needs
 
-add-t13 : tie.Need-add-t13
-add-t13 c = search needs
+mul-t13 : tie.Need-mul-t13
+mul-t13 c = search needs
 
-mul-t14 : tie.Need-mul-t14
-mul-t14 c = search needs
+add-t14 : tie.Need-add-t14
+add-t14 c = search needs
 
-add-t15 : tie.Need-add-t15
-add-t15 c = search needs
+mul-t15 : tie.Need-mul-t15
+mul-t15 c = search needs
 
-add-t17 : tie.Need-add-t17
-add-t17 c = search needs
+add-t16 : tie.Need-add-t16
+add-t16 c = search needs
+
+mul-t17 : tie.Need-mul-t17
+mul-t17 c = search needs
+
+add-t18 : tie.Need-add-t18
+add-t18 c = search needs
+
+add-t20 : tie.Need-add-t20
+add-t20 c = search needs
 
 mul-larger : tie.Need-mul-larger
 mul-larger c = search needs
@@ -60,14 +66,14 @@ mul-larger c = search needs
 larger-requires : tie.Need-larger-requires
 larger-requires c κs = search needs
 
-mul-t20 : tie.Need-mul-t20
-mul-t20 c = search needs
+mul-t23 : tie.Need-mul-t23
+mul-t23 c = search needs
 
-add-t21 : tie.Need-add-t21
-add-t21 c = search needs
+add-t24 : tie.Need-add-t24
+add-t24 c = search needs
 
-add-t23 : tie.Need-add-t23
-add-t23 c = search needs
+add-t26 : tie.Need-add-t26
+add-t26 c = search needs
 
 -- from limit to limit
 across : (c : tie.After-smaller) → let s = c .before .before in c .smaller .result ≡ span (s .args .left) (s .args .right)
@@ -104,16 +110,18 @@ sheet-of-spec =
     add-letter-2
     mul-line
     mul-t10
-    mul-t9
     add-t11
     mul-t12
-    add-t13
-    mul-t14
-    add-t15
-    add-t17
+    mul-t13
+    add-t14
+    mul-t15
+    add-t16
+    mul-t17
+    add-t18
+    add-t20
     mul-larger
     larger-requires
-    mul-t20
-    add-t21
-    add-t23
+    mul-t23
+    add-t24
+    add-t26
     returns)

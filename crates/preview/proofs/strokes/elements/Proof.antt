@@ -1,17 +1,23 @@
--- The loop has put the lines of i strokes.
+-- The loop has put i strokes.
 use borrow.Author.Needs.{needs}
 use Prim.Native.Nat.{_≤_, _-_}
 use Rattle.preview.proofs.strokes.elements.Statement.{statement}
 use Rattle.preview.proofs.strokes.elements.Tie as tie
 
 abbrev Inv-loop : tie.InvT-loop
-Inv-loop text₀ numbers count used₀ i₀ text used i = (i ≤ count)
+Inv-loop text₀ count radius list used₀ i₀ text used i = (i ≤ count)
 
 abbrev μ-loop : tie.MeasureT-loop
-μ-loop text₀ numbers count used₀ i₀ text used i = count - i
+μ-loop text₀ count radius list used₀ i₀ text used i = count - i
 
 loop-holds : tie.Need-loop-holds Inv-loop μ-loop
 loop-holds c = search needs
+
+mul-s : tie.Need-mul-s Inv-loop μ-loop
+mul-s c = search needs
+
+array-copy-out-s : tie.Need-array-copy-out-s Inv-loop μ-loop
+array-copy-out-s c = search needs
 
 element-requires : tie.Need-element-requires Inv-loop μ-loop
 element-requires c κs = search needs
@@ -38,6 +44,8 @@ elements-spec =
     Inv-loop
     μ-loop
     loop-holds
+    mul-s
+    array-copy-out-s
     element-requires
     add-i
     loop-less

@@ -8,10 +8,10 @@ use Rattle.preview.proofs.strokes.paint.Statement.{statement}
 use Rattle.preview.proofs.strokes.paint.Tie as tie
 
 abbrev Inv-loop : tie.InvT-loop
-Inv-loop block₀ d₀ turns₀ unread₀ block d turns unread = (65536 ≡ length block) × Made (d .machine .state)
+Inv-loop radius block₀ d₀ before₀ turns₀ unread₀ block d before turns unread = (65536 ≡ length block) × Made (d .machine .state)
 
 abbrev μ-loop : tie.MeasureT-loop
-μ-loop block₀ d₀ turns₀ unread₀ block d turns unread = turns
+μ-loop radius block₀ d₀ before₀ turns₀ unread₀ block d before turns unread = turns
 
 large-buffer-requires : tie.Need-large-buffer-requires Inv-loop μ-loop
 large-buffer-requires c κs = search needs
@@ -46,6 +46,9 @@ slice-aggregate-paint-block c = search needs
 paint-block-requires : tie.Need-paint-block-requires Inv-loop μ-loop
 paint-block-requires c κs = let l : tie.At-loop Inv-loop μ-loop = search in l .loop .inv .1
 
+sum-requires : tie.Need-sum-requires Inv-loop μ-loop
+sum-requires c κs = search needs
+
 sub-turns : tie.Need-sub-turns Inv-loop μ-loop
 sub-turns c = let t : tie.In-loop Inv-loop μ-loop = search in omega (arith, t .loop-test .taken)
 
@@ -78,6 +81,7 @@ paint-spec =
     array-share-prefix-block
     slice-aggregate-paint-block
     paint-block-requires
+    sum-requires
     sub-turns
     loop-less
     loop-again

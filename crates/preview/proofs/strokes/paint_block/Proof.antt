@@ -1,38 +1,34 @@
--- Each feed takes one of so many turns.
+-- Each feed takes one of so many turns, and leaves a machine that may be used and a place of the block.
 use borrow.Author.Needs.{needs}
-use mathlib.Core.Path.{_≡_, sym, _∙_}
+use Prim.Native.Nat.{_≤_}
 use native.Mathlib.Omega.{arith}
+use denote.Ref.{now}
 use lib.ListN.{length}
 use Rattle.hpgl.specs.Made.{Made}
+use Rattle.preview.specs.DrawingLaws.{step-made, step-within}
 use Rattle.preview.proofs.strokes.paint_block.Statement.{statement}
 use Rattle.preview.proofs.strokes.paint_block.Tie as tie
 
 abbrev Inv-loop : tie.InvT-loop
-Inv-loop block numbers₀ text₀ q₀ turns₀ numbers text q turns = Made (q .machine .state) × (1280 ≡ length numbers)
+Inv-loop before block radius text₀ q₀ turns₀ text q turns = Made (q .machine .state) × (q .at ≤ length block)
 
 abbrev μ-loop : tie.MeasureT-loop
-μ-loop block numbers₀ text₀ q₀ turns₀ numbers text q turns = turns
+μ-loop before block radius text₀ q₀ turns₀ text q turns = turns
 
 large-buffer-requires : tie.Need-large-buffer-requires Inv-loop μ-loop
 large-buffer-requires c κs = tt
 
-loop-holds : tie.Need-loop-holds Inv-loop μ-loop
-loop-holds c = let s : tie.Start Inv-loop μ-loop = search in (s .pre, search needs)
-
-sum-requires : tie.Need-sum-requires Inv-loop μ-loop
-sum-requires c κs = search needs
-
 begun-requires : tie.Need-begun-requires Inv-loop μ-loop
 begun-requires c κs = search needs
 
-returns : tie.Need-returns Inv-loop μ-loop
-returns c = let l : tie.At-loop Inv-loop μ-loop = search in rw (c .begun .ensures) (l .loop .inv .0)
+loop-holds : tie.Need-loop-holds Inv-loop μ-loop
+loop-holds c = let s : tie.Start Inv-loop μ-loop = search in rw (c .begun .ensures) (s .pre, omega arith)
 
-slice-aggregate-step : tie.Need-slice-aggregate-step Inv-loop μ-loop
-slice-aggregate-step c = search needs
+returns : tie.Need-returns Inv-loop μ-loop
+returns c = let l : tie.At-loop Inv-loop μ-loop = search in l .loop .inv .0
 
 step-requires : tie.Need-step-requires Inv-loop μ-loop
-step-requires c κs = let l : tie.At-loop Inv-loop μ-loop = search in (l .loop .inv .0, sym (l .loop .inv .1))
+step-requires c κs = let l : tie.At-loop Inv-loop μ-loop = search in l .loop .inv
 
 sub-turns : tie.Need-sub-turns Inv-loop μ-loop
 sub-turns c = omega arith
@@ -43,8 +39,9 @@ loop-less c = omega arith
 loop-again : tie.Need-loop-again Inv-loop μ-loop
 loop-again c =
     let l : tie.At-loop Inv-loop μ-loop = search in
-    let t : tie.After-step Inv-loop μ-loop = search in
-    (t .step .ensures, l .loop .inv .1 ∙ sym (t .step .kept .1 .1 .0))
+    let s : tie.Start Inv-loop μ-loop = search in
+    let k : tie.After-shared-slice-known Inv-loop μ-loop = search in
+    rw (c .step .ensures) (step-made (l .loop .q) (now (s .args .block)) (λ i. k .shared-slice-known .given i .fits) (l .loop .inv .0), step-within (l .loop .q) (now (s .args .block)) (l .loop .inv .1))
 
 returns-2 : tie.Need-returns-2 Inv-loop μ-loop
 returns-2 c = let l : tie.At-loop Inv-loop μ-loop = search in l .loop .inv .0
@@ -56,11 +53,9 @@ paint-block-spec =
     Inv-loop
     μ-loop
     large-buffer-requires
-    loop-holds
-    sum-requires
     begun-requires
+    loop-holds
     returns
-    slice-aggregate-step
     step-requires
     sub-turns
     loop-less

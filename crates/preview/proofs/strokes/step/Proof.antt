@@ -1,51 +1,69 @@
--- A feed stores no more strokes than there is room for, and leaves a machine that may be used.
+-- A feed of what is left of the block stores no more strokes than there is room for, and takes no byte past the end.
 use borrow.Author.Needs.{needs}
-use mathlib.Core.Path.{_≡_, sym, ap, _∙_, subst}
-use Prim.Native.Nat.{ℕ, _+_, _/_, _≤_}
+use mathlib.Core.Path.{_≡_, sym, ap, _∙_}
+use mathlib.Core.List.{List}
+use Prim.Native.Nat.{ℕ, _-_, _≤_, _<_, _^_}
 use native.Mathlib.Omega.{arith}
 use denote.Ref.{now}
-use lib.ListN.{length, drop}
-use lib.Seq.{getD-drop}
-use Rattle.hpgl.specs.Made.{Made}
-use Rattle.hpgl.specs.Feed.{feedFrom}
-use Rattle.hpgl.specs.FeedLaws.{feed-made, feed-stored}
-use Rattle.machine.specs.declared.Machine.{Machine}
+use lib.ListN.{length, take, drop, length-drop}
+use lib.Seq.{take-length}
+use Rattle.hpgl.specs.Feed.{feedOf}
+use Rattle.hpgl.specs.FeedLaws.{feed-stored}
+use Rattle.feed.specs.Fed.{listedOf}
+use Rattle.preview.specs.Drawing.{afterOf}
+use Rattle.preview.specs.DrawingLaws.{step-within}
 use Rattle.preview.proofs.strokes.step.Statement.{statement}
 use Rattle.preview.proofs.strokes.step.Tie as tie
 
-few : (c : tie.After-gather) → c .gather .result .stored ≤ 256
-few c =
+sub-feed-list : tie.Need-sub-feed-list
+sub-feed-list c = search needs
+
+part-feed-list-start : tie.Need-part-feed-list-start
+part-feed-list-start c = search needs
+
+part-feed-list-end : tie.Need-part-feed-list-end
+part-feed-list-end c = search needs
+
+feed-list-requires : tie.Need-feed-list-requires
+feed-list-requires c κs = search needs
+
+-- from the place on, to the end
+to-end : (at : ℕ) (block : List ℕ) → take (length block - at) (drop at block) ≡ drop at block
+to-end at block = ap (λ (k : ℕ). take k (drop at block)) (sym (length-drop at block)) ∙ take-length (drop at block)
+
+listed : (c : tie.After-feed-list) → let s = c .before .before .before .before in
+    c .feed-list .result ≡ listedOf (feedOf (s .args .d .machine .state) (drop (s .args .d .at) (now (s .args .block))) 64)
+listed c =
     let s = c .before .before .before .before in
-    let r : length (now (s .args .numbers)) / 5 ≡ 256 = ap (λ (n : ℕ). n / 5) (s .pre .1) in
-    rw (c .gather .ensures .0) (omega (arith, r, feed-stored (s .args .d .machine .state) (drop (s .args .d .at) (now (s .args .block))) (s .args .d .at) (length (now (s .args .numbers)) / 5)))
+    c .feed-list .ensures ∙ ap (λ (bs : List ℕ). listedOf (feedOf (s .args .d .machine .state) bs 64)) (to-end (s .args .d .at) (now (s .args .block)))
 
-made : (c : tie.After-gather) → Made (c .gather .result .machine .state)
-made c =
-    let k = c .before .before .before in
-    let s = k .before in
-    let d = s .args .d in
-    rw (c .gather .ensures .0)
-    (feed-made (d .machine .state) (drop (d .at) (now (s .args .block))) (d .at) (length (now (s .args .numbers)) / 5)
-    (λ i. rw (getD-drop (d .at) (now (s .args .block)) i 0) (k .shared-slice-known .given (d .at + i) .fits)) (s .pre .0))
-
-gather-requires : tie.Need-gather-requires
-gather-requires c κs = search needs
+few : (c : tie.After-feed-list) → c .feed-list .result .fed .stored ≤ 64
+few c = rw (listed c) (feed-stored _ _ 0 64)
 
 elements-requires : tie.Need-elements-requires
-elements-requires c κs =
-    let s : tie.Start = search in
-    let g : tie.After-gather = search in
-    omega (arith, few g, s .pre .1, g .gather .kept .1 .1 .1 .0)
+elements-requires c κs = let l : tie.After-feed-list = search in few l
 
 after-requires : tie.Need-after-requires
-after-requires c κs = search needs
-
-same-length : tie.Need-same-length
-same-length c = search needs
+after-requires c κs =
+    let l : tie.After-feed-list = search in
+    let s : tie.Start = search in
+    let long : length (now (s .args .block)) < 2 ^ 64 = search needs in
+    (few l, rw (listed l) (omega (arith, step-within (s .args .d) (now (s .args .block)) (s .pre .1), long)))
 
 returns : tie.Need-returns
-returns c = let g : tie.After-gather = search in rw (c .after .ensures) (made g)
+returns c =
+    let l : tie.After-feed-list = search in
+    let s : tie.Start = search in
+    c .after .ensures ∙ ap (afterOf (s .args .d)) (listed l)
 
 pub step-spec : {M : Type 1} → statement M
 step-spec =
-    tie.close (tie.spec gather-requires elements-requires after-requires same-length returns)
+    tie.close
+    (tie.spec
+    sub-feed-list
+    part-feed-list-start
+    part-feed-list-end
+    feed-list-requires
+    elements-requires
+    after-requires
+    returns)
