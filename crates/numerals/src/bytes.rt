@@ -66,20 +66,20 @@ pub fn is_digit(byte: u8) -> bool
     byte <= b'9'
 }
 
-// The class of a byte. Digits come first: most bytes of a drawing are digits.
+// The class of a byte. Those below the letters come first, and of letters the capitals: with so few tests most names are told.
 pub fn class_of(byte: u8) -> Class
     ensures { λ r. ⌜ r ≡ classOf byte ⌝ }
 {
-    if byte < b'0' {
-        return low_class(byte);
-    }
-    if byte <= b'9' {
-        return Class::Digit(byte - b'0');
-    }
-    if byte == b';' {
-        return Class::Semicolon;
-    }
     if byte < b'A' {
+        if byte < b'0' {
+            return low_class(byte);
+        }
+        if byte == b';' {
+            return Class::Semicolon;
+        }
+        if byte <= b'9' {
+            return Class::Digit(byte - b'0');
+        }
         return Class::Other;
     }
     if byte <= b'Z' {

@@ -4,7 +4,7 @@ ghost use Prim.Native.Nat.{_≤_};
 ghost use lib.ListN.{length};
 ghost use Rattle.rows.specs.Rows.{over};
 ghost use Rattle.saved.specs.Saved as S;
-use super::settings::flag_in;
+use super::sheet::flag_in;
 use hpgl::Carriage;
 use hpgl::Pen;
 use hpgl::Polygon;

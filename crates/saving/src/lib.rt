@@ -8,7 +8,7 @@ ghost use Rattle.saved.specs.Saved.{stateNumbers, savedOf, loadedOf};
 mod carriage;
 mod edges;
 mod reading;
-mod settings;
+mod sheet;
 mod work;
 
 use carriage::carriage_at;
@@ -19,8 +19,8 @@ use hpgl::Core;
 use hpgl::State;
 use reading::put_reader;
 use reading::reader_at;
-use settings::put_settings;
-use settings::settings_at;
+use sheet::put_settings;
+use sheet::settings_at;
 use work::put_work;
 use work::work_at;
 

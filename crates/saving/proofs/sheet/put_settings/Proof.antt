@@ -7,8 +7,8 @@ use lib.IntN.{ℤ}
 use Rattle.rows.specs.declared.Row.{Row}
 use Rattle.rows.specs.Rows.{withRow, over}
 use Rattle.saved.specs.Saved.{settingsNumbers}
-use Rattle.saving.proofs.settings.put_settings.Statement.{statement}
-use Rattle.saving.proofs.settings.put_settings.Tie as tie
+use Rattle.saving.proofs.sheet.put_settings.Statement.{statement}
+use Rattle.saving.proofs.sheet.put_settings.Tie as tie
 
 abbrev start : tie.After-put-row → tie.Start
 start c = c .before .before .before .before .before .before .before .before

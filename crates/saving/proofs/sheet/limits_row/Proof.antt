@@ -2,8 +2,8 @@
 use borrow.Author.Needs.{needs}
 use Rattle.exact.proofs.Rules.{rules}
 use Rattle.saved.specs.Saved.{limitsRow}
-use Rattle.saving.proofs.settings.limits_row.Statement.{statement}
-use Rattle.saving.proofs.settings.limits_row.Tie as tie
+use Rattle.saving.proofs.sheet.limits_row.Statement.{statement}
+use Rattle.saving.proofs.sheet.limits_row.Tie as tie
 
 place-number-requires : tie.Need-place-number-requires
 place-number-requires c κs = search needs

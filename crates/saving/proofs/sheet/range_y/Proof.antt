@@ -1,8 +1,8 @@
 -- The proof of `range_y`: each part is a number of the row.
 use Rattle.exact.proofs.Rules.{rules}
 use Rattle.saved.specs.Saved.{rangeY}
-use Rattle.saving.proofs.settings.range_y.Statement.{statement}
-use Rattle.saving.proofs.settings.range_y.Tie as tie
+use Rattle.saving.proofs.sheet.range_y.Statement.{statement}
+use Rattle.saving.proofs.sheet.range_y.Tie as tie
 
 returns : tie.Need-returns
 unfolding rangeY

@@ -2,8 +2,8 @@
 use borrow.Author.Needs.{needs}
 use mathlib.Core.Path.{refl}
 use Rattle.saved.specs.Saved.{settingsOf}
-use Rattle.saving.proofs.settings.settings_of.Statement.{statement}
-use Rattle.saving.proofs.settings.settings_of.Tie as tie
+use Rattle.saving.proofs.sheet.settings_of.Statement.{statement}
+use Rattle.saving.proofs.sheet.settings_of.Tie as tie
 
 box-of-requires : tie.Need-box-of-requires
 box-of-requires c κs = search needs

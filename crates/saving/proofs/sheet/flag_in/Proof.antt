@@ -5,8 +5,8 @@ use mir.Syntax.{w64}
 use Rattle.exact.specs.Fit.{arg}
 use Rattle.rows.specs.Rows.{flagOf}
 use Rattle.saved.specs.Saved.{flagIn}
-use Rattle.saving.proofs.settings.flag_in.Statement.{statement}
-use Rattle.saving.proofs.settings.flag_in.Tie as tie
+use Rattle.saving.proofs.sheet.flag_in.Statement.{statement}
+use Rattle.saving.proofs.sheet.flag_in.Tie as tie
 
 flag-of-requires : tie.Need-flag-of-requires
 flag-of-requires c κs = search needs

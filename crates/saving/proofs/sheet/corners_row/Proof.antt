@@ -1,8 +1,8 @@
 -- The proof of `corners_row`: each part is a number of the row.
 use Rattle.exact.proofs.Rules.{rules}
 use Rattle.saved.specs.Saved.{cornersRow}
-use Rattle.saving.proofs.settings.corners_row.Statement.{statement}
-use Rattle.saving.proofs.settings.corners_row.Tie as tie
+use Rattle.saving.proofs.sheet.corners_row.Statement.{statement}
+use Rattle.saving.proofs.sheet.corners_row.Tie as tie
 
 returns : tie.Need-returns
 unfolding cornersRow

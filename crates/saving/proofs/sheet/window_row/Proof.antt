@@ -2,8 +2,8 @@
 use borrow.Author.Needs.{needs}
 use Rattle.exact.proofs.Rules.{rules}
 use Rattle.saved.specs.Saved.{windowRow}
-use Rattle.saving.proofs.settings.window_row.Statement.{statement}
-use Rattle.saving.proofs.settings.window_row.Tie as tie
+use Rattle.saving.proofs.sheet.window_row.Statement.{statement}
+use Rattle.saving.proofs.sheet.window_row.Tie as tie
 
 flag-number-requires : tie.Need-flag-number-requires
 flag-number-requires c κs = search needs

@@ -5,8 +5,8 @@ use mir.Syntax.{w64}
 use Rattle.exact.specs.Fit.{arg}
 use Rattle.rows.specs.Rows.{smallOf, mostByte}
 use Rattle.saved.specs.Saved.{smallIn}
-use Rattle.saving.proofs.settings.turn_in.Statement.{statement}
-use Rattle.saving.proofs.settings.turn_in.Tie as tie
+use Rattle.saving.proofs.sheet.turn_in.Statement.{statement}
+use Rattle.saving.proofs.sheet.turn_in.Tie as tie
 
 byte-of-requires : tie.Need-byte-of-requires
 byte-of-requires c κs = search needs

@@ -2,8 +2,8 @@
 use borrow.Author.Needs.{needs}
 use Rattle.exact.proofs.Rules.{rules}
 use Rattle.saved.specs.Saved.{scaleRow}
-use Rattle.saving.proofs.settings.scale_row.Statement.{statement}
-use Rattle.saving.proofs.settings.scale_row.Tie as tie
+use Rattle.saving.proofs.sheet.scale_row.Statement.{statement}
+use Rattle.saving.proofs.sheet.scale_row.Tie as tie
 
 flag-number-requires : tie.Need-flag-number-requires
 flag-number-requires c κs = search needs

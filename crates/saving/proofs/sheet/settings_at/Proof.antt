@@ -2,8 +2,8 @@
 use borrow.Author.Needs.{needs}
 use mathlib.Core.Path.{refl}
 use Rattle.saved.specs.Saved.{settingsAt}
-use Rattle.saving.proofs.settings.settings_at.Statement.{statement}
-use Rattle.saving.proofs.settings.settings_at.Tie as tie
+use Rattle.saving.proofs.sheet.settings_at.Statement.{statement}
+use Rattle.saving.proofs.sheet.settings_at.Tie as tie
 
 row-at-requires : tie.Need-row-at-requires
 row-at-requires c κs = search needs
