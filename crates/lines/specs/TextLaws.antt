@@ -9,8 +9,8 @@ use native.Mathlib.Omega.{arith}
 use borrow.Author.Tests.{lt-ltb, le-ltb, ltb-true, ltb-false}
 use lib.Dec.{T, leb, ltb, leb→le}
 use lib.IntN.{ℤ, pos, negsuc, natAbs}
-use lib.ListN.{length, getD, set, length-append}
-use lib.Seq.{sets, length-sets}
+use lib.ListN.{length, getD, set, length-append, length-set}
+use lib.Seq.{sets, set-set, length-sets}
 use mir.Syntax.{w64}
 use mir.Val.{SFits}
 use Rattle.exact.specs.Whole.{_<ᶻ_, _≤ᶻ_, _≡?_, ord}
@@ -194,3 +194,30 @@ stroke-some pen x0 y0 x1 y1 = simp length-append (omega (arith, whole-some y1 li
 pub refusal-some : (refused byte : ℕ) → 0 < length (refusalText refused byte)
 unfolding refusalText
 refusal-some refused byte = omega arith
+
+-- ---- a minus that is written in any case: the first byte of a number takes its place where there is no sign
+
+over : (text : List ℕ) (x b : ℕ) (before : List ℕ) (at : ℕ) → sets (set before at x) at (text ++ (b ∷ [])) ≡ sets before at (text ++ (b ∷ []))
+over [] x b before at = ap (λ (l : List ℕ). sets l (suc at) []) (set-set before at x b)
+over (c ∷ cs) x b before at = ap (λ (l : List ℕ). sets l (suc at) (cs ++ (b ∷ []))) (set-set before at x c)
+
+pub puts-signed : (z : ℤ) (byte : ℕ) {at end : ℕ} {before after : List ℕ} → Puts (natural (natAbs z) byte) (set before at (code "-")) after (at + length (sign z)) end → Puts (whole z byte) before after at end
+unfolding whole natural
+puts-signed (pos n) byte {at} {end} {before} {after} p = record {
+  ends = omega (arith, p .ends);
+  room = omega (arith, p .room, length-set before at (code "-"));
+  list = p .list ∙ (let here : at + 0 ≡ at = omega arith in ap (λ (i : ℕ). sets (set before at (code "-")) i (decimal n ++ (byte ∷ []))) here) ∙ over (decimal n) (code "-") byte before at;
+}
+puts-signed (negsuc n) byte {at} {end} {before} {after} p = record {
+  ends = omega (arith, p .ends);
+  room = omega (arith, p .room, length-set before at (code "-"));
+  list = p .list ∙ (let next : at + 1 ≡ suc at = omega arith in ap (λ (i : ℕ). sets (set before at (code "-")) i (decimal (suc n) ++ (byte ∷ []))) next);
+}
+
+pub whole-parts : (z : ℤ) (byte : ℕ) → length (whole z byte) ≡ length (sign z) + length (natural (natAbs z) byte)
+unfolding whole
+whole-parts z byte = length-append (sign z) (natural (natAbs z) byte)
+
+pub natural-some : (n byte : ℕ) → 0 < length (natural n byte)
+unfolding natural
+natural-some n byte = omega (arith, length-append (decimal n) (byte ∷ []))

@@ -99,6 +99,11 @@ pub fn put_natural(out: &mut [u8], at: usize, n: u64, byte: u8) -> usize
     requires { ⌜ at + length (natural n byte) ≤ length (now out) ⌝ }
     ensures { λ r. ⌜ Puts (natural n byte) (now (out .entry)) (now (out .exit)) at r ⌝ }
 {
+    // most numbers are short, and a call that calls itself is never built in
+    if n < 10000 {
+        let next = put_short(out, at, n);
+        return put_byte(out, next, byte);
+    }
     let next = put_decimal(out, at, n);
     put_byte(out, next, byte)
 }
@@ -113,14 +118,14 @@ pub fn size(z: i64) -> u64
     z as u64
 }
 
-fn put_sign(out: &mut [u8], at: usize, z: i64) -> usize
-    requires { ⌜ at + length (sign z) ≤ length (now out) ⌝ }
-    ensures { λ r. ⌜ Puts (sign z) (now (out .entry)) (now (out .exit)) at r ⌝ }
+// How many bytes a number's sign takes.
+fn sign_length(z: i64) -> usize
+    ensures { λ r. ⌜ r ≡ length (sign z) ⌝ }
 {
     if z < 0 {
-        return put_byte(out, at, b'-');
+        return 1;
     }
-    at
+    0
 }
 
 // Any number, and the byte after it.
@@ -128,7 +133,9 @@ pub fn put_whole(out: &mut [u8], at: usize, z: i64, byte: u8) -> usize
     requires { ⌜ at + length (whole z byte) ≤ length (now out) ⌝ }
     ensures { λ r. ⌜ Puts (whole z byte) (now (out .entry)) (now (out .exit)) at r ⌝ }
 {
-    let next = put_sign(out, at, z);
+    // in any case, and the first digit takes its place where there is no sign: signs come in no order that a processor could foresee
+    out[at] = b'-';
+    let next = at + sign_length(z);
     put_natural(out, next, size(z), byte)
 }
 
