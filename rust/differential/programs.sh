@@ -1,6 +1,7 @@
 #!/bin/bash
 # The program strokes beside strokes-baseline on every load, and beside hp2xx (Debian's package) on the PD moves, where that is installed.
-# All read a file and write text; the lines of the first two are compared. Least processor seconds, user and system, of several runs in turns.
+# All read a file and write text, to /dev/null where they are timed: to write a file costs all of them the same, and is the system's work. The lines of the
+# first two are compared. Least processor seconds, user and system, of several runs in turns.
 # Needs target/bin/strokes (rt check strokes), target/staticlib (rt staticlib vutaroi) and cargo.
 set -eu
 export LC_ALL=C
@@ -19,7 +20,7 @@ built() {
 # processor seconds of a command with the load as its standard input
 seconds() {
     local TIMEFORMAT='%U %S'
-    { time "$@" <load >text 2>said; } 2>&1 | awk '{ print $1 + $2 }'
+    { time "$@" <load >/dev/null 2>said; } 2>&1 | awk '{ print $1 + $2 }'
 }
 
 # least seconds of two commands, in turns; each is one word or the name of a function
@@ -27,7 +28,6 @@ turns() {
     rm -f first second
     for _ in 1 2 3 4 5; do
         seconds "$1" >>first
-        mv text lines
         seconds "$2" >>second
     done
     awk -v name="$3" -v a="$(sort -n first | head -n 1)" -v b="$(sort -n second | head -n 1)" \
@@ -44,6 +44,8 @@ other() { hp2xx -q -m gpt -f - load; }
 for name in pd pu relative circles polygons rink refusals; do
     "$bench" --write "$name" >load
     turns ours theirs "$name: strokes and strokes-baseline"
+    ours <load >lines
+    theirs <load >text
     cmp lines text
 done
 if command -v hp2xx >/dev/null; then
