@@ -1,4 +1,4 @@
-// What the programs of the desk share: hard limits from the arguments, text on standard output, and sums that stay within 64 bits.
+// What the programs share: hard limits from the arguments; and those of the desk: text on standard output, and sums that stay within 64 bits.
 ghost use mathlib.Core.Path.{_≡_};
 ghost use Prim.Native.Nat.{_+_, _-_, _≤_};
 ghost use lib.IntN.{natAbs, _-ℤ_};

@@ -2,34 +2,15 @@
 //
 // With four arguments the hard limits are these: left, bottom, right, top.
 ghost use Rattle.hpgl.specs.Made.{Made};
+use desk::limits;
 use libc::STDERR_FILENO;
 use libc::STDIN_FILENO;
 use libc::STDOUT_FILENO;
 use lines::word::Limits;
-use lines::word::Whole;
-use lines::word::limits_of;
-use lines::word::whole_of;
 use machine::Machine;
 use plotting::files::End;
 use plotting::files::Sink;
 use plotting::files::run;
-
-fn argument(i: usize) -> Whole {
-    let mut word = [0u8; 32];
-    let n = os::arg(i, &mut word);
-    whole_of(&word[..n])
-}
-
-fn limits() -> Limits {
-    let count = os::arg_count();
-    if count == 1 {
-        return Limits::Four(-10000, -7000, 10000, 7000);
-    }
-    if count != 5 {
-        return Limits::Nothing;
-    }
-    limits_of(argument(1), argument(2), argument(3), argument(4))
-}
 
 fn print(machine: Machine)
     requires { ⌜ Made (machine .state) ⌝ }
