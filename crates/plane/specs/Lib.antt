@@ -10,5 +10,4 @@ pub mod BoxLaws
 pub mod PositionLaws
 pub mod CircleLaws
 pub mod LimitsLaws
-pub mod StrokeLaws
 pub mod Figures

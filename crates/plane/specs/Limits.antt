@@ -1,11 +1,8 @@
--- The limits and the stroke of a segment. Definitions only: LimitsLaws.antt and StrokeLaws.antt have what follows of them.
+-- The limits. Definitions only: LimitsLaws.antt has what follows of them.
 use mathlib.Core.Bool.{Bool, true, false}
 use Prim.Native.Nat.{ℕ}
-use Rattle.clip.specs.declared.Point.{Point}
 use Rattle.clip.specs.declared.Rect.{Rect}
-use Rattle.clip.specs.declared.Clipped.{Clipped}
-use Rattle.clip.specs.Clip.{clip}
-use Rattle.plane.specs.Turn.{turnedOf, turnedBoxOf, lesserOf, greaterOf}
+use Rattle.plane.specs.Turn.{turnedBoxOf, lesserOf, greaterOf}
 
 -- what is in both boxes; it may be empty, and then left is above right, or bottom above top
 unfoldable pub intersectionOf : Rect → Rect → Rect
@@ -20,7 +17,3 @@ intersectionOf a b = record {
 unfoldable pub limitsOf : Rect → Bool → Rect → ℕ → Rect
 limitsOf hard true window t = intersectionOf hard (turnedBoxOf window t)
 limitsOf hard false window t = hard
-
--- "Location is turned to the page, then clipped to the limits. .. Empty part: hidden. Otherwise the ends of the exact part, rounded"
-unfoldable pub strokeOf : Rect → Point → Point → ℕ → Clipped
-strokeOf limits a b t = clip limits (turnedOf a t) (turnedOf b t)

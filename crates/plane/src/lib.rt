@@ -1,4 +1,4 @@
-// The plane of the paper: the turn, positions on an axis, circles, the limits and strokes.
+// The plane of the paper: the turn, positions on an axis, circles, the limits.
 // Each module has its definitions in specs/ under its own name, and their laws beside them in specs/..Laws.antt.
 pub mod circle;
 pub mod limits;

@@ -1,17 +1,13 @@
-// The limits in force, and the stroke of a segment.
+// The limits in force.
 ghost use mathlib.Core.Path.{_≡_};
 ghost use Prim.Native.Nat.{_<_};
-ghost use Rattle.clip.specs.Reach.{SmallPoint, SmallRect};
+ghost use Rattle.clip.specs.Reach.{SmallRect};
 ghost use Rattle.plane.specs.Turn.{turnCount};
-ghost use Rattle.plane.specs.Limits.{intersectionOf, limitsOf, strokeOf};
+ghost use Rattle.plane.specs.Limits.{intersectionOf, limitsOf};
 use super::turn::greater;
 use super::turn::lesser;
-use super::turn::turned;
 use super::turn::turned_box;
-use clip::Clipped;
-use clip::Point;
 use clip::Rect;
-use clip::clip;
 
 // What is in both boxes. It may be empty: then left is above right, or bottom above top.
 pub fn intersection(a: Rect, b: Rect) -> Rect
@@ -38,12 +34,4 @@ pub fn limits(hard: Rect, windowed: bool, window: Rect, turn: usize) -> Rect
         return intersection(hard, turned_box(window, turn));
     }
     hard
-}
-
-// The stroke of the segment between two locations.
-pub fn stroke(r: Rect, a: Point, b: Point, turn: usize) -> Clipped
-    requires { ⌜ SmallRect r × SmallPoint a × SmallPoint b × (turn < turnCount) ⌝ }
-    ensures { λ s. ⌜ s ≡ strokeOf r a b turn ⌝ }
-{
-    clip(r, turned(a, turn), turned(b, turn))
 }
