@@ -37,3 +37,4 @@ pub mod ReaderKept
 pub mod ValidKept
 pub mod StrokePens
 pub mod Segment
+pub mod WhatMarksTell

@@ -1,7 +1,6 @@
 pub mod Printed
 pub mod Plotted
 pub mod Figures
-pub mod Marks
 pub mod PlotPrinted
 pub mod PlottedLaws
 pub mod Compared

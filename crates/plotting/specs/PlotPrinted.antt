@@ -18,10 +18,10 @@ use Rattle.hpgl.specs.Numbers.{listFull}
 use Rattle.hpgl.specs.FeedLaws.{draw-less}
 use Rattle.hpgl.specs.Plot.{Mark, stroke, refusal, Plot, stop, drew, took, drawOff, takeOn, plotFrom, numbersOf}
 use Rattle.hpgl.specs.Valid.{Every, more}
+use Rattle.hpgl.specs.WhatMarksTell.{Told}
 use Rattle.lines.specs.Text.{strokeText, refusalText, markAt, marksBelow}
 use Rattle.lines.specs.TextLaws.{mark-refusal, mark-stroke, stroke-some, refusal-some}
 use Rattle.plotting.specs.Printed.{strokeLine, drawnLine, byteLine, drawnLines, takenLine, printed}
-use Rattle.plotting.specs.Marks.{Told}
 
 -- a mark's line, where the plot has `before` bytes before it
 unfoldable pub markLine : ℕ → Mark → List ℕ

@@ -14,6 +14,7 @@ use Rattle.hpgl.specs.Made.{Made, fresh}
 use Rattle.hpgl.specs.Plot.{plotFrom, numbersOf}
 use Rattle.hpgl.specs.Plot.{Plot as Marked}
 use Rattle.hpgl.specs.PlotLaws.{plot-place, plot-made}
+use Rattle.hpgl.specs.WhatMarksTell.{made-inked, plot-told}
 use Rattle.machine.specs.declared.Machine.{Machine}
 use Rattle.machine.specs.declared.Started.{Started}
 use Rattle.machine.specs.Calls.{startedOf}
@@ -23,7 +24,6 @@ use Rattle.lines.specs.TextLaws.{puts-nothing, puts-then}
 use Rattle.plotting.specs.declared.Plot.{Plot}
 use Rattle.plotting.specs.Printed.{printed}
 use Rattle.plotting.specs.Plotted.{begunOf, emptiedOf, movedOf, due, Ready, Plotted}
-use Rattle.plotting.specs.Marks.{made-inked, plot-told}
 use Rattle.plotting.specs.PlotPrinted.{markLines, idle-end, plot-prints, Ended, plot-ended, numbers-lines, lines-some}
 
 pub plotted-nothing : {p : Plot} {block : List ℕ} (text : List ℕ) → Ready p block → p .length ≤ length text → Plotted p p block text text

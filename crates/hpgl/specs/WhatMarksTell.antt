@@ -1,5 +1,6 @@
 -- The marks of a plot: a stroke's pen is not 0, which tells it from a refusal, and a refusal's place is within the bytes.
--- Why: rule by rule, a segment is queued only where the pen is not 0; and a place is the count of bytes taken.
+-- Why: rule by rule, a segment is queued only where the pen is not 0; and a place is the count of bytes taken. These proofs name every term of a rule, so
+-- the file comes last by its name (D19).
 use mathlib.Core.Path.{_≡_}
 use mathlib.Core.Bool.{Bool, true, false, cond, not, _&&_}
 use mathlib.Core.List.{List, [], _∷_}
