@@ -2,7 +2,9 @@
 use Prim.Native.Nat.{ℕ, _-_}
 use Prim.Native.Char.{code}
 use mathlib.Core.Bool.{Bool, true, false, cond, _||_}
+use mathlib.Core.List.{List}
 use lib.Dec.{leb, ltb, eqb}
+use lib.ListN.{length, getD}
 use Rattle.numerals.specs.declared.bytes.Class.{Class}
 use Rattle.numerals.specs.declared.bytes.Class.the-variants.{Blank, Semicolon, Letter, Digit, Sign, Point, Other}
 
@@ -21,6 +23,10 @@ lowClassOf b =
 
 unfoldable pub isDigit : ℕ → Bool
 isDigit b = cond (ltb b (code "0")) false (leb b (code "9"))
+
+-- Whether a byte stands at a place.
+unfoldable pub isAt : List ℕ → ℕ → ℕ → Bool
+isAt s at b = cond (ltb at (length s)) (eqb (getD s at 0) b) false
 
 -- Any byte, upwards from the digits. "A letter may be of either case": it is told by its capital.
 unfoldable pub classOf : ℕ → Class

@@ -1,15 +1,16 @@
--- Digits in a run: those of a number before its point, taken together. What a run comes to is what its digits come to one by one.
+-- Digits in a run: those of a number before its point, taken together; and a whole number at a place. What they come to is what their bytes come to
+-- one by one.
 use Prim.Native.Nat.{ℕ, _+_, _*_, _-_}
 use Prim.Native.Char.{code}
-use mathlib.Core.Bool.{Bool, false, cond}
+use mathlib.Core.Bool.{Bool, true, false, cond}
 use mathlib.Core.List.{List, [], _∷_}
-use lib.Dec.{leb, ltb}
-use lib.ListN.{drop, getD}
+use lib.Dec.{leb, ltb, eqb}
+use lib.ListN.{length, drop, getD}
 use Rattle.numerals.specs.declared.number.Number.{Number}
 use Rattle.numerals.specs.declared.number.Run.{Run}
 use Rattle.numerals.specs.declared.number.Scanned.{Scanned}
-use Rattle.numerals.specs.Bytes.{isDigit}
-use Rattle.numerals.specs.Number.{places, bottom, countedOf, digitOf}
+use Rattle.numerals.specs.Bytes.{isDigit, isAt}
+use Rattle.numerals.specs.Number.{places, bottom, startOf, pointOf, countedOf, digitOf}
 
 -- The run that ends at a place.
 abbrev pub ended : ℕ → ℕ → Run
@@ -36,3 +37,35 @@ unfoldable pub scannedOf : Number → List ℕ → ℕ → Scanned
 scannedOf n s at =
     cond (countsWhole n) (withRun n (runOf (n .magnitude) (drop at s) at))
     (record { number = digitOf n (getD s at 0 - code "0"); at = at + 1 })
+
+-- ---- a number at a place
+
+-- How many bytes a minus takes.
+unfoldable pub minusLength : ℕ → ℕ
+minusLength b = cond (eqb b (code "-")) 1 0
+
+-- The sign and the digits before a point. Where there is no digit, the number has none.
+abbrev pub wholeFrom : Bool → ℕ → Run → Scanned
+wholeFrom negative first r =
+    record {
+      number = record { negative = negative; filled = ltb first (r .at); pointed = false; decimals = 0; magnitude = r .magnitude };
+      at = r .at;
+    }
+
+unfoldable pub wholeAt : List ℕ → ℕ → Scanned
+wholeAt s at =
+    let first = at + minusLength (getD s at 0) in
+    wholeFrom (eqb (getD s at 0) (code "-")) first (runOf 0 (drop first s) first)
+
+-- With all the digits from a place on.
+unfoldable pub digitsFrom : Number → List ℕ → ℕ → Scanned
+digitsFrom n [] at = record { number = n; at = at }
+digitsFrom n (b ∷ bs) at = cond (isDigit b) (digitsFrom (digitOf n (b - code "0")) bs (at + 1)) (record { number = n; at = at })
+
+-- A point, where one follows, with its decimals.
+unfoldable pub fractionOf : List ℕ → Scanned → Scanned
+fractionOf s w = cond (isAt s (w .at) (code ".")) (digitsFrom (pointOf (w .number)) (drop (w .at + 1) s) (w .at + 1)) w
+
+-- The number at a place, as far as it goes.
+unfoldable pub numberAt : List ℕ → ℕ → Scanned
+numberAt s at = cond (ltb at (length s)) (fractionOf s (wholeAt s at)) (record { number = startOf false; at = at })

@@ -1,4 +1,4 @@
--- A digit by its byte, and a run of digits place by place.
+-- A digit by its byte, and a run of digits place by place; a byte at a place, and a number there.
 use mathlib.Core.Path.{_≡_, refl, sym}
 use mathlib.Core.Bool.{Bool, true, false, cond, true≢false}
 use mathlib.Core.List.{List, [], _∷_}
@@ -6,17 +6,17 @@ use Prim.Native.Nat.{ℕ, _+_, _-_, _*_, _≤_, _<_}
 use Prim.Native.Char.{code}
 use native.Mathlib.Numerals.{add-one}
 use native.Mathlib.Omega.{arith}
-use borrow.Author.Tests.{leb-true, ltb-false, le-ltb}
-use lib.Dec.{leb, ltb}
+use borrow.Author.Tests.{leb-true, ltb-true, ltb-false, lt-ltb, le-ltb, eqb-true}
+use lib.Dec.{leb, ltb, eqb}
 use lib.ListN.{length, drop, getD, drop-of-length-le}
 use lib.Seq.{drop-cons}
 use Rattle.numerals.specs.declared.bytes.Class.the-variants.{Digit}
 use Rattle.numerals.specs.declared.number.Number.{Number}
 use Rattle.numerals.specs.declared.number.Run.{Run}
 use Rattle.numerals.specs.declared.number.Scanned.{Scanned}
-use Rattle.numerals.specs.Bytes.{isDigit, classOf}
-use Rattle.numerals.specs.Number.{places, bottom, countedOf, digitOf}
-use Rattle.numerals.specs.Run.{ended, runOf, countsWhole, scannedOf}
+use Rattle.numerals.specs.Bytes.{isDigit, isAt, classOf}
+use Rattle.numerals.specs.Number.{places, bottom, startOf, pointOf, countedOf, digitOf}
+use Rattle.numerals.specs.Run.{ended, runOf, countsWhole, scannedOf, minusLength, wholeAt, digitsFrom, fractionOf, numberAt}
 
 pub digit-class : (b : ℕ) → isDigit b ≡ true → (code "0" ≤ b) × (b ≤ code "9") × (classOf b ≡ Digit (b - code "0"))
 unfolding isDigit classOf
@@ -103,3 +103,64 @@ module _ (n : Number) (s : List ℕ) (at : ℕ) (k : Number) where
   pub scanned-one : countsWhole n ≡ false → k ≡ digitOf n (getD s at 0 - code "0") → _≡_ {A = Scanned} (record { number = k; at = at + 1 }) (scannedOf n s at)
   unfolding scannedOf
   scanned-one w f = rw (f, w) refl
+
+-- ---- a number at a place
+
+pub at-place : (s : List ℕ) (at b : ℕ) → isAt s at b ≡ true → (at < length s) × (getD s at 0 ≡ b)
+unfolding isAt
+at-place s at b e = go (ltb at (length s)) refl e
+  where
+    go : (x : Bool) → ltb at (length s) ≡ x → cond x (eqb (getD s at 0) b) false ≡ true → (at < length s) × (getD s at 0 ≡ b)
+    go true h t = (ltb-true at (length s) h, eqb-true _ _ t)
+    go false h t = absurd (true≢false (sym t))
+
+pub minus-size : (b : ℕ) → minusLength b ≤ 1
+unfolding minusLength
+minus-size b = go (eqb b (code "-"))
+  where
+    go : (x : Bool) → cond x 1 0 ≤ 1
+    go true = omega arith
+    go false = omega arith
+
+-- digits one by one
+digits-digit :
+    (n : Number) (b : ℕ) (bs : List ℕ) (at : ℕ)
+    → isDigit b ≡ true
+    → digitsFrom n (b ∷ bs) at ≡ digitsFrom (digitOf n (b - code "0")) bs (at + 1)
+unfolding digitsFrom
+digits-digit n b bs at d = simp d
+
+module _ (n : Number) (s : List ℕ) (at : ℕ) where
+  abbrev here : Scanned
+  here = record { number = n; at = at }
+
+  pub digits-end : length s ≤ at → digitsFrom n (drop at s) at ≡ here
+  unfolding digitsFrom
+  digits-end h = rw (drop-of-length-le s h) refl
+
+  pub digits-stop : at < length s → isDigit (getD s at 0) ≡ false → digitsFrom n (drop at s) at ≡ here
+  unfolding digitsFrom
+  digits-stop h d = rw (drop-cons s at 0 h) (simp d)
+
+  pub digits-on :
+      at < length s
+      → isDigit (getD s at 0) ≡ true
+      → digitsFrom n (drop at s) at ≡ digitsFrom (digitOf n (getD s at 0 - code "0")) (drop (at + 1) s) (at + 1)
+  digits-on h d = rw (drop-cons s at 0 h, ← add-one at) (digits-digit n (getD s at 0) (drop (at + 1) s) at d)
+
+-- The ways of `numberAt`.
+module _ (s : List ℕ) (at : ℕ) where
+  pub number-past : length s ≤ at → numberAt s at ≡ record { number = startOf false; at = at }
+  unfolding numberAt
+  number-past h = rw (le-ltb at (length s) h) refl
+
+  module _ (h : at < length s) (w : Scanned) (e : w ≡ wholeAt s at) where
+    pub number-whole : isAt s (w .at) (code ".") ≡ false → w ≡ numberAt s at
+    unfolding numberAt fractionOf
+    number-whole p = rw (lt-ltb at (length s) h, ← e, p) refl
+
+    pub number-pointed :
+        isAt s (w .at) (code ".") ≡ true
+        → digitsFrom (pointOf (w .number)) (drop (w .at + 1) s) (w .at + 1) ≡ numberAt s at
+    unfolding numberAt fractionOf
+    number-pointed p = rw (lt-ltb at (length s) h, ← e, p) refl

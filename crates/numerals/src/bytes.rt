@@ -1,6 +1,6 @@
 // The class of a byte: what it can be to a reader, whatever stands before it.
 ghost use mathlib.Core.Path.{_≡_};
-ghost use Rattle.numerals.specs.Bytes.{isDigit, classOf, lowClassOf};
+ghost use Rattle.numerals.specs.Bytes.{isDigit, isAt, classOf, lowClassOf};
 
 pub enum Class {
     Blank,
@@ -64,6 +64,16 @@ pub fn is_digit(byte: u8) -> bool
         return false;
     }
     byte <= b'9'
+}
+
+// Whether this byte stands at a place; past the end none does.
+pub fn is_at(bytes: &[u8], at: usize, byte: u8) -> bool
+    ensures { λ r. ⌜ r ≡ isAt (now (bytes .entry)) at byte ⌝ }
+{
+    if at < bytes.len() {
+        return bytes[at] == byte;
+    }
+    false
 }
 
 // The class of a byte. Those below the letters come first, and of letters the capitals: with so few tests most names are told.

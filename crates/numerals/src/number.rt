@@ -5,7 +5,8 @@ ghost use Prim.Native.Nat.{_≤_, _<_};
 ghost use lib.ListN.{length, drop, getD};
 ghost use Rattle.numerals.specs.Bytes.{isDigit};
 ghost use Rattle.numerals.specs.Number.{bottom, startOf, pointOf, countedOf, digitOf, unitOf, tenThousandths, signedOf, largestOf, finishOf};
-ghost use Rattle.numerals.specs.Run.{runOf, countsWhole, scannedOf};
+ghost use Rattle.numerals.specs.Run.{runOf, countsWhole, scannedOf, minusLength, wholeAt, digitsFrom, numberAt};
+use super::bytes::is_at;
 use super::bytes::is_digit;
 
 // Decimals that are kept.
@@ -114,6 +115,78 @@ fn run_from(bytes: &[u8], from: usize, start: u32) -> Run
         magnitude: magnitude,
         at: at,
     }
+}
+
+// How many bytes a minus takes, where there is one.
+fn minus_length(byte: u8) -> usize
+    ensures { λ r. ⌜ r ≡ minusLength byte ⌝ }
+{
+    if byte == b'-' {
+        return 1;
+    }
+    0
+}
+
+// The number at a place up to a point. Its sign makes no branch: signs come in no order that a processor could foresee.
+fn whole_at(bytes: &[u8], at: usize) -> Scanned
+    requires { ⌜ at < length (now bytes) ⌝ }
+    ensures { λ r. ⌜ r ≡ wholeAt (now (bytes .entry)) at ⌝ }
+{
+    let byte = bytes[at];
+    let first = at + minus_length(byte);
+    let run = run_from(bytes, first, 0);
+    Scanned {
+        number: Number {
+            negative: byte == b'-',
+            filled: first < run.at,
+            pointed: false,
+            decimals: 0,
+            magnitude: run.magnitude,
+        },
+        at: run.at,
+    }
+}
+
+// A number with all the digits from a place on.
+fn digits_from(bytes: &[u8], from: usize, start: Number) -> Scanned
+    ensures { λ r. ⌜ r ≡ digitsFrom start (drop from (now (bytes .entry))) from ⌝ }
+{
+    let mut number = start;
+    let mut at = from;
+    while at < bytes.len() {
+        let byte = bytes[at];
+        if !is_digit(byte) {
+            return Scanned {
+                number: number,
+                at: at,
+            };
+        }
+        number = number.with_digit(byte - b'0');
+        at += 1;
+    }
+    Scanned {
+        number: number,
+        at: at,
+    }
+}
+
+// The number at a place, as far as it goes.
+pub fn number_at(bytes: &[u8], at: usize) -> Scanned
+    ensures { λ r. ⌜ r ≡ numberAt (now (bytes .entry)) at ⌝ }
+{
+    if bytes.len() <= at {
+        return Scanned {
+            number: Number::start(false),
+            at: at,
+        };
+    }
+    let whole = whole_at(bytes, at);
+    let end = whole.at;
+    if is_at(bytes, end, b'.') {
+        let number = whole.number;
+        return digits_from(bytes, end + 1, number.with_point());
+    }
+    whole
 }
 
 impl Number {

@@ -1,6 +1,8 @@
 // Position on one axis: the exact one, as base and offset, and the location, which is its nearest whole number.
 ghost use mathlib.Core.Path.{_≡_};
+ghost use lib.IntN.{pos};
 ghost use Rattle.exact.specs.Fit.{Bd};
+ghost use Rattle.exact.specs.Divide.{nearestDiv};
 ghost use Rattle.plane.specs.Position.{axisOf, absoluteOf, relativeOf, locationOf, inRangeOf};
 ghost use Rattle.plane.specs.Bounds.{AxisBounds, Locatable, mostNumber, mostPoint, mostProduct};
 use exact::nearest_div;
@@ -68,12 +70,23 @@ pub fn relative(p: ExactPosition, n: i64) -> ExactPosition
     }
 }
 
+// The nearest whole number to n / width. Most drawings have no scale, and a number that the compiler knows divides faster.
+fn over_width(n: i64, width: i64) -> i64
+    requires { ⌜ Bd n 0x4000_0000_0000_0000 × (Bd width 0x2000_0000_0000_0000 × (width ≡ pos 0 → ⊥)) ⌝ }
+    ensures { λ r. ⌜ r ≡ nearestDiv n width ⌝ }
+{
+    if width == UNSCALED {
+        return nearest_div(n, UNSCALED);
+    }
+    nearest_div(n, width)
+}
+
 // The nearest whole number to the exact position, and of two the larger.
 pub fn location(a: Axis, p: ExactPosition) -> i64
     requires { ⌜ Locatable a p ⌝ }
     ensures { λ r. ⌜ r ≡ locationOf a p ⌝ }
 {
-    p.base + nearest_div(p.offset * a.span, a.width)
+    p.base + over_width(p.offset * a.span, a.width)
 }
 
 pub fn in_range(n: i64) -> bool

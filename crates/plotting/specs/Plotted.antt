@@ -36,7 +36,7 @@ pub record Ready (p : Plot) (block : List ℕ) : Type 0 where
 
 -- one plot has at most so many marks, of five numbers each, and its lines so many bytes
 abbrev pub mostMarks : ℕ
-mostMarks = 512
+mostMarks = 256
 
 abbrev pub most : ℕ
 most = mostMarks * longest

@@ -15,7 +15,7 @@ use machine::Gathered;
 use machine::Machine;
 
 // One plot stores at most so many marks, of five numbers each.
-const MARKS: usize = 512;
+const MARKS: usize = 256;
 
 const NUMBERS: usize = MARKS * 5;
 

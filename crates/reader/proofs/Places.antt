@@ -60,7 +60,7 @@ module _ (r : Reader) (s : List ℕ) (at : ℕ) (h : at < length s) where
   pub event-at : (q : Step) → q ≡ stepOf r (getD s at 0) → isNothing (q .event) ≡ false → nextOf r (drop at s) at ≡ placed q (at + 1)
   event-at q k e = rw (drop-cons s at 0 h, k) (next-event r (getD s at 0) (drop (suc at) s) at (rw k at e))
 
-  digit-at :
+  pub digit-at :
       (n : Number)
       → r .mode ≡ InNumber
       → isDigit (getD s at 0) ≡ true

@@ -1,7 +1,9 @@
 -- What a list of bytes comes to: the first event in it that is more than Nothing, or none.
 use Prim.Native.Nat.{ℕ, _+_}
+use mathlib.Core.Path.{_≡_}
 use mathlib.Core.Bool.{Bool, true, false, cond}
 use mathlib.Core.List.{List, [], _∷_}
+use lib.Dec.{eqb}
 use Rattle.reader.specs.declared.Event.{Event}
 use Rattle.reader.specs.declared.Event.the-variants.{Nothing, Named, Pair, Ended, Refused}
 use Rattle.reader.specs.declared.Mode.{Mode}
@@ -10,6 +12,12 @@ use Rattle.reader.specs.declared.Reader.{Reader}
 use Rattle.reader.specs.declared.Step.{Step}
 use Rattle.reader.specs.declared.Next.{Next}
 use Rattle.numerals.specs.Bytes.{isDigit}
+use Rattle.numerals.specs.declared.number.Number.{Number}
+use Rattle.mnemonics.specs.Table.{takesPairs}
+use Rattle.reader.specs.declared.Ahead.{Ahead}
+use Rattle.reader.specs.declared.Ahead.the-variants as ahead
+use Rattle.reader.specs.declared.Coordinates.{Coordinates}
+use Rattle.reader.specs.Reader.{noneOf}
 use Rattle.reader.specs.Step.{stepOf}
 
 unfoldable pub isNothing : Event → Bool
@@ -37,3 +45,24 @@ moreDigits Parameters b = false
 moreDigits InNumber b = isDigit b
 moreDigits PassOver b = false
 moreDigits Label b = false
+
+-- Whether a pair may begin: in an instruction that takes pairs, with no number of one.
+unfoldable pub inParameters : Mode → Bool
+inParameters Idle = false
+inParameters (First l) = false
+inParameters Parameters = true
+inParameters InNumber = false
+inParameters PassOver = false
+inParameters Label = false
+
+unfoldable pub awaitsPair : Reader → Bool
+awaitsPair r = cond (inParameters (r .mode)) (cond (takesPairs (r .op)) (eqb (r .numbers .count) 0) false) false
+
+-- After a pair p whose last number is n.
+unfoldable pub pairedOf : Reader → Mode → Number → Coordinates → ℕ → Next
+pairedOf r m n p at = record { reader = record { mode = m; op = r .op; numbers = noneOf; number = n }; event = Pair p; at = at }
+
+-- What is told of bytes ahead: a pair is what they come to; where none is known yet, they may come to anything.
+unfoldable pub Told : Reader → List ℕ → ℕ → Ahead → Type 0
+Told r bs at (ahead.Pair q) = q ≡ nextOf r bs at
+Told r bs at ahead.Unknown = Unit {0}

@@ -1,8 +1,9 @@
 // The reader of bytes: what each byte of an instruction stream means. It knows nothing of paper, pens or limits.
 ghost use mathlib.Core.Path.{_≡_};
+ghost use mathlib.Core.Bool.{true};
 ghost use lib.ListN.{drop};
 ghost use Rattle.reader.specs.Inside.{inside};
-ghost use Rattle.reader.specs.Next.{moreDigits, isNothing, nextOf};
+ghost use Rattle.reader.specs.Next.{moreDigits, isNothing, inParameters, awaitsPair, pairedOf, Told, nextOf};
 ghost use Rattle.reader.specs.Reader.{noneOf, storedOf, pairOf, freshReader, goOnOf, quietOf, refuseOf, beginOf, openOf, withNumbers};
 ghost use Rattle.reader.specs.Step.{nameOf, keptOf, closedOf, endOf, completeOf, endingOf, afterNumberOf, closeOf, idleOf, firstOf, parametersOf, inNumberOf, passOverOf, labelOf, stepOf, passedMode, passedOver};
 use mnemonics::Found;
@@ -14,9 +15,11 @@ use mnemonics::is_label;
 use mnemonics::takes_pairs;
 use numerals::bytes::Class;
 use numerals::bytes::class_of;
+use numerals::bytes::is_at;
 use numerals::bytes::is_digit;
 use numerals::number::Number;
 use numerals::number::Value;
+use numerals::number::number_at;
 
 // The causes of a refusal that the reader finds: an unknown byte or name, the count of numbers, a number out of range.
 const UNKNOWN: u8 = 1;
@@ -90,6 +93,12 @@ pub struct Next {
     pub reader: Reader,
     pub event: Event,
     pub at: usize,
+}
+
+// A pair that stands ahead, read at once, or nothing that is known yet.
+enum Ahead {
+    Pair(Next),
+    Unknown,
 }
 
 impl Numbers {
@@ -166,6 +175,20 @@ fn inside(mode: Mode) -> bool
         Mode::First(_) => false,
         Mode::Parameters => true,
         Mode::InNumber => true,
+        Mode::PassOver => false,
+        Mode::Label => false,
+    }
+}
+
+// Whether a mode is in an instruction with no number open.
+fn in_parameters(mode: Mode) -> bool
+    ensures { λ r. ⌜ r ≡ inParameters mode ⌝ }
+{
+    match mode {
+        Mode::Idle => false,
+        Mode::First(_) => false,
+        Mode::Parameters => true,
+        Mode::InNumber => false,
         Mode::PassOver => false,
         Mode::Label => false,
     }
@@ -252,6 +275,78 @@ impl Reader {
 
     // The bytes from a place on, up to the first that means something, or the end.
     pub fn next(self, bytes: &[u8], from: usize) -> Next
+        ensures { λ q. ⌜ q ≡ nextOf self (drop from (now (bytes .entry))) from ⌝ }
+    {
+        // most of a drawing
+        if self.awaits_pair() {
+            if let Ahead::Pair(q) = self.pair_ahead(bytes, from) {
+                return q;
+            }
+        }
+        self.by_steps(bytes, from)
+    }
+
+    // Whether a pair may begin: in an instruction that takes pairs, with no number of one.
+    fn awaits_pair(self) -> bool
+        ensures { λ r. ⌜ r ≡ awaitsPair self ⌝ }
+    {
+        let mode = self.mode;
+        let numbers = self.numbers;
+        if in_parameters(mode) {
+            if takes_pairs(self.op) {
+                return numbers.count == 0;
+            }
+            return false;
+        }
+        false
+    }
+
+    // A pair as most are written, with a comma between its numbers and a comma or semicolon after it. Others are read by steps.
+    fn pair_ahead(self, bytes: &[u8], from: usize) -> Ahead
+        requires { ⌜ awaitsPair self ≡ true ⌝ }
+        ensures { λ r. ⌜ Told self (drop from (now (bytes .entry))) from r ⌝ }
+    {
+        let x = number_at(bytes, from);
+        if !is_at(bytes, x.at, b',') {
+            return Ahead::Unknown;
+        }
+        let y = number_at(bytes, x.at + 1);
+        let first = x.number;
+        let second = y.number;
+        let Value::Good(across) = first.finish() else {
+            return Ahead::Unknown;
+        };
+        let Value::Good(up) = second.finish() else {
+            return Ahead::Unknown;
+        };
+        let pair = Coordinates { x: across, y: up };
+        if is_at(bytes, y.at, b';') {
+            return Ahead::Pair(self.paired(Mode::Idle, second, pair, y.at + 1));
+        }
+        if is_at(bytes, y.at, b',') {
+            return Ahead::Pair(self.paired(Mode::Parameters, second, pair, y.at + 1));
+        }
+        Ahead::Unknown
+    }
+
+    // After a pair whose last number is this one.
+    fn paired(self, mode: Mode, number: Number, pair: Coordinates, at: usize) -> Next
+        ensures { λ q. ⌜ q ≡ pairedOf self mode number pair at ⌝ }
+    {
+        Next {
+            reader: Reader {
+                mode: mode,
+                op: self.op,
+                numbers: Numbers::none(),
+                number: number,
+            },
+            event: Event::Pair(pair),
+            at: at,
+        }
+    }
+
+    // The same, byte by byte, and a run of digits at once.
+    fn by_steps(self, bytes: &[u8], from: usize) -> Next
         ensures { λ q. ⌜ q ≡ nextOf self (drop from (now (bytes .entry))) from ⌝ }
     {
         let mut reader = self;

@@ -20,11 +20,11 @@ product s =
     let d : SFits w64 (s .args .a .span) = search needs in
     within (arg w64 o ⊗ arg w64 d) (s .pre .product)
 
-mul-nearest-div : tie.Need-mul-nearest-div
-mul-nearest-div c = let s : tie.Start = search in fit w64 (product s) tt
+mul-over-width : tie.Need-mul-over-width
+mul-over-width c = let s : tie.Start = search in fit w64 (product s) tt
 
-nearest-div-requires : tie.Need-nearest-div-requires
-nearest-div-requires c κs =
+over-width-requires : tie.Need-over-width-requires
+over-width-requires c κs =
     let s : tie.Start = search in
     let w = val w64 (s .pre .width) tt in
     (sized (put w64 (product s) tt) tt, (sized w tt, (λ e. s .pre .some (sym (w .is) ∙ e))))
@@ -35,11 +35,11 @@ sum s ok e =
     val w64 (s .pre .base) tt ⊕ ret w64 ok (e ∙ ap₂ nearestDiv (put w64 (product s) tt .is) (val w64 (s .pre .width) tt .is)) (nearest-size (s .pre .product) (s .pre .width))
 
 add-result : tie.Need-add-result
-add-result c = let s : tie.Start = search in let a : tie.After-nearest-div = search in fit w64 (sum s (a .nearest-div .ok) (a .nearest-div .ensures)) tt
+add-result c = let s : tie.Start = search in let a : tie.After-over-width = search in fit w64 (sum s (a .over-width .ok) (a .over-width .ensures)) tt
 
 returns : tie.Need-returns
 unfolding locationOf
-returns c = let s : tie.Start = search in let a : tie.After-nearest-div = search in put w64 (sum s (a .nearest-div .ok) (a .nearest-div .ensures)) tt .is
+returns c = let s : tie.Start = search in let a : tie.After-over-width = search in put w64 (sum s (a .over-width .ok) (a .over-width .ensures)) tt .is
 
 pub location-spec : {M : Type 1} → statement M
-location-spec = tie.close (tie.spec mul-nearest-div nearest-div-requires add-result returns)
+location-spec = tie.close (tie.spec mul-over-width over-width-requires add-result returns)
