@@ -11,27 +11,24 @@ use lib.Dec.{ltb, eqb, lit<}
 use lib.IntN.{ℤ}
 use lib.ListN.{length, drop, getD}
 use lib.Seq.{drop-cons}
-use Rattle.numerals.specs.declared.bytes.Class.the-variants.{Digit, Point}
 use Rattle.numerals.specs.declared.number.Number.{Number}
-use Rattle.numerals.specs.declared.number.Run.{Run}
 use Rattle.numerals.specs.declared.number.Scanned.{Scanned}
 use Rattle.numerals.specs.declared.number.Value.{Value}
 use Rattle.numerals.specs.declared.number.Value.the-variants.{Good, Bad}
 use Rattle.numerals.specs.Bytes.{isDigit, isAt, lowClassOf, classOf}
 use Rattle.numerals.specs.Number.{startOf, pointOf, countedOf, digitOf, finishOf}
-use Rattle.numerals.specs.Run.{ended, runOf, countsWhole, scannedOf, minusLength, wholeFrom, wholeAt, digitsFrom, fractionOf, numberAt}
-use Rattle.numerals.specs.RunLaws.{digit-class, run-end, run-stop, at-place, digits-end, digits-stop, digits-on, number-past}
+use Rattle.numerals.specs.Run.{runOf, countsWhole, scannedOf, minusLength, wholeFrom, wholeAt, digitsFrom, fractionOf, numberAt}
+use Rattle.numerals.specs.RunLaws.{digit-class, run-end, run-stop, at-place, digits-end, digits-stop, digits-on}
 use Rattle.mnemonics.specs.Table.{rows, most, any, cellOf, takesPairs, hasRoom}
 use Rattle.reader.specs.Reader.{noneOf, storedOf, pairOf, goOnOf, quietOf, openOf, withNumbers}
 use Rattle.reader.specs.Step.{keptOf, judgedOf, closedOf, completeOf, endingOf, afterNumberOf, closeWith, closeOf, parametersOf, inNumberOf, byMode, stepOf}
 use Rattle.reader.specs.Inside.{inside}
 use Rattle.reader.specs.Stream.{reader, _telling_}
-use Rattle.reader.specs.Next.{moreDigits, isNothing, inParameters, awaitsPair, pairedOf, placed, nextOf}
+use Rattle.reader.specs.Next.{moreDigits, isNothing, inParameters, awaitsPair, pairedOf, nextOf}
 use Rattle.reader.specs.declared.Closed.the-variants.{Kept, Complete}
 use Rattle.reader.specs.declared.Event.the-variants.{Nothing, Pair}
 use Rattle.reader.specs.declared.Mode.{Mode}
 use Rattle.reader.specs.declared.Mode.the-variants.{Idle, First, Parameters, InNumber, PassOver, Label}
-use Rattle.reader.specs.declared.Numbers.{Numbers}
 use Rattle.reader.specs.declared.Reader.{Reader}
 use Rattle.reader.specs.declared.Step.{Step}
 use Rattle.reader.proofs.Places.{quiet-at, event-at, digit-at, scanned-at}
@@ -230,65 +227,68 @@ space op k d h = go (ltb op rows) d
     go true t = rw (eqb-true (cellOf op most) any t) (lt-ltb k any h)
     go false t = absurd (true≢false (sym t))
 
-module _ (r : Reader) (double : takesPairs (r .op) ≡ true) (none : r .numbers .count ≡ 0) (n k : Number) (a b : ℤ) (x : finishOf n ≡ Good a) (y : finishOf k ≡ Good b) where
-  abbrev half : Numbers
-  half = storedOf (r .numbers) a
+-- The reader between the numbers of a pair, a and n the first one, and after it, b and k the second.
+abbrev halfway : Reader → ℤ → Number → Reader
+halfway r a n = reader (r .op) (storedOf (r .numbers) a) Parameters n
 
-  x-kept : closedOf (opened r n) ≡ Kept half
+abbrev after : Reader → ℤ → ℤ → Number → Mode → Step
+after r a b k m = reader (r .op) noneOf m k telling Pair (record { x = a; y = b })
+
+module _ (r : Reader) (double : takesPairs (r .op) ≡ true) (none : r .numbers .count ≡ 0) (a : ℤ) (n : Number) (x : finishOf n ≡ Good a) where
+  x-kept : closedOf (opened r n) ≡ Kept (storedOf (r .numbers) a)
   unfolding closedOf judgedOf keptOf
   x-kept = rw x (simp (none, space (r .op) 0 double (lit< tt), double))
 
-  x-comma : stepOf (opened r n) (code ",") ≡ reader (r .op) half Parameters n telling Nothing
+  x-comma : stepOf (opened r n) (code ",") ≡ halfway r a n telling Nothing
   unfolding stepOf byMode classOf lowClassOf inNumberOf closeOf closeWith endingOf afterNumberOf inside quietOf goOnOf withNumbers
   x-comma = rw x-kept refl
 
-  abbrev halfway : Reader
-  halfway = reader (r .op) half Parameters n
-
-  half-is : half ≡ record { count = 1; first = a; second = r .numbers .second; third = r .numbers .third; fourth = r .numbers .fourth }
+  one-stored : storedOf (r .numbers) a ≡ record { count = 1; first = a; second = r .numbers .second; third = r .numbers .third; fourth = r .numbers .fourth }
   unfolding storedOf
-  half-is = rw none refl
+  one-stored = rw none refl
 
-  y-complete : closedOf (opened halfway k) ≡ Complete (record { x = a; y = b })
-  unfolding closedOf judgedOf keptOf pairOf
-  y-complete = rw (y, half-is) (simp (space (r .op) 1 double (lit< tt), double))
+  module _ (b : ℤ) (k : Number) (y : finishOf k ≡ Good b) where
+    y-complete : closedOf (opened (halfway r a n) k) ≡ Complete (record { x = a; y = b })
+    unfolding closedOf judgedOf keptOf pairOf
+    y-complete = rw (y, one-stored) (simp (space (r .op) 1 double (lit< tt), double))
 
-  abbrev after : Mode → Step
-  after m = reader (r .op) noneOf m k telling Pair (record { x = a; y = b })
+    y-comma : stepOf (opened (halfway r a n) k) (code ",") ≡ after r a b k Parameters
+    unfolding stepOf byMode classOf lowClassOf inNumberOf closeOf closeWith endingOf completeOf goOnOf withNumbers
+    y-comma = rw y-complete refl
 
-  y-comma : stepOf (opened halfway k) (code ",") ≡ after Parameters
-  unfolding stepOf byMode classOf lowClassOf inNumberOf closeOf closeWith endingOf completeOf goOnOf withNumbers
-  y-comma = rw y-complete refl
+    y-semicolon : stepOf (opened (halfway r a n) k) (code ";") ≡ after r a b k Idle
+    unfolding stepOf byMode classOf inNumberOf closeOf closeWith endingOf completeOf goOnOf withNumbers
+    y-semicolon = rw y-complete refl
 
-  y-semicolon : stepOf (opened halfway k) (code ";") ≡ after Idle
-  unfolding stepOf byMode classOf inNumberOf closeOf closeWith endingOf completeOf goOnOf withNumbers
-  y-semicolon = rw y-complete refl
+-- Two good numbers, p and q, with a comma between them, are a pair if what ends the second one is a semicolon or comma.
+module _
+    (r : Reader) (s : List ℕ) (from : ℕ) (w : awaitsPair r ≡ true)
+    (p q : Scanned) (e : p ≡ numberAt s from) (c : isAt s (p .at) (code ",") ≡ true) (f : q ≡ numberAt s (p .at + 1))
+    (a b : ℤ) (x : finishOf (p .number) ≡ Good a) (y : finishOf (q .number) ≡ Good b)
+  where
+    abbrev last : Reader
+    last = opened (halfway r a (p .number)) (q .number)
 
--- The pair that stands at a place, with what ends it.
-module _ (r : Reader) (s : List ℕ) (from : ℕ) (w : awaitsPair r ≡ true) (p q : Scanned) (e : p ≡ numberAt s from) (c : isAt s (p .at) (code ",") ≡ true) (f : q ≡ numberAt s (p .at + 1)) (a b : ℤ) (x : finishOf (p .number) ≡ Good a) (y : finishOf (q .number) ≡ Good b) where
-  abbrev at-last : Reader
-  at-last = opened (halfway r (awaits r w .1) (awaits r w .2) (p .number) (q .number) a b x y) (q .number)
+    abbrev Pairs : Mode → Type 0
+    Pairs m = pairedOf r m (q .number) (record { x = a; y = b }) (q .at + 1) ≡ nextOf r (drop from s) from
 
-  abbrev Pairs : Mode → Type 0
-  Pairs m = pairedOf r m (q .number) (record { x = a; y = b }) (q .at + 1) ≡ nextOf r (drop from s) from
+    to-last : Goes s r from last (q .at)
+    unfolding isNothing
+    to-last =
+        let v = awaits r w in
+        let t = at-place s (p .at) (code ",") c in
+        number-goes s r from (v .0) p e (good-filled (p .number) a x)
+        ∙ quiet-at (opened r (p .number)) s (p .at) (t .0) (halfway r a (p .number) telling Nothing) (rw (t .1) (sym (x-comma r (v .1) (v .2) a (p .number) x))) refl
+        ∙ number-goes s (halfway r a (p .number)) (p .at + 1) refl q f (good-filled (q .number) b y)
 
-  to-last : Goes s r from at-last (q .at)
-  unfolding isNothing
-  to-last =
-      let v = awaits r w in
-      let t = at-place s (p .at) (code ",") c in
-      number-goes s r from (v .0) p e (good-filled (p .number) a x)
-      ∙ quiet-at (opened r (p .number)) s (p .at) (t .0) (halfway r (v .1) (v .2) (p .number) (q .number) a b x y telling Nothing) (rw (t .1) (sym (x-comma r (v .1) (v .2) (p .number) (q .number) a b x y))) refl
-      ∙ number-goes s (halfway r (v .1) (v .2) (p .number) (q .number) a b x y) (p .at + 1) refl q f (good-filled (q .number) b y)
+    ends : (m : Mode) (d : ℕ) → isAt s (q .at) d ≡ true → stepOf last d ≡ after r a b (q .number) m → Pairs m
+    unfolding isNothing pairedOf
+    ends m d i k =
+        let t = at-place s (q .at) d i in
+        sym (to-last ∙ event-at last s (q .at) (t .0) (after r a b (q .number) m) (rw (t .1) (sym k)) refl)
 
-  ends : (m : Mode) (d : ℕ) → isAt s (q .at) d ≡ true → stepOf at-last d ≡ after r (awaits r w .1) (awaits r w .2) (p .number) (q .number) a b x y m → Pairs m
-  unfolding isNothing pairedOf
-  ends m d i k =
-      let t = at-place s (q .at) d i in
-      sym (to-last ∙ event-at at-last s (q .at) (t .0) (after r (awaits r w .1) (awaits r w .2) (p .number) (q .number) a b x y m) (rw (t .1) (sym k)) refl)
+    pub pair-semicolon : isAt s (q .at) (code ";") ≡ true → Pairs Idle
+    pair-semicolon i = let v = awaits r w in ends Idle (code ";") i (y-semicolon r (v .1) (v .2) a (p .number) x b (q .number) y)
 
-  pub pair-semicolon : isAt s (q .at) (code ";") ≡ true → Pairs Idle
-  pair-semicolon i = ends Idle (code ";") i (y-semicolon r (awaits r w .1) (awaits r w .2) (p .number) (q .number) a b x y)
-
-  pub pair-comma : isAt s (q .at) (code ",") ≡ true → Pairs Parameters
-  pair-comma i = ends Parameters (code ",") i (y-comma r (awaits r w .1) (awaits r w .2) (p .number) (q .number) a b x y)
+    pub pair-comma : isAt s (q .at) (code ",") ≡ true → Pairs Parameters
+    pair-comma i = let v = awaits r w in ends Parameters (code ",") i (y-comma r (v .1) (v .2) a (p .number) x b (q .number) y)

@@ -1,6 +1,5 @@
 -- The ways of `numberAt`, in its order.
 use mathlib.Core.Path.{sym, _∙_}
-use native.Mathlib.Omega.{arith}
 use borrow.Author.Needs.{needs}
 use Rattle.numerals.specs.RunLaws.{at-place, number-past, number-whole, number-pointed}
 use Rattle.numerals.proofs.number.number_at.Statement.{statement}

@@ -1,12 +1,9 @@
 -- Two numbers with what stands after them are the pair that `nextOf` comes to; of what is unknown nothing is told.
-use mathlib.Core.Path.{_≡_, refl, sym, _∙_}
-use mathlib.Core.Bool.{true}
+use mathlib.Core.Path.{_≡_, sym, _∙_}
 use mir.Syntax.{w64}
 use mir.Val.{toZ, ofZ}
 use borrow.Author.Needs.{needs}
 use borrow.Author.Tests.{not-false}
-use lib.ListN.{length}
-use Prim.Native.Nat.{_<_}
 use Rattle.numerals.specs.RunLaws.{at-place}
 use Rattle.reader.specs.Next.{Told}
 use Rattle.reader.proofs.Pairs.{pair-semicolon, pair-comma}
