@@ -1,7 +1,7 @@
 #!/bin/bash
 # The program strokes beside strokes-baseline on every load, and beside hp2xx (Debian's package) on the PD moves, where that is installed.
-# All read a file and write text, to /dev/null where they are timed: to write a file costs all of them the same, and is the system's work. The lines of the
-# first two are compared. Least processor seconds, user and system, of several runs in turns.
+# All read a file and write text, to /dev/null where they are timed, since to write a file is the system's work; hp2xx and strokes are timed both ways. The lines of
+# the first two are compared. Least processor seconds, user and system, of several runs in turns.
 # Needs target/bin/strokes (rt check strokes), target/staticlib (rt staticlib vutaroi) and cargo.
 set -eu
 export LC_ALL=C
@@ -17,10 +17,11 @@ built() {
     echo "$folder/cargo/release/$2"
 }
 
-# processor seconds of a command with the load as its standard input
+# processor seconds of a command with the load as its standard input, its text to the sink
+sink=/dev/null
 seconds() {
     local TIMEFORMAT='%U %S'
-    { time "$@" <load >/dev/null 2>said; } 2>&1 | awk '{ print $1 + $2 }'
+    { time "$@" <load >"$sink" 2>said; } 2>&1 | awk '{ print $1 + $2 }'
 }
 
 # least seconds of two commands, in turns; each is one word or the name of a function
@@ -51,4 +52,6 @@ done
 if command -v hp2xx >/dev/null; then
     "$bench" --write pd >load
     turns other ours 'pd: hp2xx and strokes'
+    sink=written
+    turns other ours 'pd: hp2xx and strokes, into a file'
 fi

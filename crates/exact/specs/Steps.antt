@@ -1,13 +1,14 @@
 -- How the code comes to its quotients, by `/`, which rounds toward zero, and by a remainder; and how large what it makes can be.
-use mathlib.Core.Path.{_≡_, refl, sym, ap, _∙_, subst}
+use mathlib.Core.Path.{_≡_, refl, ap, _∙_}
+use mathlib.Core.Bool.{Bool, true, false, cond}
 use Prim.Native.Nat.{ℕ, suc, _+_, _*_, _/_, _≤_}
 use native.Mathlib.Omega.{arith}
 use lib.IntN.{ℤ, pos, negsuc, negℤ, natAbs, _+ℤ_, _-ℤ_, _*ℤ_}
-use lib.Signed.{mag, shrZ, quotZ, mag-shr}
+use lib.Signed.{mag, ltZ, shrZ, quotZ, mag-shr}
 use mir.Syntax.{w64}
 use mir.Val.{SFits}
 use mir.ValLaws.{sfits-le}
-use Rattle.exact.specs.Whole.{_≤ᶻ_, _<ᶻ_, is, Z, ord, ext, add-parts, up-neg, dn-neg}
+use Rattle.exact.specs.Whole.{_≤ᶻ_, _<ᶻ_, ltZ-true, ltZ-false, is, Z, ord, ext, add-parts, up-neg, dn-neg}
 use Rattle.exact.specs.Fit.{Bd, abs, abs-add, abs-mul, abs-neg}
 use Rattle.exact.specs.Divide.{floorDiv, nearestDiv}
 use Rattle.exact.specs.Nearest.{floor-law, nearest-only}
@@ -19,22 +20,50 @@ flip k = ext (negsuc 0 -ℤ negsuc k) (pos k) (omega (arith, add-parts (negsuc 0
 flop : (k : ℕ) → negsuc 0 -ℤ pos k ≡ negsuc k
 flop k = ext (negsuc 0 -ℤ pos k) (negsuc k) (omega (arith, add-parts (negsuc 0) (negℤ (pos k)), up-neg (pos k), dn-neg (pos k)))
 
-pub floor-below : (a b : ℤ) → a <ᶻ pos 0 → pos 0 <ᶻ b → negsuc 0 -ℤ quotZ (negsuc 0 -ℤ a) b ≡ floorDiv a b
+-- a, or -1 - a
+unfoldable pub mirroredOf : Bool → ℤ → ℤ
+mirroredOf below a = cond below (negsuc 0 -ℤ a) a
+
+floor-below : (a b : ℤ) → a <ᶻ pos 0 → pos 0 <ᶻ b → negsuc 0 -ℤ quotZ (negsuc 0 -ℤ a) b ≡ floorDiv a b
 floor-below (pos n) b h k = absurd (omega (arith, ord))
 floor-below (negsuc n) (pos m) h k = ap (λ (x : ℤ). negsuc 0 -ℤ quotZ x (pos m)) (flip n) ∙ flop (n / m)
 floor-below (negsuc n) (negsuc m) h k = absurd (omega (arith, ord))
 
-pub floor-above : (a b : ℤ) → pos 0 ≤ᶻ a → pos 0 <ᶻ b → quotZ a b ≡ floorDiv a b
+floor-above : (a b : ℤ) → pos 0 ≤ᶻ a → pos 0 <ᶻ b → quotZ a b ≡ floorDiv a b
 floor-above (pos n) (pos m) h k = refl
 floor-above (pos n) (negsuc m) h k = absurd (omega (arith, ord))
 floor-above (negsuc n) b h k = absurd (omega (arith, ord))
 
+pub floor-mirrored : (a b : ℤ) → pos 0 <ᶻ b → mirroredOf (ltZ a (pos 0)) (quotZ (mirroredOf (ltZ a (pos 0)) a) b) ≡ floorDiv a b
+unfolding mirroredOf
+floor-mirrored a b h = go (ltZ a (pos 0)) refl
+  where
+    go : (t : Bool) → ltZ a (pos 0) ≡ t → mirroredOf t (quotZ (mirroredOf t a) b) ≡ floorDiv a b
+    go true e = floor-below a b (ltZ-true _ _ e) h
+    go false e = floor-above a b (ltZ-false _ _ e) h
+
 pub floor-fits : (a b : ℤ) → SFits w64 a → SFits w64 (floorDiv a b)
 floor-fits a b f = sfits-le (mag-shr a (natAbs b)) f
 
+pub mirror-fits : (a : ℤ) → SFits w64 a → SFits w64 (negsuc 0 -ℤ a)
+mirror-fits (pos n) f = rw (flop n) (record { sfits = f .sfits })
+mirror-fits (negsuc n) f = rw (flip n) (record { sfits = f .sfits })
+
 pub flip-size : {a : ℤ} → SFits w64 a → a <ᶻ pos 0 → Bd (negsuc 0 -ℤ a) 9223372036854775807
 flip-size {a = pos n} f h = absurd (omega (arith, ord))
-flip-size {a = negsuc n} f h = subst (λ (x : ℤ). Bd x 9223372036854775807) (sym (flip n)) (record { bd = omega (arith, f .sfits) })
+flip-size {a = negsuc n} f h = rw (flip n) (record { bd = omega (arith, f .sfits) })
+
+natural-size : {a : ℤ} → SFits w64 a → pos 0 ≤ᶻ a → Bd a 9223372036854775807
+natural-size {a = pos n} f h = record { bd = omega (arith, f .sfits) }
+natural-size {a = negsuc n} f h = absurd (omega (arith, ord))
+
+pub mirror-size : (a : ℤ) → SFits w64 a → Bd (mirroredOf (ltZ a (pos 0)) a) 9223372036854775807
+unfolding mirroredOf
+mirror-size a f = go (ltZ a (pos 0)) refl
+  where
+    go : (t : Bool) → ltZ a (pos 0) ≡ t → Bd (mirroredOf t a) 9223372036854775807
+    go true e = flip-size f (ltZ-true _ _ e)
+    go false e = natural-size f (ltZ-false _ _ e)
 
 pub not-zero : {b : ℤ} → pos 0 <ᶻ b → b ≡ pos 0 → ⊥
 not-zero h e = omega (arith, ord)

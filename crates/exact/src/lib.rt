@@ -5,13 +5,22 @@ ghost use lib.IntN.{pos};
 ghost use Rattle.exact.specs.Whole.{_<ᶻ_};
 ghost use Rattle.exact.specs.Fit.{Bd};
 ghost use Rattle.exact.specs.Divide.{floorDiv, nearestDiv};
+ghost use Rattle.exact.specs.Steps.{mirroredOf};
+
+// a, or -1 - a: a number below 0 and its mirror image above it have mirrored floors. It makes no branch: signs come in no order that a processor could foresee.
+fn mirrored(below: bool, a: i64) -> i64
+    ensures { λ r. ⌜ r ≡ mirroredOf below a ⌝ }
+{
+    if below { -1 - a } else { a }
+}
 
 // The largest whole number that is at most a / b, for b above 0.
 pub fn floor_div(a: i64, b: i64) -> i64
     requires { ⌜ pos 0 <ᶻ b ⌝ }
     ensures { λ r. ⌜ r ≡ floorDiv a b ⌝ }
 {
-    if a < 0 { -1 - (-1 - a) / b } else { a / b }
+    let below = a < 0;
+    mirrored(below, mirrored(below, a) / b)
 }
 
 // The nearest whole number to n / d, for d above 0: by the remainder, so that nothing is doubled.
