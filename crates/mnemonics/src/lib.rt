@@ -105,32 +105,20 @@ fn names(row: [u8; COLUMNS], first: u8, second: u8) -> bool
     both(row[FIRST], row[SECOND]) == both(first, second)
 }
 
-// Whether an instruction's name begins with a letter. Most other names are told by it at once, without a search.
+// The letters that names begin with, C, D, E, I, P, R and S, as bits from that of A on.
+const BEGINNINGS: u32 = 0x6811c;
+
+// Whether an instruction's name begins with a letter. Most other names are told by it at once, without a search and without a branch for each letter.
 fn begins_name(first: u8) -> bool
     ensures { λ r. ⌜ r ≡ beginsName first ⌝ }
 {
-    if first == b'P' {
-        return true;
+    if first < b'A' {
+        return false;
     }
-    if first == b'S' {
-        return true;
+    if b'Z' < first {
+        return false;
     }
-    if first == b'I' {
-        return true;
-    }
-    if first == b'C' {
-        return true;
-    }
-    if first == b'D' {
-        return true;
-    }
-    if first == b'E' {
-        return true;
-    }
-    if first == b'R' {
-        return true;
-    }
-    false
+    (BEGINNINGS >> ((first - b'A') as u32)) % 2 == 1
 }
 
 // The instruction that two letters name.
@@ -156,10 +144,7 @@ pub fn find(first: u8, second: u8) -> Found
 pub fn is_label(first: u8, second: u8) -> bool
     ensures { λ r. ⌜ r ≡ isLabel first second ⌝ }
 {
-    if first == b'L' {
-        return second == b'B';
-    }
-    false
+    both(first, second) == both(b'L', b'B')
 }
 
 // Whether an instruction may end after n numbers.

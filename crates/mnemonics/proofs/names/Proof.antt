@@ -1,28 +1,11 @@
--- The proof of `names`: a letter is below 256, so that two of them make one number and no others make the same.
+-- The proof of `names`: two letters are compared as one number.
 use borrow.Author.Needs.{needs}
-use borrow.Author.Tests.{eq-eqb, ne-eqb, eqb-true, eqb-false}
-use mathlib.Core.Path.{_≡_, refl, sym, _∙_}
-use mathlib.Core.Bool.{Bool, true, false, cond}
-use Prim.Native.Nat.{ℕ, _+_, _*_, _<_}
-use native.Mathlib.Omega.{arith}
+use mathlib.Core.Path.{_∙_}
 use lib.Dec.{eqb}
 use lib.ListN.{getD}
+use Rattle.mnemonics.proofs.Letters.{both-same}
 use Rattle.mnemonics.proofs.names.Statement.{statement}
 use Rattle.mnemonics.proofs.names.Tie as tie
-
-both-same : (a b c d : ℕ) → b < 256 → d < 256 → eqb (a * 256 + b) (c * 256 + d) ≡ cond (eqb a c) (eqb b d) false
-both-same a b c d h k = go (eqb a c) refl (eqb b d) refl
-  where
-    m : ℕ
-    m = a * 256 + b
-
-    n : ℕ
-    n = c * 256 + d
-
-    go : (s : Bool) → eqb a c ≡ s → (t : Bool) → eqb b d ≡ t → eqb m n ≡ cond s t false
-    go true e true f = eq-eqb m n (omega (arith, eqb-true a c e, eqb-true b d f))
-    go true e false f = ne-eqb m n (λ x. eqb-false b d f (omega (arith, x, eqb-true a c e)))
-    go false e t f = ne-eqb m n (λ x. eqb-false a c e (omega (arith, x)))
 
 array-read-both : tie.Need-array-read-both
 array-read-both c = search needs
