@@ -1,5 +1,5 @@
--- Digits in a run: those of a number before its point, taken together; and a whole number at a place. What they come to is what their bytes come to
--- one by one.
+-- Digits in a run: those of a number before its point, taken together; and all of a number at a place, with its sign and decimals. What they come to is
+-- what their bytes come to one by one.
 use Prim.Native.Nat.{ℕ, _+_, _*_, _-_}
 use Prim.Native.Char.{code}
 use mathlib.Core.Bool.{Bool, false, cond}

@@ -46,7 +46,7 @@ moreDigits InNumber b = isDigit b
 moreDigits PassOver b = false
 moreDigits Label b = false
 
--- Whether a pair may begin: in an instruction that takes pairs, with no number of one.
+-- Whether a mode is in an instruction with no number open.
 unfoldable pub inParameters : Mode → Bool
 inParameters Idle = false
 inParameters (First l) = false
@@ -55,6 +55,7 @@ inParameters InNumber = false
 inParameters PassOver = false
 inParameters Label = false
 
+-- Whether a pair may begin: in an instruction that takes pairs, with no number of one.
 unfoldable pub awaitsPair : Reader → Bool
 awaitsPair r = cond (inParameters (r .mode)) (cond (takesPairs (r .op)) (eqb (r .numbers .count) 0) false) false
 
