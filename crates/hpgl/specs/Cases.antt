@@ -10,6 +10,16 @@ pub pick : {A : Type 0} (P : A → Type 0) (t : Bool) {x y : A} → P x → P y 
 pick P true h k = h
 pick P false h k = k
 
+-- a choice that both sides make
+pub choose : {A B : Type 0} (P : A → B → Type 0) (t : Bool) {a b : A} {x y : B} → P a x → P b y → P (cond t a b) (cond t x y)
+choose P true f g = f
+choose P false f g = g
+
+-- a choice, with what its test says
+pub whether : {A : Type 0} (P : A → Type 0) (t : Bool) {x y : A} → (t ≡ true → P x) → (t ≡ false → P y) → P (cond t x y)
+whether P true f g = f refl
+whether P false f g = g refl
+
 pub cond-true : {A : Type 0} (t : Bool) (x y : A) → t ≡ true → cond t x y ≡ x
 cond-true t x y e = rw e refl
 

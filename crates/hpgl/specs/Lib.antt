@@ -22,6 +22,11 @@ pub mod Steps
 pub mod SegmentsLocated
 pub mod OpenInstruction
 pub mod Condition3Proof
+pub mod Instruction
+pub mod Effects
+pub mod EffectsProof
+pub mod Refusals
+pub mod RefusalsProof
 pub mod PinsPosition
 pub mod PinsSettings
 pub mod PinsPolygon
@@ -38,3 +43,4 @@ pub mod ValidKept
 pub mod StrokePens
 pub mod Segment
 pub mod WhatMarksTell
+pub mod WhatTakeDoes

@@ -1,12 +1,12 @@
 -- What document 01 says of the polygon ("Rectangles and polygons"), said apart from the rules that machine and exact model share: its bytes are the sum of what was
--- stored, at most 1024; a point that does not fit, and no other, is refused with 7; PM1 moves to the closing point; PM2 restores what PM0 found.
+-- stored, at most 1024; PM1 moves to the closing point; PM2 restores what PM0 found. (What is refused with 7 stands in Refusals.antt.)
 -- By cases over the rules, one lemma each.
 use mathlib.Core.Path.{_≡_, refl, sym, ap, _∙_, subst}
 use mathlib.Core.Bool.{Bool, true, false, cond, not, _&&_, _||_}
 use mathlib.Core.List.{List, [], _∷_, _++_}
 use Prim.Native.Nat.{ℕ, zero, suc, _+_, _≤_}
 use native.Mathlib.Omega.{arith}
-use borrow.Author.Tests.{eqb-true, ne-eqb, leb-true, le-leb}
+use borrow.Author.Tests.{eqb-true, ne-eqb, leb-true}
 use lib.Dec.{leb, eqb}
 use lib.IntN.{ℤ, pos}
 use Rattle.exact.specs.Whole.{_≡?_, _≤?_, eq-≡?}
@@ -16,9 +16,9 @@ use Rattle.reader.specs.declared.Coordinates.{Coordinates}
 use Rattle.reader.specs.declared.Numbers.{Numbers}
 use Rattle.reader.specs.declared.Event.{Event}
 use Rattle.reader.specs.declared.Event.the-variants.{Nothing, Named, Pair, Ended, Refused}
-use Rattle.mnemonics.specs.Table.{IN, DF, EP, IP, SC, IW, RO, SP, PM, CI, EA, ER, PU, PD, PA, PR, cellOf, knownInPolygon}
+use Rattle.mnemonics.specs.Table.{IN, DF, EP, IP, SC, IW, RO, SP, PM, CI, EA, ER, PU, PD, PA, PR, knownInPolygon}
 use Rattle.plane.specs.Bounds.{mostAngle}
-use Rattle.hpgl.specs.Cases.{never, pick, cond-true}
+use Rattle.hpgl.specs.Cases.{never, pick, choose, cond-true}
 use Rattle.hpgl.specs.declared.Position.{Position}
 use Rattle.hpgl.specs.declared.Saved.{Saved}
 use Rattle.hpgl.specs.declared.Polygon.{Polygon}
@@ -87,73 +87,6 @@ storedBy c (Refused k) h = h
 -- and after any event
 abbrev pub storedAfter : Core → Event → List Stored → List Stored
 storedAfter c e h = cond (eqb (actOn c e .number) 0) (storedBy c e h) h
-
--- ---- "2 when the point is the first of a PU or PD that itself changed the pen": the mark that pointOf reads
-
--- set by the name of a PU that lifts the pen and of a PD that lowers it, and by no other PU, PD, PA or PR
-pub name-marks : (c : Core) →
-    (nameRule c PU .core .carriage .pen .changed ≡ c .carriage .pen .down) × (nameRule c PD .core .carriage .pen .changed ≡ not (c .carriage .pen .down)) ×
-    (nameRule c PA .core .carriage .pen .changed ≡ false) × (nameRule c PR .core .carriage .pen .changed ≡ false)
-unfolding nameRule letters knownInPolygon cellOf done
-name-marks c = (known PU refl, known PD refl, known PA refl, known PR refl)
-  where
-    none : (t : Bool) → (t && false) ≡ false
-    none true = refl
-    none false = refl
-
-    known : (op : ℕ) → knownInPolygon op ≡ true → nameRule c op .core .carriage .pen .changed ≡ letters (c .carriage) op .pen .changed
-    known op e = rw (e, none (modeOn c)) refl
-
--- spent by the first pair
-pub pair-spends : (c : Core) (n : Coordinates) → pairRule c n .number ≡ 0 → pairRule c n .core .carriage .pen .changed ≡ false
-unfolding pairRule goTo storePoint moveTo done refuse
-pair-spends c n =
-    pick Spent (inRange (location (c .settings) (aimed c n)))
-    (pick Spent (modeOn c) (pick Spent (leb (bytesOf c + pointCost (c .carriage .pen)) polygonBytes) (λ e. refl) (λ e. absurd (omega arith))) (λ e. refl))
-    (λ e. absurd (omega arith))
-  where
-    Spent : Acted → Type 0
-    Spent t = t .number ≡ 0 → t .core .carriage .pen .changed ≡ false
-
--- ---- 7 if what is to be stored does not fit, and only then
-
-numbered : (t : Bool) (x y : Acted) → cond t x y .number ≡ cond t (x .number) (y .number)
-numbered true x y = refl
-numbered false x y = refl
-
--- a choice that both sides make
-choose : {A B : Type 0} (P : A → B → Type 0) (t : Bool) {a b : A} {x y : B} → P a x → P b y → P (cond t a b) (cond t x y)
-choose P true f g = f
-choose P false f g = g
-
--- a pair in polygon mode, its location in range
-pub full-pair : (c : Core) (n : Coordinates) → modeOn c ≡ true → inRange (location (c .settings) (aimed c n)) ≡ true →
-    pairRule c n .number ≡ cond (leb (bytesOf c + cost (pointOf c)) 1024) 0 7
-unfolding pairRule goTo storePoint pointCost done refuse
-full-pair c n m r =
-    rw (r, m)
-    (numbered (leb (bytesOf c + pointCost (c .carriage .pen)) polygonBytes) _ _
-    ∙ ap (λ (k : ℕ). cond {A = ℕ} (leb (bytesOf c + k) 1024) 0 7) (go (c .carriage .pen .changed)))
-  where
-    go : (t : Bool) → cond t (pointBytes + penBytes) pointBytes ≡ cost (cond t penPoint point)
-    go true = refl
-    go false = refl
-
--- "PM1 with its added point is refused together"
-pub full-pm1 : (c : Core) → modeOn c ≡ true → pm1 c .number ≡ cond (leb (bytesOf c + costs (closing c ++ (PM1 ∷ []))) 1024) 0 7
-unfolding pm1 pm1In done refuse costs
-full-pm1 c m =
-    ap (λ (t : Acted). t .number) (cond-true (modeOn c) _ _ m)
-    ∙ choose (λ (s : List Stored) (t : Acted). t .number ≡ cond (leb (bytesOf c + costs (s ++ (PM1 ∷ []))) 1024) 0 7) (closes c)
-    (numbered (leb (bytesOf c + (modeBytes + pointBytes)) polygonBytes) _ _) (numbered (leb (bytesOf c + modeBytes) polygonBytes) _ _)
-
-pub full-pm2 : (c : Core) → modeOn c ≡ true → bytesOf c ≤ 1024 →
-    pm2 c .number ≡ cond (leb (bytesOf c + costs (closing c)) 1024) 0 7
-unfolding pm2 pm2In done refuse costs
-full-pm2 c m l =
-    ap (λ (t : Acted). t .number) (cond-true (modeOn c) _ _ m)
-    ∙ choose (λ (s : List Stored) (t : Acted). t .number ≡ cond (leb (bytesOf c + costs s) 1024) 0 7) (closes c)
-    (numbered (leb (bytesOf c + pointBytes) polygonBytes) _ _) (rw (le-leb (bytesOf c + 0) 1024 (omega arith)) refl)
 
 -- ---- "PM1 ends a subpolygon .. the exact position moving to that point (to an empty one nothing is added); then the pen is up"
 

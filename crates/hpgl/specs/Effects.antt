@@ -1,0 +1,222 @@
+-- Who may change what, and what it is set to (document 01, "Position", "Rectangles and polygons", "Causes and numbers"): a line for each thing that happens, with the
+-- parts of the machine that it changes. All that a line does not name is as it was before. The rules (Rules.antt) are written once more here, by parts and not by steps;
+-- EffectsProof.antt proves that both say the same of every machine that the calls make.
+use mathlib.Core.Bool.{Bool, true, false, cond, not}
+use Prim.Native.Nat.{ℕ, _+_, _/_}
+use lib.Dec.{eqb}
+use lib.IntN.{ℤ, pos, natAbs, _+ℤ_, _-ℤ_}
+use Rattle.exact.specs.Whole.{_≡?_}
+use Rattle.clip.specs.declared.Point.{Point}
+use Rattle.reader.specs.declared.Coordinates.{Coordinates}
+use Rattle.reader.specs.declared.Numbers.{Numbers}
+use Rattle.reader.specs.declared.Event.{Event}
+use Rattle.reader.specs.declared.Event.the-variants as event
+use Rattle.plane.specs.Turn.{turnedBackOf, orderedOf}
+use Rattle.hpgl.specs.declared.Position.{Position}
+use Rattle.hpgl.specs.declared.Scale.{Scale}
+use Rattle.hpgl.specs.declared.Window.{Window}
+use Rattle.hpgl.specs.declared.Polygon.{Polygon}
+use Rattle.hpgl.specs.declared.Core.{Core}
+use Rattle.hpgl.specs.Place.{point, rounded, location, absolutePosition, relativePosition, restAt, pagePoint}
+use Rattle.hpgl.specs.Change.{withPosition, withPen, withRelative, withPolygon, withSettings, withCarriage, withCorners, withScale, withTurn, withWindow}
+use Rattle.hpgl.specs.Rules.{unscaled, noWindow, closes}
+use Rattle.hpgl.specs.Instruction.{Instruction, IN, DF, EP, IP, SC, IW, RO, SP, PM, CI, EA, ER, PU, PD, PA, PR}
+
+-- ---- the parts, and how one is set. `c ▸ s` is c with the part that s names set as s says
+
+infixl 20 _▸_
+abbrev pub _▸_ : Core → (Core → Core) → Core
+c ▸ s = s c
+
+-- the pen: down or up; its number; whether the PU or PD that is read changed it and no pair came yet
+abbrev pub penDown : Bool → Core → Core
+penDown b c = withCarriage c (withPen (c .carriage) (record { number = c .carriage .pen .number; down = b; changed = c .carriage .pen .changed }))
+
+abbrev pub penNumber : ℕ → Core → Core
+penNumber k c = withCarriage c (withPen (c .carriage) (record { number = k; down = c .carriage .pen .down; changed = c .carriage .pen .changed }))
+
+abbrev pub penChanged : Bool → Core → Core
+penChanged b c = withCarriage c (withPen (c .carriage) (record { number = c .carriage .pen .number; down = c .carriage .pen .down; changed = b }))
+
+-- relative or absolute mode
+abbrev pub relative : Bool → Core → Core
+relative b c = withCarriage c (withRelative (c .carriage) b)
+
+-- P1 and P2, scale, turn, window
+abbrev pub corners : Point → Point → Core → Core
+corners p q c = withSettings c (withCorners (c .settings) p q)
+
+abbrev pub scale : Scale → Core → Core
+scale k c = withSettings c (withScale (c .settings) k)
+
+abbrev pub turn : ℕ → Core → Core
+turn t c = withSettings c (withTurn (c .settings) t)
+
+abbrev pub window : Window → Core → Core
+window w c = withSettings c (withWindow (c .settings) w)
+
+-- B and O on both axes
+abbrev pub position : Position → Core → Core
+position p c = withCarriage c (withPosition (c .carriage) p)
+
+-- polygon mode and bytes. How the polygon is kept besides (g) is no matter of this page: condition 3 judges it by what EP draws, `pm2-ends` by what PM2 restores
+abbrev pub polygon : Polygon → Bool → ℕ → Core → Core
+polygon g on n c =
+    withCarriage c (withPolygon (c .carriage) (record { mode = on; bytes = n; edges = g .edges; empty = g .empty; first = g .first; saved = g .saved }))
+
+-- ---- what the lines speak of
+
+-- the number of RO, SP and PM: "rounded first"; none is 0
+abbrev pub asked : Numbers → ℤ
+asked n = cond (eqb (n .count) 0) (pos 0) (rounded (n .first))
+
+-- "B becomes the location and O 0"
+abbrev pub atRest : Core → Position
+atRest c = restAt (location (c .settings) (c .carriage .position))
+
+-- the page point
+abbrev pub page : Core → Point
+page c = pagePoint (c .settings) (c .carriage .position)
+
+-- where a pair leads: "Absolute mode sets B to P1 and O to number − min"; "Relative mode adds to O"
+abbrev pub target : Core → Coordinates → Position
+target c n = cond (c .carriage .relative) (relativePosition (c .carriage .position) n) (absolutePosition (c .settings) n)
+
+-- IP's P1 and P2: "none, as fresh; two, P1, and P2 keeps its distance; four, both"; "rounded first"
+abbrev pub newP1 : Core → Numbers → Point
+newP1 c n = cond (eqb (n .count) 0) (point (c .settings .hard .left) (c .settings .hard .bottom)) (point (rounded (n .first)) (rounded (n .second)))
+
+abbrev pub newP2 : Core → Numbers → Point
+newP2 c n =
+    cond (eqb (n .count) 0) (point (c .settings .hard .right) (c .settings .hard .top))
+    (cond (eqb (n .count) 2)
+    (point (rounded (n .first) +ℤ (c .settings .p2 .x -ℤ c .settings .p1 .x)) (rounded (n .second) +ℤ (c .settings .p2 .y -ℤ c .settings .p1 .y)))
+    (point (rounded (n .third)) (rounded (n .fourth))))
+
+-- SC: "xmin, xmax, ymin, ymax; .. none, off"
+abbrev pub newScale : Numbers → Scale
+newScale n =
+    cond (eqb (n .count) 0) unscaled
+    (record { on = true; x = record { min = n .first; max = n .second }; y = record { min = n .third; max = n .fourth } })
+
+-- IW: "two corners in current units, in absolute sense, rounded, .. and put in order; none removes it"
+abbrev pub firstCorner : Core → Numbers → Point
+firstCorner c n = location (c .settings) (absolutePosition (c .settings) (record { x = n .first; y = n .second }))
+
+abbrev pub secondCorner : Core → Numbers → Point
+secondCorner c n = location (c .settings) (absolutePosition (c .settings) (record { x = n .third; y = n .fourth }))
+
+abbrev pub newWindow : Core → Numbers → Window
+newWindow c n = cond (eqb (n .count) 0) noWindow (record { set = true; area = orderedOf (firstCorner c n) (secondCorner c n) })
+
+-- bytes: "9 for each point, 2 when the point is the first of a PU or PD that itself changed the pen"; the point that closes a subpolygon
+abbrev pub pointBytes : Core → ℕ
+pointBytes c = cond (c .carriage .pen .changed) 11 9
+
+abbrev pub closingBytes : Core → ℕ
+closingBytes c = cond (closes c) 9 0
+
+abbrev pub bytes : Core → ℕ
+bytes c = c .carriage .polygon .bytes
+
+-- ---- on the second letter of a name: "PU, PD, PA, PR set pen or mode"
+
+abbrev pub named : {op : ℕ} → Instruction op → Core → Core
+named PU c = c ▸ penDown false ▸ penChanged (c .carriage .pen .down)
+named PD c = c ▸ penDown true ▸ penChanged (not (c .carriage .pen .down))
+named PA c = c ▸ relative false ▸ penChanged false
+named PR c = c ▸ relative true ▸ penChanged false
+named IN c = c
+named DF c = c
+named EP c = c
+named IP c = c
+named SC c = c
+named IW c = c
+named RO c = c
+named SP c = c
+named PM c = c
+named CI c = c
+named EA c = c
+named ER c = c
+
+-- ---- a pair; in polygon mode it stores a point
+
+abbrev pub paired : Core → Coordinates → Polygon → Core
+paired c n g =
+    cond (c .carriage .polygon .mode) (c ▸ position (target c n) ▸ penChanged false ▸ polygon g true (bytes c + pointBytes c))
+    (c ▸ position (target c n) ▸ penChanged false)
+
+-- ---- an instruction that ends
+
+-- "PM0 or PM empties the polygon, stores the current point, enters polygon mode"
+abbrev pub begins : Core → Polygon → Core
+begins c g = c ▸ polygon g true 11
+
+-- "PM1 ends a subpolygon, first adding its first point if the last differs in location, .. the exact position moving to that point ..; then the pen is up"
+abbrev pub ends : Core → Polygon → Core
+ends c g =
+    c ▸ penDown false ▸ penChanged false ▸ position (cond (closes c) (c .carriage .polygon .first) (c .carriage .position))
+    ▸ polygon g true (bytes c + (2 + closingBytes c))
+
+-- "PM2 closes likewise, leaves the mode, restores position, mode and pen of PM0", with so many bytes more
+abbrev pub leaves : Core → ℕ → Polygon → Core
+leaves c n g =
+    c ▸ penDown (c .carriage .polygon .saved .down) ▸ penChanged false ▸ relative (c .carriage .polygon .saved .relative)
+    ▸ position (c .carriage .polygon .saved .position)
+    ▸ polygon g false (bytes c + n)
+
+-- an instruction that is carried out
+abbrev pub ended : {op : ℕ} → Instruction op → Core → Numbers → Polygon → Core
+ended IN c n g =
+    c ▸ penDown false ▸ penChanged false ▸ relative false ▸ corners (point (c .settings .hard .left) (c .settings .hard .bottom)) (point (c .settings .hard .right) (c .settings .hard .top))
+    ▸ scale unscaled ▸ turn 0 ▸ window noWindow ▸ position (restAt (page c)) ▸ polygon g false 0
+ended DF c n g = c ▸ relative false ▸ scale unscaled ▸ window noWindow ▸ position (atRest c)
+ended IP c n g = c ▸ corners (newP1 c n) (newP2 c n) ▸ position (atRest c)
+ended SC c n g = c ▸ scale (newScale n) ▸ position (atRest c)
+ended RO c n g = c ▸ turn (natAbs (asked n) / 90) ▸ position (restAt (turnedBackOf (page c) (natAbs (asked n) / 90)))
+ended IW c n g = c ▸ window (newWindow c n)
+ended SP c n g = c ▸ penNumber (natAbs (asked n))
+ended PM c n g = cond (asked n ≡? pos 0) (begins c g) (cond (asked n ≡? pos 1) (ends c g) (leaves c (closingBytes c) g))
+ended EA c n g = c ▸ polygon g false 49
+ended ER c n g = c ▸ polygon g false 49
+ended EP c n g = c
+ended CI c n g = c
+ended PU c n g = c
+ended PD c n g = c
+ended PA c n g = c
+ended PR c n g = c
+
+-- one that is refused: "settings, position, polygon" are left, but PM2 with 7 "still ends, open"
+abbrev pub refused : {op : ℕ} → Instruction op → Core → Numbers → ℕ → Polygon → Core
+refused PM c n k g = cond (eqb k 7) (cond (asked n ≡? pos 2) (leaves c 0 g) c) c
+refused IN c n k g = c
+refused DF c n k g = c
+refused EP c n k g = c
+refused IP c n k g = c
+refused SC c n k g = c
+refused IW c n k g = c
+refused RO c n k g = c
+refused SP c n k g = c
+refused CI c n k g = c
+refused EA c n k g = c
+refused ER c n k g = c
+refused PU c n k g = c
+refused PD c n k g = c
+refused PA c n k g = c
+refused PR c n k g = c
+
+-- ---- whatever happens: an event of the sixteen, its number, and how the polygon is kept after it
+
+pub data Happens : Event → Type 0 where
+  nothing : Happens event.Nothing
+  name : {op : ℕ} → Instruction op → Happens (event.Named op)
+  pair : (n : Coordinates) → Happens (event.Pair n)
+  end : {op : ℕ} → Instruction op → (n : Numbers) → Happens (event.Ended op n)
+  refusal : (k : ℕ) → Happens (event.Refused k)
+
+abbrev pub changed : {e : Event} → Happens e → Core → ℕ → Polygon → Core
+changed nothing c k g = c
+changed (name i) c k g = cond (eqb k 0) (named i c) c
+changed (pair n) c k g = cond (eqb k 0) (paired c n g) c
+changed (end i n) c k g = cond (eqb k 0) (ended i c n g) (refused i c n k g)
+changed (refusal r) c k g = c

@@ -1,0 +1,143 @@
+-- When each event is carried out, and with which number it is refused if not (document 01, "Causes and numbers", and the sentences that say what must be so). A line is the
+-- list of what an event needs, in 01's order for one byte, each with the number that it gives where it is not met; where all is met the number is 0.
+-- Nothing here calls a rule; RefusalsProof.antt proves that the rules answer just these numbers.
+use mathlib.Core.Path.{_≡_}
+use mathlib.Core.Logic.{_⊎_}
+use mathlib.Core.Bool.{Bool, true, false}
+use Prim.Native.Nat.{ℕ, _+_, _≤_, _<_}
+use lib.IntN.{ℤ, pos, negℤ, _+ℤ_, _-ℤ_, _*ℤ_}
+use Rattle.exact.specs.Whole.{_≤ᶻ_, _<ᶻ_}
+use Rattle.clip.specs.declared.Point.{Point}
+use Rattle.clip.specs.declared.Rect.{Rect}
+use Rattle.reader.specs.declared.Numbers.{Numbers}
+use Rattle.reader.specs.declared.Event.{Event}
+use Rattle.plane.specs.Circle.{vertexPointOf}
+use Rattle.hpgl.specs.declared.Core.{Core}
+use Rattle.hpgl.specs.Place.{axisX, axisY, location, absolutePosition, relativePosition}
+use Rattle.hpgl.specs.Rules.{closes, firstTwo}
+use Rattle.hpgl.specs.Instruction.{Instruction, IN, DF, EP, IP, SC, IW, RO, SP, PM, CI, EA, ER, PU, PD, PA, PR}
+use Rattle.hpgl.specs.Effects.{target, newP1, newP2, firstCorner, secondCorner, pointBytes, closingBytes, bytes, Happens, nothing, name, pair, end, refusal}
+
+-- where P is met, what follows is so; where it is not, the number t is k
+pub record Needs (P : Type 0) (k t : ℕ) (rest : Type 0) : Type 0 where
+  pub met : P → rest
+  pub unmet : (P → ⊥) → t ≡ k
+
+-- ---- ranges
+
+abbrev pub Between : ℤ → ℤ → ℤ → Type 0
+Between least z most = (least ≤ᶻ z) × (z ≤ᶻ most)
+
+-- "must be within ±1,000,000"
+abbrev pub InRange : Point → Type 0
+InRange p = Between (negℤ (pos 1000000)) (p .x) (pos 1000000) × Between (negℤ (pos 1000000)) (p .y) (pos 1000000)
+
+-- "within −32768 to 32767"
+abbrev pub Short : Point → Type 0
+Short p = Between (negℤ (pos 32768)) (p .x) (pos 32767) × Between (negℤ (pos 32768)) (p .y) (pos 32767)
+
+-- ---- rounding
+
+-- "to the nearest whole; a half goes to the larger number, also below zero": k − 1/2 ≤ n / w < k + 1/2
+pub record Nearest (n : ℤ) (w : ℕ) (k : ℤ) : Type 0 where
+  pub least : pos w *ℤ (pos 2 *ℤ k -ℤ pos 1) ≤ᶻ pos 2 *ℤ n
+  pub most : pos 2 *ℤ n <ᶻ pos w *ℤ (pos 2 *ℤ k +ℤ pos 1)
+
+-- "SP, RO, PM .. numbers are rounded first"; none is 0
+pub record Asked (n : Numbers) (k : ℤ) : Type 0 where
+  pub none : n .count ≡ 0 → k ≡ pos 0
+  pub some : (n .count ≡ 0 → ⊥) → Nearest (n .first) 10000 k
+
+-- CI's chord angle: "in tenths of a degree, rounded, .. default 50"
+pub record Angle (n : Numbers) (a : ℤ) : Type 0 where
+  pub default : n .count ≡ 1 → a ≡ pos 50
+  pub some : (n .count ≡ 1 → ⊥) → Nearest (n .second) 1000 a
+
+-- ---- what instructions need
+
+-- "There only PU, PD, PA, PR, PM, IN are known"
+abbrev pub Known : {op : ℕ} → Instruction op → Type 0
+Known PU = Unit {0}
+Known PD = Unit {0}
+Known PA = Unit {0}
+Known PR = Unit {0}
+Known PM = Unit {0}
+Known IN = Unit {0}
+Known DF = ⊥
+Known EP = ⊥
+Known IP = ⊥
+Known SC = ⊥
+Known IW = ⊥
+Known RO = ⊥
+Known SP = ⊥
+Known CI = ⊥
+Known EA = ⊥
+Known ER = ⊥
+
+abbrev pub modeOn : Core → Type 0
+modeOn c = c .carriage .polygon .mode ≡ true
+
+-- "P1 and P2 must be within −32768 to 32767 and differ in x and in y"
+pub record Corners (p q : Point) : Type 0 where
+  pub p1 : Short p
+  pub p2 : Short q
+  pub x : p .x ≡ q .x → ⊥
+  pub y : p .y ≡ q .y → ⊥
+
+-- "PM1 or PM2 outside, PM0 inside: 3", and so is any other number
+pub data Mode (on : Bool) : ℤ → Type 0 where
+  begins : on ≡ false → Mode on (pos 0)
+  ends : on ≡ true → Mode on (pos 1)
+  leaves : on ≡ true → Mode on (pos 2)
+
+-- "Bytes, at most 1024: 2 for PM0 and PM1, 9 for each point"; "PM1 with its added point is refused together"
+pub record Fits (c : Core) (k : ℤ) : Type 0 where
+  pub one : k ≡ pos 1 → bytes c + (2 + closingBytes c) ≤ 1024
+  pub two : k ≡ pos 2 → closes c ≡ true → bytes c + 9 ≤ 1024
+
+-- "The four points at 0, 90, 180, 270 degrees must be in range"
+abbrev pub pointAt : Core → ℤ → ℕ → Point
+pointAt c r angle = vertexPointOf (axisX (c .settings)) (axisY (c .settings)) (c .carriage .position .x) (c .carriage .position .y) (record { u = r; v = pos 0 }) (pos angle)
+
+abbrev pub FourPoints : Core → ℤ → Type 0
+FourPoints c r = InRange (pointAt c r 0) × InRange (pointAt c r 900) × InRange (pointAt c r 1800) × InRange (pointAt c r 2700)
+
+-- ---- the numbers of an instruction that ends
+
+abbrev pub Judged : {op : ℕ} → Instruction op → Core → Numbers → ℕ → Type 0
+Judged IN c n t = t ≡ 0
+Judged DF c n t = t ≡ 0
+Judged EP c n t = t ≡ 0
+Judged IP c n t = Needs (Corners (newP1 c n) (newP2 c n)) 3 t (t ≡ 0)
+Judged SC c n t = Needs ((n .count ≡ 0 → ⊥) → (n .first ≡ n .second → ⊥) × (n .third ≡ n .fourth → ⊥)) 3 t (t ≡ 0)
+Judged IW c n t = Needs ((n .count ≡ 0 → ⊥) → InRange (firstCorner c n) × InRange (secondCorner c n)) 3 t (t ≡ 0)
+Judged RO c n t = (k : ℤ) → Asked n k → Needs ((k ≡ pos 0) ⊎ (k ≡ pos 90)) 3 t (t ≡ 0)
+Judged SP c n t = (k : ℤ) → Asked n k → Needs (Between (pos 0) k (pos 8)) 3 t (t ≡ 0)
+Judged PM c n t = (k : ℤ) → Asked n k → Needs (Mode (c .carriage .polygon .mode) k) 3 t (Needs (Fits c k) 7 t (t ≡ 0))
+Judged CI c n t = (a : ℤ) → Angle n a → Needs (Between (pos 5) a (pos 1200)) 3 t (Needs (FourPoints c (n .first)) 6 t (t ≡ 0))
+Judged EA c n t = Needs (InRange (location (c .settings) (absolutePosition (c .settings) (firstTwo n)))) 6 t (t ≡ 0)
+Judged ER c n t = Needs (InRange (location (c .settings) (relativePosition (c .carriage .position) (firstTwo n)))) 6 t (t ≡ 0)
+Judged PU c n t = t ≡ 0
+Judged PD c n t = t ≡ 0
+Judged PA c n t = t ≡ 0
+Judged PR c n t = t ≡ 0
+
+-- ---- the number t of any event
+
+abbrev pub Number : {e : Event} → Happens e → Core → ℕ → Type 0
+Number nothing c t = t ≡ 0
+Number (name i) c t = Needs (modeOn c → Known i) 1 t (t ≡ 0)
+Number (pair n) c t = Needs (InRange (location (c .settings) (target c n))) 6 t (Needs (modeOn c → bytes c + pointBytes c ≤ 1024) 7 t (t ≡ 0))
+Number (end i n) c t = Judged i c n t
+Number (refusal k) c t = t ≡ k
+
+-- ---- fresh
+
+-- "hard limits left, bottom, right, top, each −32768 to 32767, left < right, bottom < top"
+pub record Limits (r : Rect) : Type 0 where
+  pub left : Between (negℤ (pos 32768)) (r .left) (pos 32767)
+  pub bottom : Between (negℤ (pos 32768)) (r .bottom) (pos 32767)
+  pub right : Between (negℤ (pos 32768)) (r .right) (pos 32767)
+  pub top : Between (negℤ (pos 32768)) (r .top) (pos 32767)
+  pub wide : r .left <ᶻ r .right
+  pub high : r .bottom <ᶻ r .top

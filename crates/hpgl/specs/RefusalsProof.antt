@@ -1,0 +1,496 @@
+-- The rules answer the numbers of Refusals.antt. Each test of a rule tells whether a need is met (`Tells`), and a rule is a chain of tests (`needs`).
+use mathlib.Core.Path.{_≡_, refl, sym, ap, _∙_, subst}
+use mathlib.Core.Logic.{_⊎_, inl, inr}
+use mathlib.Core.Bool.{Bool, true, false, cond, not, _&&_, true≢false}
+use Prim.Native.Nat.{ℕ, _+_, _≤_, _<_}
+use native.Mathlib.Omega.{arith}
+use borrow.Author.Tests.{eqb-true, eqb-false, leb-true, leb-false}
+use lib.Dec.{leb, eqb}
+use lib.IntN.{ℤ, pos, negℤ, natAbs, _+ℤ_, _-ℤ_, _*ℤ_}
+use Rattle.exact.specs.Whole.{_≤ᶻ_, _<ᶻ_, is, Z, ord, pick, _<?_, _≤?_, _≡?_, <?-true, <?-false, ≤?-true, ≤?-false, ≡?-true, ≡?-false}
+use Rattle.exact.specs.Divide.{nearestDiv}
+use Rattle.exact.specs.Nearest.{nearest-law, nearest-only}
+use Rattle.clip.specs.declared.Point.{Point}
+use Rattle.clip.specs.declared.Rect.{Rect}
+use Rattle.reader.specs.declared.Coordinates.{Coordinates}
+use Rattle.reader.specs.declared.Numbers.{Numbers}
+use Rattle.reader.specs.declared.Event.{Event}
+use Rattle.mnemonics.specs.Table.{cellOf, knownInPolygon}
+use Rattle.plane.specs.declared.position.ExactPosition.{ExactPosition}
+use Rattle.plane.specs.Position.{relativeOf, locationOf, inRangeOf}
+use Rattle.plane.specs.declared.position.Axis.{Axis}
+use Rattle.plane.specs.CircleLaws.{point-0, point-90, point-180, point-270}
+use Rattle.hpgl.specs.Cases.{whether}
+use Rattle.hpgl.specs.declared.Position.{Position}
+use Rattle.hpgl.specs.declared.Core.{Core}
+use Rattle.hpgl.specs.declared.Action.the-variants.{Keep}
+use Rattle.hpgl.specs.declared.Acted.{Acted}
+use Rattle.hpgl.specs.Numbers.{badLimits, outOfRange, polygonFull}
+use Rattle.hpgl.specs.Place.{point, rounded, axisX, axisY, location, inRange, relativePosition}
+use Rattle.hpgl.specs.Change.{withPolygon, withCarriage}
+use Rattle.hpgl.specs.Rules.{done, refuse, freshSettings, carried, nameRule, inRule, dfRule, int16, goodCorners, setCorners, ipRule, scRule, setTurn, roRule, setWindow, iwRule, setPen, spRule, chordAngle, moveTo, pointCost, storePoint, aimed, goTo, pairRule, begun, edgeTo, pm0, closes, ended, leave, pm1In, pm1, pm2In, pm2, pmRule, epRule, rectangleTo, eaRule, erRule, circleFits, circleWith, ciRule, endRule, actOn}
+use Rattle.hpgl.specs.Machine.{rect, goodLimits, hardLimits, freshNumber}
+use Rattle.hpgl.specs.Related.{Sound}
+use Rattle.hpgl.specs.Instruction.{Instruction, IN, DF, EP, IP, SC, IW, RO, SP, PM, CI, EA, ER, PU, PD, PA, PR}
+use Rattle.hpgl.specs.Effects.{asked, newP1, newP2, firstCorner, secondCorner, target, pointBytes, closingBytes, bytes, Happens, nothing, name, pair, end, refusal}
+use Rattle.hpgl.specs.Refusals.{Needs, Between, InRange, Nearest, Asked, Angle, Known, modeOn, Corners, Mode, begins, ends, leaves, Fits, pointAt, FourPoints, Judged, Number, Limits}
+
+-- ---- tests
+
+-- a test, and what it tells
+record Tells (b : Bool) (P : Type 0) : Type 0 where
+  yes : b ≡ true → P
+  no : b ≡ false → P → ⊥
+
+alike : {b : Bool} {P Q : Type 0} → (P → Q) → (Q → P) → Tells b P → Tells b Q
+alike f g w = record { yes = λ e. f (w .yes e); no = λ e q. w .no e (g q) }
+
+both : {a b : Bool} {P Q : Type 0} → Tells a P → Tells b Q → Tells (a && b) (P × Q)
+both {a = true} {b} v w = record { yes = λ e. (v .yes refl, w .yes e); no = λ e p. w .no e (p .1) }
+both {a = false} {b} v w = record { yes = λ e. absurd (true≢false (sym e)); no = λ e p. v .no refl (p .0) }
+
+opposite : {b : Bool} {P : Type 0} → Tells b P → Tells (not b) (P → ⊥)
+opposite {b = true} w = record { yes = λ e. absurd (true≢false (sym e)); no = λ e n. n (w .yes refl) }
+opposite {b = false} w = record { yes = λ e. w .no refl; no = λ e n. true≢false e }
+
+le-tells : (a b : ℤ) → Tells (a ≤? b) (a ≤ᶻ b)
+le-tells a b = record { yes = ≤?-true a b; no = λ e h. clash (≤?-false a b e) h }
+  where
+    clash : b <ᶻ a → a ≤ᶻ b → ⊥
+    clash h k = omega (arith, ord)
+
+lt-tells : (a b : ℤ) → Tells (a <? b) (a <ᶻ b)
+lt-tells a b = record { yes = <?-true a b; no = λ e h. clash (<?-false a b e) h }
+  where
+    clash : b ≤ᶻ a → a <ᶻ b → ⊥
+    clash h k = omega (arith, ord)
+
+same-tells : (a b : ℤ) → Tells (a ≡? b) (a ≡ b)
+same-tells a b = record { yes = ≡?-true a b; no = ≡?-false a b }
+
+count-tells : (k n : ℕ) → Tells (eqb k n) (k ≡ n)
+count-tells k n = record { yes = eqb-true k n; no = eqb-false k n }
+
+fits-tells : (k n : ℕ) → Tells (leb k n) (k ≤ n)
+fits-tells k n = record { yes = leb-true k n; no = λ e h. omega (arith, leb-false k n e) }
+
+between-tells : (l z m : ℤ) → Tells ((l ≤? z) && (z ≤? m)) (Between l z m)
+between-tells l z m = both (le-tells l z) (le-tells z m)
+
+-- a rule that asks whether P is met
+needs : (b : Bool) {P : Type 0} (k : ℕ) (x y : Acted) (R : ℕ → Type 0) → Tells b P → y .number ≡ k → (b ≡ true → R (x .number)) →
+    Needs P k (cond b x y .number) (R (cond b x y .number))
+needs true k x y R w e r = record { met = λ p. r refl; unmet = λ u. absurd (u (w .yes refl)) }
+needs false k x y R w e r = record { met = λ p. absurd (w .no refl p); unmet = λ u. e }
+
+short-tells : (z : ℤ) → Tells (int16 z) (Between (negℤ (pos 32768)) z (pos 32767))
+unfolding int16
+short-tells z = between-tells (negℤ (pos 32768)) z (pos 32767)
+
+reach-tells : (z : ℤ) → Tells (inRangeOf z) (Between (negℤ (pos 1000000)) z (pos 1000000))
+unfolding inRangeOf
+reach-tells z = go (z <? negℤ (pos 1000000)) (pos 1000000 <? z) refl refl
+  where
+    go : (s t : Bool) → (z <? negℤ (pos 1000000)) ≡ s → (pos 1000000 <? z) ≡ t → Tells (pick s false (pick t false true)) (Between (negℤ (pos 1000000)) z (pos 1000000))
+    go true t e f = record { yes = λ k. absurd (true≢false (sym k)); no = λ k h. omega (arith, ord, <?-true z (negℤ (pos 1000000)) e, h .0) }
+    go false true e f = record { yes = λ k. absurd (true≢false (sym k)); no = λ k h. omega (arith, ord, <?-true (pos 1000000) z f, h .1) }
+    go false false e f = record { yes = λ k. (<?-false z (negℤ (pos 1000000)) e, <?-false (pos 1000000) z f); no = λ k h. true≢false k }
+
+range-tells : (p : Point) → Tells (inRange p) (InRange p)
+unfolding inRange
+range-tells p = both (reach-tells (p .x)) (reach-tells (p .y))
+
+-- ---- rounding
+
+-- the law of the nearest, as 01 has it and as `exact` has it
+module _ (n d q : ℤ) where
+  half-low : pos 2 *ℤ d *ℤ q ≤ᶻ pos 2 *ℤ n +ℤ d → d *ℤ (pos 2 *ℤ q -ℤ pos 1) ≤ᶻ pos 2 *ℤ n
+  half-low = rw (is n, is d, is q) (simp Z (omega arith))
+
+  half-high : pos 2 *ℤ n +ℤ d <ᶻ pos 2 *ℤ d *ℤ (q +ℤ pos 1) → pos 2 *ℤ n <ᶻ d *ℤ (pos 2 *ℤ q +ℤ pos 1)
+  half-high = rw (is n, is d, is q) (simp Z (omega arith))
+
+  low-half : d *ℤ (pos 2 *ℤ q -ℤ pos 1) ≤ᶻ pos 2 *ℤ n → pos 2 *ℤ d *ℤ q ≤ᶻ pos 2 *ℤ n +ℤ d
+  low-half = rw (is n, is d, is q) (simp Z (omega arith))
+
+  high-half : pos 2 *ℤ n <ᶻ d *ℤ (pos 2 *ℤ q +ℤ pos 1) → pos 2 *ℤ n +ℤ d <ᶻ pos 2 *ℤ d *ℤ (q +ℤ pos 1)
+  high-half = rw (is n, is d, is q) (simp Z (omega arith))
+
+nearest-is : (n : ℤ) (w : ℕ) → 0 < w → Nearest n w (nearestDiv n (pos w))
+nearest-is n w h = let l = nearest-law n (pos w) (omega (arith, ord)) in record { least = half-low n (pos w) (nearestDiv n (pos w)) (l .0); most = half-high n (pos w) (nearestDiv n (pos w)) (l .1) }
+
+nearest-one : (n : ℤ) (w : ℕ) (k : ℤ) → 0 < w → Nearest n w k → k ≡ nearestDiv n (pos w)
+nearest-one n w k h r = nearest-only n (pos w) k (omega (arith, ord)) (low-half n (pos w) k (r .least)) (high-half n (pos w) k (r .most))
+
+-- what RO, SP and PM are asked for
+pub asked-is : (n : Numbers) → Asked n (asked n)
+asked-is n = go (eqb (n .count) 0) (count-tells (n .count) 0)
+  where
+    go : (b : Bool) → Tells b (n .count ≡ 0) → Asked n (cond b (pos 0) (rounded (n .first)))
+    go true w = record { none = λ e. refl; some = λ u. absurd (u (w .yes refl)) }
+    go false w = record { none = λ e. absurd (w .no refl e); some = λ u. nearest-is (n .first) 10000 (omega arith) }
+
+asked-one : (n : Numbers) (k : ℤ) → Asked n k → k ≡ asked n
+asked-one n k h = go (eqb (n .count) 0) (count-tells (n .count) 0)
+  where
+    go : (b : Bool) → Tells b (n .count ≡ 0) → k ≡ cond b (pos 0) (rounded (n .first))
+    go true w = h .none (w .yes refl)
+    go false w = nearest-one (n .first) 10000 k (omega arith) (h .some (w .no refl))
+
+-- CI's chord angle
+pub angle-is : (n : Numbers) → Angle n (chordAngle n)
+unfolding chordAngle
+angle-is n = go (eqb (n .count) 1) (count-tells (n .count) 1)
+  where
+    go : (b : Bool) → Tells b (n .count ≡ 1) → Angle n (cond b (pos 50) (nearestDiv (n .second) (pos 1000)))
+    go true w = record { default = λ e. refl; some = λ u. absurd (u (w .yes refl)) }
+    go false w = record { default = λ e. absurd (w .no refl e); some = λ u. nearest-is (n .second) 1000 (omega arith) }
+
+angle-one : (n : Numbers) (a : ℤ) → Angle n a → a ≡ chordAngle n
+unfolding chordAngle
+angle-one n a h = go (eqb (n .count) 1) (count-tells (n .count) 1)
+  where
+    go : (b : Bool) → Tells b (n .count ≡ 1) → a ≡ cond b (pos 50) (nearestDiv (n .second) (pos 1000))
+    go true w = h .default (w .yes refl)
+    go false w = nearest-one (n .second) 1000 a (omega arith) (h .some (w .no refl))
+
+apart : (i j : ℕ) → (i ≡ j → ⊥) → pos i ≡ pos j → ⊥
+apart i j f e = f (ap natAbs e)
+
+-- ---- names and pairs
+
+known : {op : ℕ} (i : Instruction op) → Tells (knownInPolygon op) (Known i)
+unfolding knownInPolygon cellOf
+known IN = record { yes = λ e. tt; no = λ e k. true≢false e }
+known DF = record { yes = λ e. true≢false (sym e); no = λ e k. k }
+known EP = record { yes = λ e. true≢false (sym e); no = λ e k. k }
+known IP = record { yes = λ e. true≢false (sym e); no = λ e k. k }
+known SC = record { yes = λ e. true≢false (sym e); no = λ e k. k }
+known IW = record { yes = λ e. true≢false (sym e); no = λ e k. k }
+known RO = record { yes = λ e. true≢false (sym e); no = λ e k. k }
+known SP = record { yes = λ e. true≢false (sym e); no = λ e k. k }
+known PM = record { yes = λ e. tt; no = λ e k. true≢false e }
+known CI = record { yes = λ e. true≢false (sym e); no = λ e k. k }
+known EA = record { yes = λ e. true≢false (sym e); no = λ e k. k }
+known ER = record { yes = λ e. true≢false (sym e); no = λ e k. k }
+known PU = record { yes = λ e. tt; no = λ e k. true≢false e }
+known PD = record { yes = λ e. tt; no = λ e k. true≢false e }
+known PA = record { yes = λ e. tt; no = λ e k. true≢false e }
+known PR = record { yes = λ e. tt; no = λ e k. true≢false e }
+
+-- a need that is asked for in polygon mode alone
+in-mode : {m b : Bool} {P : Type 0} → Tells b P → Tells (not (m && not b)) (m ≡ true → P)
+in-mode {m = true} {b = true} w = record { yes = λ e h. w .yes refl; no = λ e h. true≢false e }
+in-mode {m = true} {b = false} w = record { yes = λ e. absurd (true≢false (sym e)); no = λ e h. w .no refl (h refl) }
+in-mode {m = false} {b} w = record { yes = λ e h. absurd (true≢false (sym h)); no = λ e h. true≢false e }
+
+-- a rule that refuses where its test holds
+refuses : (b : Bool) {P : Type 0} (k : ℕ) (x y : Acted) → Tells (not b) P → x .number ≡ k → y .number ≡ 0 → Needs P k (cond b x y .number) (cond b x y .number ≡ 0)
+refuses true k x y w e f = record { met = λ p. absurd (w .no refl p); unmet = λ u. e }
+refuses false k x y w e f = record { met = λ p. f; unmet = λ u. absurd (u (w .yes refl)) }
+
+module _ (c : Core) where
+  judged-name : {op : ℕ} (i : Instruction op) → Number (name i) c (nameRule c op .number)
+  unfolding nameRule done refuse
+  judged-name {op} i = refuses (c .carriage .polygon .mode && not (knownInPolygon op)) 1 _ _ (in-mode (known i)) refl refl
+
+  judged-store : (n : Coordinates) → c .carriage .polygon .mode ≡ true →
+      Needs (modeOn c → bytes c + pointBytes c ≤ 1024) 7 (storePoint c (target c n) .number) (storePoint c (target c n) .number ≡ 0)
+  unfolding storePoint pointCost done refuse
+  judged-store n m =
+      needs (leb (bytes c + pointBytes c) 1024) 7 _ _ (λ (t : ℕ). t ≡ 0) (alike (λ h e. h) (λ f. f m) (fits-tells (bytes c + pointBytes c) 1024)) refl (λ e. refl)
+
+  judged-move : (n : Coordinates) → c .carriage .polygon .mode ≡ false →
+      Needs (modeOn c → bytes c + pointBytes c ≤ 1024) 7 (moveTo c (target c n) .number) (moveTo c (target c n) .number ≡ 0)
+  unfolding moveTo done
+  judged-move n m = record { met = λ p. refl; unmet = λ u. absurd (u (λ e. absurd (true≢false (sym e ∙ m)))) }
+
+  judged-pair : (n : Coordinates) → Number (pair n) c (pairRule c n .number)
+  unfolding pairRule goTo aimed refuse
+  judged-pair n =
+      needs (inRange (location (c .settings) (target c n))) 6 _ _ (λ (t : ℕ). Needs (modeOn c → bytes c + pointBytes c ≤ 1024) 7 t (t ≡ 0)) (range-tells _) refl
+      (λ e. whether (λ (t : Acted). Needs (modeOn c → bytes c + pointBytes c ≤ 1024) 7 (t .number) (t .number ≡ 0)) (c .carriage .polygon .mode) (judged-store n) (judged-move n))
+
+  -- ---- settings
+
+  corners-tell : (p q : Point) → Tells (goodCorners p q) (Corners p q)
+  unfolding goodCorners
+  corners-tell p q =
+      alike
+      (λ h. record { p1 = (h .0 .0 .0 .0 .0, h .0 .0 .0 .0 .1); p2 = (h .0 .0 .0 .1, h .0 .0 .1); x = h .0 .1; y = h .1 })
+      (λ h. (((((h .p1 .0, h .p1 .1), h .p2 .0), h .p2 .1), h .x), h .y))
+      (both (both (both (both (both (short-tells (p .x)) (short-tells (p .y))) (short-tells (q .x))) (short-tells (q .y))) (opposite (same-tells (p .x) (q .x)))) (opposite (same-tells (p .y) (q .y))))
+
+  abbrev Cornered : Point → Point → Acted → Type 0
+  Cornered p q t = Needs (Corners p q) 3 (t .number) (t .number ≡ 0)
+
+  judged-corners : (p q : Point) → Cornered p q (setCorners c p q)
+  unfolding setCorners done refuse
+  judged-corners p q = needs (goodCorners p q) 3 _ _ (λ (t : ℕ). t ≡ 0) (corners-tell p q) refl (λ e. refl)
+
+  judged-ip : (n : Numbers) → Cornered (newP1 c n) (newP2 c n) (ipRule c n)
+  unfolding ipRule freshSettings carried
+  judged-ip n = by (eqb (n .count) 0) (eqb (n .count) 2) _ _ _ _ _
+    where
+      by : (s t : Bool) (p q u v w : Point) →
+          Cornered (cond s p u) (cond s q (cond t v w)) (cond s (setCorners c p q) (cond t (setCorners c u v) (setCorners c u w)))
+      by true t p q u v w = judged-corners p q
+      by false true p q u v w = judged-corners u v
+      by false false p q u v w = judged-corners u w
+
+  judged-sc : (n : Numbers) → Judged SC c n (scRule c n .number)
+  unfolding scRule done refuse
+  judged-sc n = by (eqb (n .count) 0) (count-tells (n .count) 0) (n .first ≡? n .second) (same-tells _ _) (n .third ≡? n .fourth) (same-tells _ _) _ _
+    where
+      by : (r : Bool) → Tells r (n .count ≡ 0) → (s : Bool) → Tells s (n .first ≡ n .second) → (t : Bool) → Tells t (n .third ≡ n .fourth) → (x y : Core) →
+          Judged SC c n (cond r (done x Keep) (cond s (refuse c outOfRange) (cond t (refuse c outOfRange) (done y Keep))) .number)
+      by true u s v t w x y = record { met = λ p. refl; unmet = λ f. absurd (f (λ z. absurd (z (u .yes refl)))) }
+      by false u true v t w x y = record { met = λ p. absurd (p (u .no refl) .0 (v .yes refl)); unmet = λ f. refl }
+      by false u false v true w x y = record { met = λ p. absurd (p (u .no refl) .1 (w .yes refl)); unmet = λ f. refl }
+      by false u false v false w x y = record { met = λ p. refl; unmet = λ f. absurd (f (λ z. (v .no refl, w .no refl))) }
+
+  judged-iw : (n : Numbers) → Judged IW c n (iwRule c n .number)
+  unfolding iwRule setWindow done refuse
+  judged-iw n = by (eqb (n .count) 0) (count-tells (n .count) 0) (inRange (firstCorner c n) && inRange (secondCorner c n)) (both (range-tells (firstCorner c n)) (range-tells (secondCorner c n))) _ _
+    where
+      by : (r : Bool) → Tells r (n .count ≡ 0) → (s : Bool) → Tells s (InRange (firstCorner c n) × InRange (secondCorner c n)) → (x y : Core) →
+          Judged IW c n (cond r (done x Keep) (cond s (done y Keep) (refuse c outOfRange)) .number)
+      by true u s v x y = record { met = λ p. refl; unmet = λ f. absurd (f (λ z. absurd (z (u .yes refl)))) }
+      by false u true v x y = record { met = λ p. refl; unmet = λ f. absurd (f (λ z. v .yes refl)) }
+      by false u false v x y = record { met = λ p. absurd (v .no refl (p (u .no refl))); unmet = λ f. refl }
+
+  -- what is asked for, in place of what is meant
+  of-asked : (n : Numbers) (P : ℤ → Type 0) → P (asked n) → (k : ℤ) → Asked n k → P k
+  of-asked n P p k h = subst P (sym (asked-one n k h)) p
+
+  abbrev Turning : ℤ → Acted → Type 0
+  Turning k t = Needs ((k ≡ pos 0) ⊎ (k ≡ pos 90)) 3 (t .number) (t .number ≡ 0)
+
+  judged-ro : (n : Numbers) → Turning (asked n) (roRule c n)
+  unfolding roRule setTurn done refuse
+  judged-ro n = by (eqb (n .count) 0) (rounded (n .first))
+    where
+      by : (b : Bool) (k : ℤ) → Turning (cond b (pos 0) k) (cond b (setTurn c 0) (cond (k ≡? pos 0) (setTurn c 0) (cond (k ≡? pos 90) (setTurn c 1) (refuse c outOfRange))))
+      by true k = record { met = λ p. refl; unmet = λ f. absurd (f (inl refl)) }
+      by false k = go (k ≡? pos 0) (same-tells k (pos 0)) (k ≡? pos 90) (same-tells k (pos 90))
+        where
+          go : (r : Bool) → Tells r (k ≡ pos 0) → (s : Bool) → Tells s (k ≡ pos 90) → Turning k (cond r (setTurn c 0) (cond s (setTurn c 1) (refuse c outOfRange)))
+          go true u s v = record { met = λ p. refl; unmet = λ f. absurd (f (inl (u .yes refl))) }
+          go false u true v = record { met = λ p. refl; unmet = λ f. absurd (f (inr (v .yes refl))) }
+          go false u false v = record { met = neither; unmet = λ f. refl }
+            where
+              neither : (k ≡ pos 0) ⊎ (k ≡ pos 90) → _≡_ {A = ℕ} 3 0
+              neither (inl e) = absurd (u .no refl e)
+              neither (inr e) = absurd (v .no refl e)
+
+  abbrev Penned : ℤ → Acted → Type 0
+  Penned k t = Needs (Between (pos 0) k (pos 8)) 3 (t .number) (t .number ≡ 0)
+
+  judged-sp : (n : Numbers) → Penned (asked n) (spRule c n)
+  unfolding spRule setPen done refuse
+  judged-sp n = by (eqb (n .count) 0) (rounded (n .first))
+    where
+      by : (b : Bool) (k : ℤ) → Penned (cond b (pos 0) k) (cond b (setPen c 0) (cond ((pos 0 ≤? k) && (k ≤? pos 8)) (setPen c (natAbs k)) (refuse c outOfRange)))
+      by true k = record { met = λ p. refl; unmet = λ f. absurd (f (omega (arith, ord), omega (arith, ord))) }
+      by false k = needs ((pos 0 ≤? k) && (k ≤? pos 8)) 3 _ _ (λ (t : ℕ). t ≡ 0) (between-tells (pos 0) k (pos 8)) refl (λ e. refl)
+
+  -- ---- polygon mode
+
+  abbrev on : Bool
+  on = c .carriage .polygon .mode
+
+  abbrev Moded : ℤ → Acted → Type 0
+  Moded k t = Needs (Mode on k) 3 (t .number) (Needs (Fits c k) 7 (t .number) (t .number ≡ 0))
+
+  zero-off : Mode on (pos 0) → on ≡ false
+  zero-off (begins e) = e
+
+  one-on : Mode on (pos 1) → on ≡ true
+  one-on (ends e) = e
+
+  two-on : Mode on (pos 2) → on ≡ true
+  two-on (leaves e) = e
+
+  -- a number of PM where the mode forbids it
+  forbidden : (k : ℤ) (t : Acted) → (Mode on k → ⊥) → t .number ≡ 3 → Moded k t
+  forbidden k t f e = record { met = λ m. absurd (f m); unmet = λ u. e }
+
+  allowed : (k : ℤ) (t : Acted) → Mode on k → Needs (Fits c k) 7 (t .number) (t .number ≡ 0) → Moded k t
+  allowed k t m h = record { met = λ m. h; unmet = λ u. absurd (u m) }
+
+  fits-0 : Fits c (pos 0)
+  fits-0 = record { one = λ e. absurd (apart 0 1 (λ k. omega (arith, k)) e); two = λ e. absurd (apart 0 2 (λ k. omega (arith, k)) e) }
+
+  fits-1 : bytes c + (2 + closingBytes c) ≤ 1024 → Fits c (pos 1)
+  fits-1 h = record { one = λ e. h; two = λ e. absurd (apart 1 2 (λ k. omega (arith, k)) e) }
+
+  fits-2 : (closes c ≡ true → bytes c + 9 ≤ 1024) → Fits c (pos 2)
+  fits-2 h = record { one = λ e. absurd (apart 2 1 (λ k. omega (arith, k)) e); two = λ e. h }
+
+  moded-0 : Moded (pos 0) (pm0 c)
+  unfolding pm0 done refuse
+  moded-0 =
+      whether (Moded (pos 0)) on (λ e. forbidden (pos 0) (refuse c outOfRange) (λ m. true≢false (sym e ∙ zero-off m)) refl)
+      (λ e. allowed (pos 0) (done (withCarriage c (withPolygon (c .carriage) (begun (c .carriage)))) Keep) (begins e) (record { met = λ p. refl; unmet = λ u. absurd (u fits-0) }))
+
+  -- PM1 with its bytes, by whether it closes
+  with-bytes : (b : Bool) → closes c ≡ b → Tells (leb (bytes c + (2 + cond b 9 0)) 1024) (Fits c (pos 1))
+  with-bytes b k =
+      alike (λ h. fits-1 (subst (λ (b : Bool). bytes c + (2 + cond b 9 0) ≤ 1024) (sym k) h)) (λ f. subst (λ (b : Bool). bytes c + (2 + cond b 9 0) ≤ 1024) k (f .one refl))
+      (fits-tells (bytes c + (2 + cond b 9 0)) 1024)
+
+  fits-one : Needs (Fits c (pos 1)) 7 (pm1In c .number) (pm1In c .number ≡ 0)
+  unfolding pm1In done refuse
+  fits-one =
+      whether (λ (t : Acted). Needs (Fits c (pos 1)) 7 (t .number) (t .number ≡ 0)) (closes c)
+      (λ k. needs (leb (bytes c + 11) 1024) 7 (done (ended c 11 1 (c .carriage .polygon .first)) (edgeTo c (c .carriage .polygon .first))) (refuse c polygonFull) (λ (t : ℕ). t ≡ 0) (with-bytes true k) refl (λ e. refl))
+      (λ k. needs (leb (bytes c + 2) 1024) 7 (done (ended c 2 0 (c .carriage .position)) Keep) (refuse c polygonFull) (λ (t : ℕ). t ≡ 0) (with-bytes false k) refl (λ e. refl))
+
+  moded-1 : Moded (pos 1) (pm1 c)
+  unfolding pm1 refuse
+  moded-1 =
+      whether (Moded (pos 1)) on (λ e. allowed (pos 1) (pm1In c) (ends e) fits-one)
+      (λ e. forbidden (pos 1) (refuse c outOfRange) (λ m. true≢false (sym (one-on m) ∙ e)) refl)
+
+  fits-two : Needs (Fits c (pos 2)) 7 (pm2In c .number) (pm2In c .number ≡ 0)
+  unfolding pm2In done refuse
+  fits-two =
+      whether (λ (t : Acted). Needs (Fits c (pos 2)) 7 (t .number) (t .number ≡ 0)) (closes c)
+      (λ k. needs (leb (bytes c + 9) 1024) 7 (done (leave c 9 1) (edgeTo c (c .carriage .polygon .first))) (refuse (leave c 0 0) polygonFull) (λ (t : ℕ). t ≡ 0)
+      (alike (λ h. fits-2 (λ z. h)) (λ f. f .two refl k) (fits-tells (bytes c + 9) 1024)) refl (λ e. refl))
+      (λ k. record { met = λ p. refl; unmet = λ u. absurd (u (fits-2 (λ z. absurd (true≢false (sym z ∙ k))))) })
+
+  moded-2 : Moded (pos 2) (pm2 c)
+  unfolding pm2 refuse
+  moded-2 =
+      whether (Moded (pos 2)) on (λ e. allowed (pos 2) (pm2In c) (leaves e) fits-two)
+      (λ e. forbidden (pos 2) (refuse c outOfRange) (λ m. true≢false (sym (two-on m) ∙ e)) refl)
+
+  judged-pm : (n : Numbers) → Moded (asked n) (pmRule c n)
+  unfolding pmRule refuse
+  judged-pm n = by (eqb (n .count) 0) (rounded (n .first))
+    where
+      none : (k : ℤ) → (k ≡ pos 0 → ⊥) → (k ≡ pos 1 → ⊥) → (k ≡ pos 2 → ⊥) → Mode on k → ⊥
+      none k u v w (begins e) = u refl
+      none k u v w (ends e) = v refl
+      none k u v w (leaves e) = w refl
+
+      go : (k : ℤ) (r s t : Bool) → Tells r (k ≡ pos 0) → Tells s (k ≡ pos 1) → Tells t (k ≡ pos 2) → Moded k (cond r (pm0 c) (cond s (pm1 c) (cond t (pm2 c) (refuse c outOfRange))))
+      go k true s t u v w = subst (λ (j : ℤ). Moded j (pm0 c)) (sym (u .yes refl)) moded-0
+      go k false true t u v w = subst (λ (j : ℤ). Moded j (pm1 c)) (sym (v .yes refl)) moded-1
+      go k false false true u v w = subst (λ (j : ℤ). Moded j (pm2 c)) (sym (w .yes refl)) moded-2
+      go k false false false u v w = forbidden k (refuse c outOfRange) (none k (u .no refl) (v .no refl) (w .no refl)) refl
+
+      by : (b : Bool) (k : ℤ) →
+          Moded (cond b (pos 0) k) (cond b (pm0 c) (cond (k ≡? pos 0) (pm0 c) (cond (k ≡? pos 1) (pm1 c) (cond (k ≡? pos 2) (pm2 c) (refuse c outOfRange)))))
+      by true k = moded-0
+      by false k = go k _ _ _ (same-tells k (pos 0)) (same-tells k (pos 1)) (same-tells k (pos 2))
+
+  -- ---- rectangles and circles
+
+  judged-rectangle : (p : Position) → Needs (InRange (location (c .settings) p)) 6 (rectangleTo c p .number) (rectangleTo c p .number ≡ 0)
+  unfolding rectangleTo done refuse
+  judged-rectangle p = needs (inRange (location (c .settings) p)) 6 _ _ (λ (t : ℕ). t ≡ 0) (range-tells _) refl (λ e. refl)
+
+  module _ (w : Sound (c .settings)) where
+    -- the positions that the rule asks for are the points at these angles
+    still : (p : ExactPosition) → relativeOf p (pos 0) ≡ p
+    unfolding relativeOf
+    still p = λ i. record { base = p .base; offset = same (p .offset) i }
+      where
+        same : (z : ℤ) → z +ℤ pos 0 ≡ z
+        same z = rw (is z) (simp Z (omega arith))
+
+    abbrev X : Axis
+    X = axisX (c .settings)
+
+    abbrev Y : Axis
+    Y = axisY (c .settings)
+
+    abbrev here : Position
+    here = c .carriage .position
+
+    point-tells : (u v r : ℤ) (angle : ℕ) → pointAt c r angle ≡ point (locationOf X (relativeOf (here .x) u)) (locationOf Y (relativeOf (here .y) v)) →
+        Tells (inRange (location (c .settings) (relativePosition here (record { x = u; y = v })))) (InRange (pointAt c r angle))
+    unfolding location relativePosition
+    point-tells u v r angle e = subst (λ (p : Point). Tells (inRange p) (InRange (pointAt c r angle))) e (range-tells (pointAt c r angle))
+
+    beside : (u r : ℤ) (angle : ℕ) → pointAt c r angle ≡ point (locationOf X (relativeOf (here .x) u)) (locationOf Y (here .y)) →
+        pointAt c r angle ≡ point (locationOf X (relativeOf (here .x) u)) (locationOf Y (relativeOf (here .y) (pos 0)))
+    beside u r angle e = e ∙ ap (λ (p : ExactPosition). point (locationOf X (relativeOf (here .x) u)) (locationOf Y p)) (sym (still (here .y)))
+
+    above : (v r : ℤ) (angle : ℕ) → pointAt c r angle ≡ point (locationOf X (here .x)) (locationOf Y (relativeOf (here .y) v)) →
+        pointAt c r angle ≡ point (locationOf X (relativeOf (here .x) (pos 0))) (locationOf Y (relativeOf (here .y) v))
+    above v r angle e = e ∙ ap (λ (p : ExactPosition). point (locationOf X p) (locationOf Y (relativeOf (here .y) v))) (sym (still (here .x)))
+
+    four-tell : (r : ℤ) → Tells (circleFits c r) (FourPoints c r)
+    unfolding circleFits
+    four-tell r =
+        alike (λ h. (h .0 .0 .0, h .0 .0 .1, h .0 .1, h .1)) (λ h. (((h .0, h .1), h .2), h .3))
+        (both (both (both
+        (point-tells r (pos 0) r 0 (beside r r 0 (point-0 X Y (here .x) (here .y) r (w .x) (w .y))))
+        (point-tells (pos 0) r r 900 (above r r 900 (point-90 X Y (here .x) (here .y) r (w .x) (w .y)))))
+        (point-tells (negℤ r) (pos 0) r 1800 (beside (negℤ r) r 1800 (point-180 X Y (here .x) (here .y) r (w .x) (w .y)))))
+        (point-tells (pos 0) (negℤ r) r 2700 (above (negℤ r) r 2700 (point-270 X Y (here .x) (here .y) r (w .x) (w .y)))))
+
+    judged-ci : (n : Numbers) → Judged CI c n (ciRule c n .number)
+    unfolding ciRule circleWith done refuse
+    judged-ci n a h =
+        subst (λ (z : ℤ). Needs (Between (pos 5) z (pos 1200)) 3 (circleWith c (n .first) (chordAngle n) .number) (Needs (FourPoints c (n .first)) 6 (circleWith c (n .first) (chordAngle n) .number) (circleWith c (n .first) (chordAngle n) .number ≡ 0)))
+        (sym (angle-one n a h))
+        (needs ((pos 5 ≤? chordAngle n) && (chordAngle n ≤? pos 1200)) 3 _ _ (λ (t : ℕ). Needs (FourPoints c (n .first)) 6 t (t ≡ 0)) (between-tells (pos 5) (chordAngle n) (pos 1200)) refl
+        (λ e. needs (circleFits c (n .first)) 6 _ _ (λ (t : ℕ). t ≡ 0) (four-tell (n .first)) refl (λ e. refl)))
+
+    judged-end : {op : ℕ} (i : Instruction op) (n : Numbers) → Judged i c n (endRule c op n .number)
+    unfolding endRule inRule dfRule epRule eaRule erRule done
+    judged-end IN n = refl
+    judged-end DF n = refl
+    judged-end EP n = refl
+    judged-end IP n = judged-ip n
+    judged-end SC n = judged-sc n
+    judged-end IW n = judged-iw n
+    judged-end RO n = of-asked n (λ (k : ℤ). Turning k (roRule c n)) (judged-ro n)
+    judged-end SP n = of-asked n (λ (k : ℤ). Penned k (spRule c n)) (judged-sp n)
+    judged-end PM n = of-asked n (λ (k : ℤ). Moded k (pmRule c n)) (judged-pm n)
+    judged-end CI n = judged-ci n
+    judged-end EA n = judged-rectangle _
+    judged-end ER n = judged-rectangle _
+    judged-end PU n = refl
+    judged-end PD n = refl
+    judged-end PA n = refl
+    judged-end PR n = refl
+
+-- the number of every event
+pub judged : (c : Core) {e : Event} (k : Happens e) → Sound (c .settings) → Number k c (actOn c e .number)
+unfolding actOn done refuse
+judged c nothing w = refl
+judged c (name i) w = judged-name c i
+judged c (pair n) w = judged-pair c n
+judged c (end i n) w = judged-end c w i n
+judged c (refusal k) w = refl
+
+-- the number of fresh
+limits-tell : (r : Rect) → Tells (goodLimits r) (Limits r)
+unfolding goodLimits
+limits-tell r =
+    alike
+    (λ h. record { left = h .0 .0 .0 .0 .0; bottom = h .0 .0 .0 .0 .1; right = h .0 .0 .0 .1; top = h .0 .0 .1; wide = h .0 .1; high = h .1 })
+    (λ h. (((((h .left, h .bottom), h .right), h .top), h .wide), h .high))
+    (both (both (both (both (both (short-tells (r .left)) (short-tells (r .bottom))) (short-tells (r .right))) (short-tells (r .top))) (lt-tells (r .left) (r .right))) (lt-tells (r .bottom) (r .top)))
+
+pub fresh-judged : (r : Rect) → Needs (Limits r) 10 (freshNumber r) (freshNumber r ≡ 0)
+unfolding freshNumber
+fresh-judged r = by (goodLimits r) (limits-tell r)
+  where
+    by : (b : Bool) → Tells b (Limits r) → Needs (Limits r) 10 (cond b 0 badLimits) (cond b 0 badLimits ≡ 0)
+    by true w = record { met = λ p. refl; unmet = λ u. absurd (u (w .yes refl)) }
+    by false w = record { met = λ p. absurd (w .no refl p); unmet = λ u. refl }
+
+-- "bad hard limits: 10, fresh machine with limits 0,0,1,1"
+pub fresh-limits : (r : Rect) → (Limits r → hardLimits r ≡ r) × ((Limits r → ⊥) → hardLimits r ≡ rect (pos 0) (pos 0) (pos 1) (pos 1))
+unfolding hardLimits
+fresh-limits r = by (goodLimits r) (limits-tell r)
+  where
+    by : (b : Bool) → Tells b (Limits r) → let h = cond b r (rect (pos 0) (pos 0) (pos 1) (pos 1)) in (Limits r → h ≡ r) × ((Limits r → ⊥) → h ≡ rect (pos 0) (pos 0) (pos 1) (pos 1))
+    by true w = ((λ p. refl), λ u. absurd (u (w .yes refl)))
+    by false w = ((λ p. absurd (w .no refl p)), λ u. refl)

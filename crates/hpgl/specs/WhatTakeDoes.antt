@@ -1,0 +1,126 @@
+-- The calls fresh, take and feed, pinned by document 01's numbers and words: for every machine that the calls make and every byte, take answers the number of Refusals.antt
+-- and changes what Effects.antt names, and nothing else. Why: a byte that is taken means an event of the sixteen, and of events it is proved rule by rule.
+use mathlib.Core.Path.{_≡_, refl, ap}
+use mathlib.Core.Bool.{Bool, false, cond}
+use mathlib.Core.List.{List}
+use Prim.Native.Nat.{ℕ, _<_}
+use borrow.Author.Tests.{eq-eqb, ne-eqb}
+use lib.IntN.{pos}
+use Rattle.clip.specs.declared.Rect.{Rect}
+use Rattle.reader.specs.declared.Event.{Event}
+use Rattle.reader.specs.declared.Event.the-variants.{Nothing, Named, Pair, Ended, Refused}
+use Rattle.reader.specs.Step.{stepOf}
+use Rattle.hpgl.specs.declared.Settings.{Settings}
+use Rattle.hpgl.specs.declared.Core.{Core}
+use Rattle.hpgl.specs.declared.State.{State}
+use Rattle.hpgl.specs.Place.{point, restAt}
+use Rattle.hpgl.specs.Rules.{freshSettings, noPolygon, freshCarriage, freshCore}
+use Rattle.hpgl.specs.Machine.{rect, freshState, freshNumber, waiting, applied, acted, takeState, takeNumber}
+use Rattle.hpgl.specs.Feed.{stop, feedFrom}
+use Rattle.hpgl.specs.FeedLaws.{at-full}
+use Rattle.hpgl.specs.Made.{Made}
+use Rattle.hpgl.specs.Valid.{ValidEvent, ValidSettings}
+use Rattle.hpgl.specs.ValidFacts.{axis-bounds-x, axis-bounds-y}
+use Rattle.hpgl.specs.ValidKept.{made-valid}
+use Rattle.hpgl.specs.ReaderKept.{step-event}
+use Rattle.hpgl.specs.Related.{Sound}
+use Rattle.hpgl.specs.Instruction.{instruction}
+use Rattle.hpgl.specs.Effects.{Happens, nothing, name, pair, end, refusal, changed}
+use Rattle.hpgl.specs.EffectsProof.{obeyed}
+use Rattle.hpgl.specs.Refusals.{Needs, Number, Limits}
+use Rattle.hpgl.specs.RefusalsProof.{judged, fresh-judged, fresh-limits}
+
+-- ---- Take
+
+pub record Does (m : State) (b : ℕ) : Type 0 where
+  -- "take while a segment waits: 20, whole machine"
+  pub busy : (waiting (m .work) ≡ 0 → ⊥) → (takeNumber m b ≡ 20) × (takeState m b ≡ m)
+  -- what the byte means
+  pub event : Happens (stepOf (m .reader) b .event)
+  pub number : waiting (m .work) ≡ 0 → Number event (m .core) (takeNumber m b)
+  pub core : waiting (m .work) ≡ 0 → let d = takeState m b .core in d ≡ changed event (m .core) (takeNumber m b) (d .carriage .polygon)
+
+-- an event that the reader gives is one of the sixteen's
+of-sixteen : (c : Core) (e : Event) → ValidEvent c e → Happens e
+of-sixteen c Nothing h = nothing
+of-sixteen c (Named op) h = name (instruction op h)
+of-sixteen c (Pair n) h = pair n
+of-sixteen c (Ended op n) h = end (instruction op (h .0 .listed)) n
+of-sixteen c (Refused k) h = refusal k
+
+sound : {s : Settings} → ValidSettings s → Sound s
+sound w = record { x = axis-bounds-x w .some; y = axis-bounds-y w .some; turn = w .turn }
+
+pub take-does : (m : State) → Made m → (b : ℕ) → Does m b
+unfolding takeNumber takeState applied acted
+take-does m h b = record {
+  busy = λ w. let e = ne-eqb (waiting (m .work)) 0 w in
+      (ap (λ (t : Bool). cond t (acted m b .number) 20) e, ap (λ (t : Bool). cond t (applied m (stepOf (m .reader) b .reader) (acted m b)) m) e);
+  event = event;
+  number = λ w. rw (eq-eqb (waiting (m .work)) 0 w) (judged (m .core) event valid);
+  core = λ w. rw (eq-eqb (waiting (m .work)) 0 w) (obeyed (m .core) event (valid .turn));
+}
+  where
+    event : Happens (stepOf (m .reader) b .event)
+    event = of-sixteen (m .core) _ (step-event b (made-valid h))
+
+    valid : Sound (m .core .settings)
+    valid = sound (made-valid h .core .settings)
+
+-- ---- Fresh
+
+-- "Fresh: page point (0,0), pen up, pen 0, absolute mode, P1 left-bottom, P2 right-top, scaling off, RO 0, no window, polygon empty"
+pub record Begins (r : Rect) (c : Core) : Type 0 where
+  pub hard : c .settings .hard ≡ r
+  pub position : c .carriage .position ≡ restAt (point (pos 0) (pos 0))
+  pub up : c .carriage .pen .down ≡ false
+  pub pen : c .carriage .pen .number ≡ 0
+  pub absolute : c .carriage .relative ≡ false
+  pub p1 : c .settings .p1 ≡ point (r .left) (r .bottom)
+  pub p2 : c .settings .p2 ≡ point (r .right) (r .top)
+  pub unscaled : c .settings .scale .on ≡ false
+  pub turn : c .settings .turn ≡ 0
+  pub window : c .settings .window .set ≡ false
+  pub mode : c .carriage .polygon .mode ≡ false
+  pub bytes : c .carriage .polygon .bytes ≡ 0
+  pub edges : c .carriage .polygon .edges ≡ 0
+
+pub record Fresh (r : Rect) : Type 0 where
+  -- "each −32768 to 32767, left < right, bottom < top", else 10
+  pub number : Needs (Limits r) 10 (freshNumber r) (freshNumber r ≡ 0)
+  pub good : Limits r → Begins r (freshState r .core)
+  -- "bad hard limits: 10, fresh machine with limits 0,0,1,1"
+  pub bad : (Limits r → ⊥) → Begins (rect (pos 0) (pos 0) (pos 1) (pos 1)) (freshState r .core)
+  pub idle : waiting (freshState r .work) ≡ 0
+
+begins : (hard : Rect) → Begins hard (freshCore hard)
+unfolding freshCore freshSettings freshCarriage noPolygon
+begins hard = record {
+  hard = refl;
+  position = refl;
+  up = refl;
+  pen = refl;
+  absolute = refl;
+  p1 = refl;
+  p2 = refl;
+  unscaled = refl;
+  turn = refl;
+  window = refl;
+  mode = refl;
+  bytes = refl;
+  edges = refl;
+}
+
+pub fresh-is : (r : Rect) → Fresh r
+unfolding freshState waiting
+fresh-is r = record {
+  number = fresh-judged r;
+  good = λ h. rw (fresh-limits r .0 h) (begins r);
+  bad = λ h. rw (fresh-limits r .1 h) (begins (rect (pos 0) (pos 0) (pos 1) (pos 1)));
+  idle = refl;
+}
+
+-- ---- Feed: "While a segment waits, draw if the list has a free record, else stop with 21"
+
+pub full-is-21 : (m : State) (bytes : List ℕ) (taken : ℕ) → 0 < waiting (m .work) → feedFrom m bytes taken 0 ≡ stop m taken 21
+full-is-21 m bytes taken h = at-full m bytes taken h
