@@ -18,7 +18,6 @@ use Rattle.hpgl.specs.declared.Window.{Window}
 use Rattle.hpgl.specs.declared.Polygon.{Polygon}
 use Rattle.hpgl.specs.declared.Core.{Core}
 use Rattle.hpgl.specs.Place.{point, rounded, location, absolutePosition, relativePosition, restAt, pagePoint}
-use Rattle.hpgl.specs.Change.{withPosition, withPen, withRelative, withPolygon, withSettings, withCarriage, withCorners, withScale, withTurn, withWindow}
 use Rattle.hpgl.specs.Rules.{unscaled, noWindow, closes}
 use Rattle.hpgl.specs.Instruction.{Instruction, IN, DF, EP, IP, SC, IW, RO, SP, PM, CI, EA, ER, PU, PD, PA, PR}
 
@@ -30,39 +29,39 @@ c ▸ s = s c
 
 -- the pen: down or up; its number; whether the PU or PD that is read changed it and no pair came yet
 abbrev pub penDown : Bool → Core → Core
-penDown b c = withCarriage c (withPen (c .carriage) (record { number = c .carriage .pen .number; down = b; changed = c .carriage .pen .changed }))
+penDown b c = record { settings = c .settings; carriage = record { position = c .carriage .position; pen = record { number = c .carriage .pen .number; down = b; changed = c .carriage .pen .changed }; relative = c .carriage .relative; polygon = c .carriage .polygon } }
 
 abbrev pub penNumber : ℕ → Core → Core
-penNumber k c = withCarriage c (withPen (c .carriage) (record { number = k; down = c .carriage .pen .down; changed = c .carriage .pen .changed }))
+penNumber k c = record { settings = c .settings; carriage = record { position = c .carriage .position; pen = record { number = k; down = c .carriage .pen .down; changed = c .carriage .pen .changed }; relative = c .carriage .relative; polygon = c .carriage .polygon } }
 
 abbrev pub penChanged : Bool → Core → Core
-penChanged b c = withCarriage c (withPen (c .carriage) (record { number = c .carriage .pen .number; down = c .carriage .pen .down; changed = b }))
+penChanged b c = record { settings = c .settings; carriage = record { position = c .carriage .position; pen = record { number = c .carriage .pen .number; down = c .carriage .pen .down; changed = b }; relative = c .carriage .relative; polygon = c .carriage .polygon } }
 
 -- relative or absolute mode
 abbrev pub relative : Bool → Core → Core
-relative b c = withCarriage c (withRelative (c .carriage) b)
-
--- P1 and P2, scale, turn, window
-abbrev pub corners : Point → Point → Core → Core
-corners p q c = withSettings c (withCorners (c .settings) p q)
-
-abbrev pub scale : Scale → Core → Core
-scale k c = withSettings c (withScale (c .settings) k)
-
-abbrev pub turn : ℕ → Core → Core
-turn t c = withSettings c (withTurn (c .settings) t)
-
-abbrev pub window : Window → Core → Core
-window w c = withSettings c (withWindow (c .settings) w)
+relative b c = record { settings = c .settings; carriage = record { position = c .carriage .position; pen = c .carriage .pen; relative = b; polygon = c .carriage .polygon } }
 
 -- B and O on both axes
 abbrev pub position : Position → Core → Core
-position p c = withCarriage c (withPosition (c .carriage) p)
+position p c = record { settings = c .settings; carriage = record { position = p; pen = c .carriage .pen; relative = c .carriage .relative; polygon = c .carriage .polygon } }
 
 -- polygon mode and bytes. How the polygon is kept besides (g) is no matter of this page: condition 3 judges it by what EP draws, `pm2-ends` by what PM2 restores
 abbrev pub polygon : Polygon → Bool → ℕ → Core → Core
 polygon g on n c =
-    withCarriage c (withPolygon (c .carriage) (record { mode = on; bytes = n; edges = g .edges; empty = g .empty; first = g .first; saved = g .saved }))
+    record { settings = c .settings; carriage = record { position = c .carriage .position; pen = c .carriage .pen; relative = c .carriage .relative; polygon = record { mode = on; bytes = n; edges = g .edges; empty = g .empty; first = g .first; saved = g .saved } } }
+
+-- P1 and P2, scale, turn, window
+abbrev pub corners : Point → Point → Core → Core
+corners p q c = record { settings = record { hard = c .settings .hard; p1 = p; p2 = q; scale = c .settings .scale; turn = c .settings .turn; window = c .settings .window }; carriage = c .carriage }
+
+abbrev pub scale : Scale → Core → Core
+scale k c = record { settings = record { hard = c .settings .hard; p1 = c .settings .p1; p2 = c .settings .p2; scale = k; turn = c .settings .turn; window = c .settings .window }; carriage = c .carriage }
+
+abbrev pub turn : ℕ → Core → Core
+turn t c = record { settings = record { hard = c .settings .hard; p1 = c .settings .p1; p2 = c .settings .p2; scale = c .settings .scale; turn = t; window = c .settings .window }; carriage = c .carriage }
+
+abbrev pub window : Window → Core → Core
+window w c = record { settings = record { hard = c .settings .hard; p1 = c .settings .p1; p2 = c .settings .p2; scale = c .settings .scale; turn = c .settings .turn; window = w }; carriage = c .carriage }
 
 -- ---- what the lines speak of
 

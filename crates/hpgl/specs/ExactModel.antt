@@ -1,12 +1,11 @@
 -- The exact model: what is owed paint, by document 01's words ("Strokes"), at exact positions and in a queue. It is fed with the calls alone.
 -- Reading, settings and position go by the same rules as the machine's; but what joins the polygon and the queue is decided here, from the event, the
 -- number and the positions before and after. It never looks at the machine's actions, store, work or counts.
-use Prim.Native.Nat.{ℕ, zero, suc, _+_, _*_}
-use mathlib.Core.Bool.{Bool, true, false, cond, not, _&&_, _||_}
+use Prim.Native.Nat.{ℕ, zero, suc, _+_}
+use mathlib.Core.Bool.{Bool, true, cond, not, _||_}
 use mathlib.Core.List.{List, [], _∷_, _++_}
 use lib.Dec.{eqb}
 use lib.IntN.{ℤ, pos, natAbs}
-use Rattle.exact.specs.Whole.{_≡?_}
 use Rattle.clip.specs.Line.{Exact, nearest}
 use Rattle.clip.specs.declared.Point.{Point}
 use Rattle.clip.specs.declared.Rect.{Rect}
@@ -23,8 +22,8 @@ use Rattle.plane.specs.Circle.{chordsOf, angleOf, rotatedOf, exactVertex}
 use Rattle.hpgl.specs.declared.Position.{Position}
 use Rattle.hpgl.specs.declared.Settings.{Settings}
 use Rattle.hpgl.specs.declared.Core.{Core}
-use Rattle.hpgl.specs.Place.{rounded, axisX, axisY, exactPosition, absolutePosition, relativePosition}
-use Rattle.hpgl.specs.Rules.{freshCore, differ, chordAngle, firstTwo, actOn}
+use Rattle.hpgl.specs.Place.{axisX, axisY, exactPosition, absolutePosition, relativePosition}
+use Rattle.hpgl.specs.Rules.{freshCore, differ, chordAngle, actOn}
 use Rattle.hpgl.specs.Machine.{readerAfter}
 
 -- ---- what the model has
@@ -137,8 +136,8 @@ unfoldable pub afterEnd : Core → Core → ℕ → Numbers → ExactPolygon →
 afterEnd c d op n g =
     cond (eqb op IN) noPoints
     (cond (eqb op PM) (polygonMode c d g)
-    (cond (eqb op EA) (rectangle (c .settings) (c .carriage .position) (absolutePosition (c .settings) (firstTwo n)))
-    (cond (eqb op ER) (rectangle (c .settings) (c .carriage .position) (relativePosition (c .carriage .position) (firstTwo n)))
+    (cond (eqb op EA) (rectangle (c .settings) (c .carriage .position) (absolutePosition (c .settings) (record { x = n .first; y = n .second })))
+    (cond (eqb op ER) (rectangle (c .settings) (c .carriage .position) (relativePosition (c .carriage .position) (record { x = n .first; y = n .second })))
     g)))
 
 -- the polygon after an event that was not refused, from the core c before it to d after it

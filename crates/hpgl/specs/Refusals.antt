@@ -14,7 +14,6 @@ use Rattle.reader.specs.declared.Event.{Event}
 use Rattle.plane.specs.Circle.{vertexPointOf}
 use Rattle.hpgl.specs.declared.Core.{Core}
 use Rattle.hpgl.specs.Place.{axisX, axisY, location, absolutePosition, relativePosition}
-use Rattle.hpgl.specs.Rules.{closes, firstTwo}
 use Rattle.hpgl.specs.Instruction.{Instruction, IN, DF, EP, IP, SC, IW, RO, SP, PM, CI, EA, ER, PU, PD, PA, PR}
 use Rattle.hpgl.specs.Effects.{target, newP1, newP2, firstCorner, secondCorner, pointBytes, closingBytes, bytes, Happens, nothing, name, pair, end, refusal}
 
@@ -90,10 +89,15 @@ pub data Mode (on : Bool) : ℤ → Type 0 where
   ends : on ≡ true → Mode on (pos 1)
   leaves : on ≡ true → Mode on (pos 2)
 
+-- "first adding its first point if the last differs in location .. (to an empty one nothing is added)": what `closes` decides
+pub record Closing (c : Core) : Type 0 where
+  pub some : c .carriage .polygon .empty ≡ false
+  pub apart : location (c .settings) (c .carriage .position) ≡ location (c .settings) (c .carriage .polygon .first) → ⊥
+
 -- "Bytes, at most 1024: 2 for PM0 and PM1, 9 for each point"; "PM1 with its added point is refused together"
 pub record Fits (c : Core) (k : ℤ) : Type 0 where
   pub one : k ≡ pos 1 → bytes c + (2 + closingBytes c) ≤ 1024
-  pub two : k ≡ pos 2 → closes c ≡ true → bytes c + 9 ≤ 1024
+  pub two : k ≡ pos 2 → Closing c → bytes c + 9 ≤ 1024
 
 -- "The four points at 0, 90, 180, 270 degrees must be in range"
 abbrev pub pointAt : Core → ℤ → ℕ → Point
@@ -115,8 +119,8 @@ Judged RO c n t = (k : ℤ) → Asked n k → Needs ((k ≡ pos 0) ⊎ (k ≡ po
 Judged SP c n t = (k : ℤ) → Asked n k → Needs (Between (pos 0) k (pos 8)) 3 t (t ≡ 0)
 Judged PM c n t = (k : ℤ) → Asked n k → Needs (Mode (c .carriage .polygon .mode) k) 3 t (Needs (Fits c k) 7 t (t ≡ 0))
 Judged CI c n t = (a : ℤ) → Angle n a → Needs (Between (pos 5) a (pos 1200)) 3 t (Needs (FourPoints c (n .first)) 6 t (t ≡ 0))
-Judged EA c n t = Needs (InRange (location (c .settings) (absolutePosition (c .settings) (firstTwo n)))) 6 t (t ≡ 0)
-Judged ER c n t = Needs (InRange (location (c .settings) (relativePosition (c .carriage .position) (firstTwo n)))) 6 t (t ≡ 0)
+Judged EA c n t = Needs (InRange (location (c .settings) (absolutePosition (c .settings) (record { x = n .first; y = n .second })))) 6 t (t ≡ 0)
+Judged ER c n t = Needs (InRange (location (c .settings) (relativePosition (c .carriage .position) (record { x = n .first; y = n .second })))) 6 t (t ≡ 0)
 Judged PU c n t = t ≡ 0
 Judged PD c n t = t ≡ 0
 Judged PA c n t = t ≡ 0

@@ -28,19 +28,19 @@ use Rattle.hpgl.specs.declared.Acted.{Acted}
 use Rattle.hpgl.specs.Numbers.{badLimits, outOfRange, polygonFull}
 use Rattle.hpgl.specs.Place.{point, rounded, axisX, axisY, location, inRange, relativePosition}
 use Rattle.hpgl.specs.Change.{withPolygon, withCarriage}
-use Rattle.hpgl.specs.Rules.{done, refuse, freshSettings, carried, nameRule, inRule, dfRule, int16, goodCorners, setCorners, ipRule, scRule, setTurn, roRule, setWindow, iwRule, setPen, spRule, chordAngle, moveTo, pointCost, storePoint, aimed, goTo, pairRule, begun, edgeTo, pm0, closes, ended, leave, pm1In, pm1, pm2In, pm2, pmRule, epRule, rectangleTo, eaRule, erRule, circleFits, circleWith, ciRule, endRule, actOn}
+use Rattle.hpgl.specs.Rules.{done, refuse, freshSettings, carried, nameRule, inRule, dfRule, int16, goodCorners, setCorners, ipRule, scRule, setTurn, roRule, setWindow, iwRule, setPen, spRule, chordAngle, moveTo, pointCost, storePoint, aimed, goTo, pairRule, begun, edgeTo, pm0, differ, closes, ended, leave, pm1In, pm1, pm2In, pm2, pmRule, epRule, rectangleTo, eaRule, erRule, circleFits, circleWith, ciRule, endRule, actOn}
 use Rattle.hpgl.specs.Machine.{rect, goodLimits, hardLimits, freshNumber}
 use Rattle.hpgl.specs.Related.{Sound}
 use Rattle.hpgl.specs.Instruction.{Instruction, IN, DF, EP, IP, SC, IW, RO, SP, PM, CI, EA, ER, PU, PD, PA, PR}
 use Rattle.hpgl.specs.Effects.{asked, newP1, newP2, firstCorner, secondCorner, target, pointBytes, closingBytes, bytes, Happens, nothing, name, pair, end, refusal}
-use Rattle.hpgl.specs.Refusals.{Needs, Between, InRange, Nearest, Asked, Angle, Known, modeOn, Corners, Mode, begins, ends, leaves, Fits, pointAt, FourPoints, Judged, Number, Limits}
+use Rattle.hpgl.specs.Refusals.{Needs, Between, InRange, Nearest, Asked, Angle, Known, modeOn, Corners, Mode, begins, ends, leaves, Closing, Fits, pointAt, FourPoints, Judged, Number, Limits}
 
 -- ---- tests
 
 -- a test, and what it tells
-record Tells (b : Bool) (P : Type 0) : Type 0 where
-  yes : b ≡ true → P
-  no : b ≡ false → P → ⊥
+pub record Tells (b : Bool) (P : Type 0) : Type 0 where
+  pub yes : b ≡ true → P
+  pub no : b ≡ false → P → ⊥
 
 alike : {b : Bool} {P Q : Type 0} → (P → Q) → (Q → P) → Tells b P → Tells b Q
 alike f g w = record { yes = λ e. f (w .yes e); no = λ e q. w .no e (g q) }
@@ -99,6 +99,13 @@ reach-tells z = go (z <? negℤ (pos 1000000)) (pos 1000000 <? z) refl refl
 range-tells : (p : Point) → Tells (inRange p) (InRange p)
 unfolding inRange
 range-tells p = both (reach-tells (p .x)) (reach-tells (p .y))
+
+-- two points differ
+differ-tells : (p q : Point) → Tells (differ p q) (p ≡ q → ⊥)
+unfolding differ
+differ-tells p q =
+    alike (λ f e. f (ap (λ (z : Point). z .x) e, ap (λ (z : Point). z .y) e)) (λ f h. f (λ i. point (h .0 i) (h .1 i)))
+    (opposite (both (same-tells (p .x) (q .x)) (same-tells (p .y) (q .y))))
 
 -- ---- rounding
 
@@ -324,8 +331,22 @@ module _ (c : Core) where
   fits-1 : bytes c + (2 + closingBytes c) ≤ 1024 → Fits c (pos 1)
   fits-1 h = record { one = λ e. h; two = λ e. absurd (apart 1 2 (λ k. omega (arith, k)) e) }
 
-  fits-2 : (closes c ≡ true → bytes c + 9 ≤ 1024) → Fits c (pos 2)
+  fits-2 : (Closing c → bytes c + 9 ≤ 1024) → Fits c (pos 2)
   fits-2 h = record { one = λ e. absurd (apart 2 1 (λ k. omega (arith, k)) e); two = λ e. h }
+
+  pub closing-is : Tells (closes c) (Closing c)
+  unfolding closes
+  closing-is =
+      alike (λ h. record { some = empty-off _ (h .0); apart = h .1 }) (λ h. (off-empty _ (h .some), h .apart))
+      (both (record { yes = λ e. e; no = λ e f. true≢false (sym f ∙ e) }) (differ-tells _ _))
+    where
+      empty-off : (b : Bool) → not b ≡ true → b ≡ false
+      empty-off true e = sym e
+      empty-off false e = refl
+
+      off-empty : (b : Bool) → b ≡ false → not b ≡ true
+      off-empty true e = sym e
+      off-empty false e = refl
 
   moded-0 : Moded (pos 0) (pm0 c)
   unfolding pm0 done refuse
@@ -357,8 +378,8 @@ module _ (c : Core) where
   fits-two =
       whether (λ (t : Acted). Needs (Fits c (pos 2)) 7 (t .number) (t .number ≡ 0)) (closes c)
       (λ k. needs (leb (bytes c + 9) 1024) 7 (done (leave c 9 1) (edgeTo c (c .carriage .polygon .first))) (refuse (leave c 0 0) polygonFull) (λ (t : ℕ). t ≡ 0)
-      (alike (λ h. fits-2 (λ z. h)) (λ f. f .two refl k) (fits-tells (bytes c + 9) 1024)) refl (λ e. refl))
-      (λ k. record { met = λ p. refl; unmet = λ u. absurd (u (fits-2 (λ z. absurd (true≢false (sym z ∙ k))))) })
+      (alike (λ h. fits-2 (λ z. h)) (λ f. f .two refl (closing-is .yes k)) (fits-tells (bytes c + 9) 1024)) refl (λ e. refl))
+      (λ k. record { met = λ p. refl; unmet = λ u. absurd (u (fits-2 (λ z. absurd (closing-is .no k z)))) })
 
   moded-2 : Moded (pos 2) (pm2 c)
   unfolding pm2 refuse

@@ -5,17 +5,18 @@ use mathlib.Core.Bool.{Bool, false, cond}
 use mathlib.Core.List.{List}
 use Prim.Native.Nat.{ℕ, _<_}
 use borrow.Author.Tests.{eq-eqb, ne-eqb}
+use lib.Dec.{eqb}
 use lib.IntN.{pos}
 use Rattle.clip.specs.declared.Rect.{Rect}
 use Rattle.reader.specs.declared.Event.{Event}
 use Rattle.reader.specs.declared.Event.the-variants.{Nothing, Named, Pair, Ended, Refused}
-use Rattle.reader.specs.Step.{stepOf}
+use Rattle.reader.specs.Step.{stepOf, passedOver}
 use Rattle.hpgl.specs.declared.Settings.{Settings}
 use Rattle.hpgl.specs.declared.Core.{Core}
 use Rattle.hpgl.specs.declared.State.{State}
-use Rattle.hpgl.specs.Place.{point, restAt}
+use Rattle.hpgl.specs.Place.{point, location, restAt}
 use Rattle.hpgl.specs.Rules.{freshSettings, noPolygon, freshCarriage, freshCore}
-use Rattle.hpgl.specs.Machine.{rect, freshState, freshNumber, waiting, applied, acted, takeState, takeNumber}
+use Rattle.hpgl.specs.Machine.{rect, freshState, freshNumber, waiting, readerAfter, applied, acted, takeState, takeNumber, lookAt}
 use Rattle.hpgl.specs.Feed.{stop, feedFrom}
 use Rattle.hpgl.specs.FeedLaws.{at-full}
 use Rattle.hpgl.specs.Made.{Made}
@@ -38,6 +39,8 @@ pub record Does (m : State) (b : ℕ) : Type 0 where
   -- what the byte means
   pub event : Happens (stepOf (m .reader) b .event)
   pub number : waiting (m .work) ≡ 0 → Number event (m .core) (takeNumber m b)
+  -- "After a refusal the rest is passed over"
+  pub reader : waiting (m .work) ≡ 0 → takeState m b .reader ≡ cond (eqb (takeNumber m b) 0) (stepOf (m .reader) b .reader) (passedOver (stepOf (m .reader) b .reader))
   pub core : waiting (m .work) ≡ 0 → let d = takeState m b .core in d ≡ changed event (m .core) (takeNumber m b) (d .carriage .polygon)
 
 -- an event that the reader gives is one of the sixteen's
@@ -52,12 +55,13 @@ sound : {s : Settings} → ValidSettings s → Sound s
 sound w = record { x = axis-bounds-x w .some; y = axis-bounds-y w .some; turn = w .turn }
 
 pub take-does : (m : State) → Made m → (b : ℕ) → Does m b
-unfolding takeNumber takeState applied acted
+unfolding takeNumber takeState applied acted readerAfter
 take-does m h b = record {
   busy = λ w. let e = ne-eqb (waiting (m .work)) 0 w in
       (ap (λ (t : Bool). cond t (acted m b .number) 20) e, ap (λ (t : Bool). cond t (applied m (stepOf (m .reader) b .reader) (acted m b)) m) e);
   event = event;
   number = λ w. rw (eq-eqb (waiting (m .work)) 0 w) (judged (m .core) event valid);
+  reader = λ w. rw (eq-eqb (waiting (m .work)) 0 w) refl;
   core = λ w. rw (eq-eqb (waiting (m .work)) 0 w) (obeyed (m .core) event (valid .turn));
 }
   where
@@ -119,6 +123,13 @@ fresh-is r = record {
   bad = λ h. rw (fresh-limits r .1 h) (begins (rect (pos 0) (pos 0) (pos 1) (pos 1)));
   idle = refl;
 }
+
+-- ---- Look: "location, pen, pen up or down, polygon bytes"
+
+pub look-is : (m : State) → let c = m .core in let l = lookAt m in
+    (l .location ≡ location (c .settings) (c .carriage .position)) × (l .pen ≡ c .carriage .pen .number) × (l .down ≡ c .carriage .pen .down) × (l .bytes ≡ c .carriage .polygon .bytes)
+unfolding lookAt
+look-is m = (refl, refl, refl, refl)
 
 -- ---- Feed: "While a segment waits, draw if the list has a free record, else stop with 21"
 
