@@ -1,7 +1,7 @@
 -- Who may change what, and what it is set to (document 01, "Position", "Rectangles and polygons", "Causes and numbers"): a line for each thing that happens, with the
 -- parts of the machine that it changes. All that a line does not name is as it was before. The rules (Rules.antt) are written once more here, by parts and not by steps;
 -- EffectsProof.antt proves that both say the same of every machine that the calls make.
-use mathlib.Core.Bool.{Bool, true, false, cond, not}
+use mathlib.Core.Bool.{Bool, true, false, cond, not, _&&_}
 use Prim.Native.Nat.{ℕ, _+_, _/_}
 use lib.Dec.{eqb}
 use lib.IntN.{ℤ, pos, natAbs, _+ℤ_, _-ℤ_}
@@ -11,6 +11,7 @@ use Rattle.reader.specs.declared.Coordinates.{Coordinates}
 use Rattle.reader.specs.declared.Numbers.{Numbers}
 use Rattle.reader.specs.declared.Event.{Event}
 use Rattle.reader.specs.declared.Event.the-variants as event
+use Rattle.mnemonics.specs.Table as code
 use Rattle.plane.specs.Turn.{turnedBackOf, orderedOf}
 use Rattle.hpgl.specs.declared.Position.{Position}
 use Rattle.hpgl.specs.declared.Scale.{Scale}
@@ -186,23 +187,8 @@ ended PA c n g = c
 ended PR c n g = c
 
 -- one that is refused: "settings, position, polygon" are left, but PM2 with 7 "still ends, open"
-abbrev pub refused : {op : ℕ} → Instruction op → Core → Numbers → ℕ → Polygon → Core
-refused PM c n k g = cond (eqb k 7) (cond (asked n ≡? pos 2) (leaves c 0 g) c) c
-refused IN c n k g = c
-refused DF c n k g = c
-refused EP c n k g = c
-refused IP c n k g = c
-refused SC c n k g = c
-refused IW c n k g = c
-refused RO c n k g = c
-refused SP c n k g = c
-refused CI c n k g = c
-refused EA c n k g = c
-refused ER c n k g = c
-refused PU c n k g = c
-refused PD c n k g = c
-refused PA c n k g = c
-refused PR c n k g = c
+abbrev pub refused : ℕ → Core → Numbers → ℕ → Polygon → Core
+refused op c n k g = cond (eqb op code.PM && eqb k 7 && (asked n ≡? pos 2)) (leaves c 0 g) c
 
 -- ---- whatever happens: an event of the sixteen, its number, and how the polygon is kept after it
 
@@ -217,5 +203,5 @@ abbrev pub changed : {e : Event} → Happens e → Core → ℕ → Polygon → 
 changed nothing c k g = c
 changed (name i) c k g = cond (eqb k 0) (named i c) c
 changed (pair n) c k g = cond (eqb k 0) (paired c n g) c
-changed (end i n) c k g = cond (eqb k 0) (ended i c n g) (refused i c n k g)
+changed (end {op} i n) c k g = cond (eqb k 0) (ended i c n g) (refused op c n k g)
 changed (refusal r) c k g = c

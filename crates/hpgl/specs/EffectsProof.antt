@@ -183,7 +183,7 @@ module _ (c : Core) where
   record Moded (zero? one? two? : Bool) (t : Acted) : Type 0 where
     is : let g = t .core .carriage .polygon in
         t .core ≡ cond (eqb (t .number) 0) (cond zero? (effects.begins c g) (cond one? (effects.ends c g) (effects.leaves c (effects.closingBytes c) g)))
-        (cond (eqb (t .number) 7) (cond two? (effects.leaves c 0 g) c) c)
+        (cond (eqb (t .number) 7 && two?) (effects.leaves c 0 g) c)
 
   moded-0 : (s t : Bool) → Moded true s t (pm0 c)
   unfolding pm0 begun done refuse
