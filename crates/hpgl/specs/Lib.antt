@@ -26,7 +26,6 @@ pub mod PinsPosition
 pub mod PinsSettings
 pub mod PinsPolygon
 pub mod PinsCircle
-pub mod Figures
 pub mod ValidFacts
 pub mod KeptCases
 pub mod SettingsKept
