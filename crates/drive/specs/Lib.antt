@@ -1,4 +1,3 @@
 pub mod Drive
 pub mod Floats
 pub mod Laws
-pub mod Figures

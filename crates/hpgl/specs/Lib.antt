@@ -31,7 +31,6 @@ pub mod PinsPosition
 pub mod PinsSettings
 pub mod PinsPolygon
 pub mod PinsCircle
-pub mod Figures
 pub mod ValidFacts
 pub mod KeptCases
 pub mod SettingsKept

@@ -60,11 +60,3 @@ traceFrom k m (b ∷ bs) =
 
 unfoldable pub trace : Rect → String → List Out
 trace r s = traceFrom 0 (freshState r) (bytes s)
-
--- the same with nothing drawn
-unfoldable pub traceUndrawnFrom : ℕ → State → List ℕ → List Out
-traceUndrawnFrom k m [] = lookValues (lookAt m) ∷ []
-traceUndrawnFrom k m (b ∷ bs) = refusal (takeNumber m b) (k + 1) ++ traceUndrawnFrom (k + 1) (takeState m b) bs
-
-unfoldable pub traceUndrawn : Rect → String → List Out
-traceUndrawn r s = traceUndrawnFrom 0 (freshState r) (bytes s)

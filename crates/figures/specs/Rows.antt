@@ -1,0 +1,122 @@
+-- A row of the figures: calls of document 01 with their arguments, and what they answer. A constructor for each kind of call list.
+use Prim.Native.Nat.{ℕ, zero, suc}
+use Prim.Native.String.{String}
+use mathlib.Core.Path.{_≡_}
+use mathlib.Core.List.{List, [], _∷_, _++_}
+use lib.IntN.{ℤ, pos, negℤ}
+use lib.ListN.{length}
+use Rattle.clip.specs.declared.Rect.{Rect}
+use Rattle.hpgl.specs.declared.State.{State}
+use Rattle.hpgl.specs.declared.Stroke.{Stroke}
+use Rattle.hpgl.specs.Machine.{rect, freshState, freshNumber, waiting, takeState, takeNumber}
+use Rattle.hpgl.specs.Feed.{Feed, feedOf, laid}
+use Rattle.hpgl.specs.Trace.{Out, bytes, draws, drawnOff, refusal, traceFrom, trace}
+use Rattle.drive.specs.declared.Moves.{Moves}
+use Rattle.drive.specs.declared.Moves.the-variants.{Two, One, Refused}
+use Rattle.drive.specs.declared.Move.the-variants.{Travel, Paint, Dot}
+use Rattle.drive.specs.Drive.{Answer, travelPaint, oneDot, refusal as noMove, answerOf, placeOf, Gives}
+
+-- a call of feed: bytes, and the records of the lent list
+pub data Lent : Type 0 where
+  lent : String → List Stroke → Lent
+
+-- its answer: bytes taken, strokes stored, number, and the records after it
+pub data Fed : Type 0 where
+  fed : ℕ → ℕ → ℕ → List Stroke → Fed
+
+pub data Row : Type 0 where
+  -- fresh with these hard limits; then each byte is taken, and all that waits is drawn: refusals, strokes, and what look sees at the end
+  taken : Rect → String → List Out → Row
+  -- bytes with nothing drawn; then all that waits is drawn, and one draw more; then bytes as above
+  undrawn : String → String → List Out → Row
+  -- the number of fresh, and what its machine makes of bytes
+  started : Rect → ℕ → String → List Out → Row
+  -- bytes as above: a text, `1,0,` a hundred and nine times, and a text
+  filled : String → String → List Out → Row
+  -- how many segments wait after bytes with nothing drawn
+  waits : String → ℕ → Row
+  -- feed after feed, each with the machine that the one before it left
+  feeds : List Lent → List Fed → Row
+  -- a stroke and a pitch code
+  moved : Stroke → ℕ → Moves → Row
+
+-- what a row is compared by
+pub data Told : Type 0 where
+  outs : List Out → Told
+  numbered : ℕ → List Out → Told
+  many : ℕ → Told
+  feedsTold : List Fed → Told
+  movesTold : Moves → Told
+
+abbrev pub minus : ℕ → ℤ
+minus n = negℤ (pos n)
+
+-- the hard limits of the program strokes, and of every row that names none
+abbrev pub wide : Rect
+wide = rect (minus 10000) (minus 7000) (pos 10000) (pos 7000)
+
+-- ---- what the definitions answer
+
+-- the points between the two texts of `filled`
+unfoldable pub points : ℕ → List ℕ
+points zero = []
+points (suc n) = bytes "1,0," ++ points n
+
+-- bytes with nothing drawn: the machine after them, and the refusals among them
+unfoldable pub after : State → List ℕ → State
+after m [] = m
+after m (b ∷ bs) = after (takeState m b) bs
+
+unfoldable pub refusals : ℕ → State → List ℕ → List Out
+refusals k m [] = []
+refusals k m (b ∷ bs) = refusal (takeNumber m b) (suc k) ++ refusals (suc k) (takeState m b) bs
+
+-- all that waits is drawn, and one draw more; then bytes as usual
+unfoldable pub drawnThen : State → List ℕ → List Out
+drawnThen m bs = draws (suc (waiting (m .work))) m ++ traceFrom 0 (drawnOff (suc (waiting (m .work))) m) bs
+
+unfoldable pub fedAll : State → List Lent → List Fed
+fedAll m [] = []
+fedAll m (lent s records ∷ calls) =
+    let f : Feed = feedOf m (bytes s) (length records) in
+    fed (f .taken) (length (f .strokes)) (f .number) (laid (f .strokes) records) ∷ fedAll (f .state) calls
+
+-- the moves that `Gives` asks for; there are no others (`moves-given`)
+unfoldable pub movesOf : Answer → Moves
+movesOf (travelPaint u v) = Two (Travel (placeOf u)) (Paint (placeOf v))
+movesOf (oneDot u) = One (Dot (placeOf u))
+movesOf (noMove n) = Refused n
+
+pub moves-given : (r : Moves) (a : Answer) → Gives r a → r ≡ movesOf a
+unfolding movesOf
+moves-given r (travelPaint u v) h = h .0
+moves-given r (oneDot u) h = h .0
+moves-given r (noMove n) h = h
+
+unfoldable pub answered : Row → Told
+answered (taken r s os) = outs (trace r s)
+answered (undrawn s t os) = outs (refusals 0 (freshState wide) (bytes s) ++ drawnThen (after (freshState wide) (bytes s)) (bytes t))
+answered (started r n s os) = numbered (freshNumber r) (trace r s)
+answered (filled s t os) = outs (traceFrom 0 (freshState wide) (bytes s ++ (points 109 ++ bytes t)))
+answered (waits s n) = many (waiting (after (freshState wide) (bytes s) .work))
+answered (feeds calls fs) = feedsTold (fedAll (freshState wide) calls)
+answered (moved s c m) = movesTold (movesOf (answerOf s c))
+
+unfoldable pub allAnswered : List Row → List Told
+allAnswered [] = []
+allAnswered (r ∷ rs) = answered r ∷ allAnswered rs
+
+-- ---- what the table says
+
+unfoldable pub said : Row → Told
+said (taken r s os) = outs os
+said (undrawn s t os) = outs os
+said (started r n s os) = numbered n os
+said (filled s t os) = outs os
+said (waits s n) = many n
+said (feeds calls fs) = feedsTold fs
+said (moved s c m) = movesTold m
+
+unfoldable pub allSaid : List Row → List Told
+allSaid [] = []
+allSaid (r ∷ rs) = said r ∷ allSaid rs
