@@ -8,6 +8,7 @@ ghost use Rattle.hpgl.specs.Feed.{feedFrom, laidNumbers};
 ghost use Rattle.hpgl.specs.Plot.{plotFrom, laidMarks};
 ghost use Rattle.hpgl.specs.Made.{Made};
 ghost use Rattle.saved.specs.Saved.{stateNumbers, savedOf, loadedOf};
+ghost use Rattle.saved.specs.SavedLaws.{Held};
 ghost use Rattle.machine.specs.Calls.{startedOf, takenOf, workedOf};
 ghost use Rattle.machine.specs.Run.{runOf};
 ghost use Rattle.machine.specs.Gather.{gatheredOf, plottedOf, gatheredBy};
@@ -243,10 +244,11 @@ impl Machine {
         save(m, numbers);
     }
 
-    // The machine that a list of numbers holds.
+    // The machine that a list of numbers holds: such a list as `save` writes, so that the machine comes from the calls.
     pub fn load(numbers: &[i64]) -> Machine
-        requires { ⌜ length (now numbers) ≡ stateNumbers ⌝ }
+        requires { ⌜ Held (now numbers) ⌝ }
         ensures { λ r. ⌜ r .state ≡ loadedOf (now (numbers .entry)) ⌝ }
+        ensures { λ r. ⌜ Made (r .state) ⌝ }
     {
         Machine {
             state: load(numbers),
