@@ -3,7 +3,8 @@ ghost use mathlib.Core.Path.{_≡_};
 ghost use Prim.Native.Nat.{_/_};
 ghost use lib.ListN.{length, drop};
 ghost use Rattle.hpgl.specs.Machine as M;
-ghost use Rattle.hpgl.specs.Segment.{segmentOf};
+ghost use Rattle.hpgl.specs.Values.{drawnValues};
+ghost use Rattle.hpgl.specs.Segment.{segmentOf, drawValues};
 ghost use Rattle.hpgl.specs.Feed.{feedFrom, laidNumbers};
 ghost use Rattle.hpgl.specs.Plot.{plotFrom, laidMarks};
 ghost use Rattle.hpgl.specs.Made.{Made};
@@ -129,10 +130,11 @@ impl Machine {
         }
     }
 
-    // Works off one waiting segment.
+    // Works off one waiting segment. What it answers is also told in 01's values: a stroke (pen, x0, y0, x1, y1), hidden, or idle.
     pub fn draw(self) -> Worked
         requires { ⌜ Made (self .state) ⌝ }
         ensures { λ r. ⌜ r ≡ workedOf (self .state) ⌝ }
+        ensures { λ r. ⌜ drawnValues (r .drawn) ≡ drawValues (self .state) ⌝ }
     {
         let m = self.state;
         let reader = m.reader;

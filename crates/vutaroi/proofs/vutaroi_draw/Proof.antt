@@ -19,7 +19,7 @@ made : (l : tie.After-load) → Made (l .load .result .state)
 made l = l .load .ensures .1
 
 worked : (w : tie.After-draw) → w .draw .result ≡ workedOf (loadedOf (start (w .before) .args .state .now))
-worked w = w .draw .ensures ∙ ap workedOf (w .before .load .ensures .0)
+worked w = w .draw .ensures .0 ∙ ap workedOf (w .before .load .ensures .0)
 
 worked-made : (w : tie.After-draw) → Made (w .draw .result .machine .state)
 unfolding workedOf
