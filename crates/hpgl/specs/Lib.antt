@@ -5,6 +5,7 @@ pub mod Rules
 pub mod Machine
 pub mod Feed
 pub mod Plot
+pub mod Values
 pub mod Trace
 pub mod ExactModel
 pub mod Condition3

@@ -1,11 +1,13 @@
 -- The segment that waits first, before the clip ("Location is turned to the page, then clipped to the limits"), and what draw answers of it.
-use mathlib.Core.Path.{_≡_, refl}
+use mathlib.Core.Path.{_≡_, refl, ap, _∙_}
 use mathlib.Core.Bool.{Bool, true, false, cond}
 use Prim.Native.Nat.{ℕ, zero, suc, _+_}
 use lib.ListN.{getD}
 use Rattle.clip.specs.Clip.{clip}
 use Rattle.clip.specs.Reach.{SmallPoint}
 use Rattle.clip.specs.declared.Rect.{Rect}
+use Rattle.clip.specs.declared.Clipped.{Clipped}
+use Rattle.clip.specs.declared.Clipped.the-variants as clipped
 use Rattle.plane.specs.Turn.{turnedOf}
 use Rattle.plane.specs.TurnLaws.{turned-small}
 use Rattle.hpgl.specs.declared.Settings.{Settings}
@@ -20,6 +22,7 @@ use Rattle.hpgl.specs.declared.Segment.{Segment}
 use Rattle.hpgl.specs.declared.Segment.the-variants.{Nothing, PenUp, Line}
 use Rattle.hpgl.specs.Place.{limits}
 use Rattle.hpgl.specs.Machine.{noEdge, strokeOf, shown, vertex, chordShown, edgeShown, drawWork, drawAnswer}
+use Rattle.hpgl.specs.Values.{Out, stroke, hidden, idle, drawnValues}
 use Rattle.hpgl.specs.Valid.{ValidSettings, SmallEdge, ValidCircle, ValidWork, Valid}
 use Rattle.hpgl.specs.ValidFacts.{edge-small}
 
@@ -48,6 +51,20 @@ drawnOf r pen Nothing = drawn.Idle
 drawnOf r pen PenUp = drawn.Hidden
 drawnOf r pen (Line a b) = strokeOf pen (clip r a b)
 
+-- the same in 01's values: "Empty part: hidden. Otherwise the ends of the exact part, rounded"
+unfoldable pub clippedValues : ℕ → Clipped → Out
+clippedValues pen clipped.Hidden = hidden
+clippedValues pen (clipped.Stroke s t) = stroke pen (s .x) (s .y) (t .x) (t .y)
+
+unfoldable pub segmentValues : Rect → ℕ → Segment → Out
+segmentValues r pen Nothing = idle
+segmentValues r pen PenUp = hidden
+segmentValues r pen (Line a b) = clippedValues pen (clip r a b)
+
+-- "Draw: works off one waiting segment and answers a stroke (pen, x0, y0, x1, y1), hidden, or idle if none waits"
+unfoldable pub drawValues : State → Out
+drawValues m = segmentValues (limits (m .core .settings)) (m .core .carriage .pen .number) (segmentOf m)
+
 -- ---- laws
 
 -- draw answers the segment that waits first, clipped to the limits in force
@@ -71,6 +88,22 @@ work-drawn m (work.Edges i (suc n)) = go (getD (m .store .edges) i noEdge .down)
 pub segment-drawn : (m : State) → drawAnswer m ≡ drawnOf (limits (m .core .settings)) (m .core .carriage .pen .number) (segmentOf m)
 unfolding drawAnswer segmentOf
 segment-drawn m = work-drawn m (m .work)
+
+clipped-values : (pen : ℕ) (k : Clipped) → drawnValues (strokeOf pen k) ≡ clippedValues pen k
+unfolding drawnValues strokeOf clippedValues
+clipped-values pen clipped.Hidden = refl
+clipped-values pen (clipped.Stroke s t) = refl
+
+segment-values : (r : Rect) (pen : ℕ) (g : Segment) → drawnValues (drawnOf r pen g) ≡ segmentValues r pen g
+unfolding drawnValues drawnOf segmentValues
+segment-values r pen Nothing = refl
+segment-values r pen PenUp = refl
+segment-values r pen (Line a b) = clipped-values pen (clip r a b)
+
+-- the values of draw's answer are those of the segment that waits first
+pub draw-values : (m : State) → drawnValues (drawAnswer m) ≡ drawValues m
+unfolding drawValues
+draw-values m = ap drawnValues (segment-drawn m) ∙ segment-values (limits (m .core .settings)) (m .core .carriage .pen .number) (segmentOf m)
 
 -- a segment that may be clipped
 abbrev pub SmallSegment : Segment → Type 0

@@ -2,16 +2,12 @@
 use Prim.Native.Nat.{ℕ, zero, suc, _+_}
 use Prim.Native.Char.{code}
 use Prim.Native.String.{String, len, charAt}
-use mathlib.Core.Bool.{Bool}
 use mathlib.Core.List.{List, [], _∷_, _++_}
-use lib.IntN.{ℤ, pos, negℤ}
 use Rattle.clip.specs.declared.Rect.{Rect}
 use Rattle.hpgl.specs.declared.State.{State}
-use Rattle.hpgl.specs.declared.Stroke.{Stroke}
-use Rattle.hpgl.specs.declared.Drawn.{Drawn}
-use Rattle.hpgl.specs.declared.Drawn.the-variants as drawn
-use Rattle.hpgl.specs.declared.Look.{Look}
 use Rattle.hpgl.specs.Machine.{freshState, waiting, takeState, takeNumber, drawState, drawAnswer, lookAt}
+pub use Rattle.hpgl.specs.Values.{Out, refused, stroke, hidden, idle, seen}
+unfoldable pub use Rattle.hpgl.specs.Values.{drawnValues, lookValues}
 
 -- a text's bytes
 unfoldable pub bytesFrom : String → ℕ → ℕ → List ℕ
@@ -20,23 +16,6 @@ bytesFrom s i (suc n) = code (charAt s i) ∷ bytesFrom s (i + 1) n
 
 unfoldable pub bytes : String → List ℕ
 bytes s = bytesFrom s 0 (len s)
-
--- a byte was refused (number, place counted from 1); a draw's answer; what look sees at the end: x, y, pen, down, bytes
-pub data Out : Type 0 where
-  refused : ℕ → ℕ → Out
-  stroke : ℕ → ℤ → ℤ → ℤ → ℤ → Out
-  hidden : Out
-  idle : Out
-  seen : ℤ → ℤ → ℕ → Bool → ℕ → Out
-
--- 01's values for every answer of draw
-unfoldable pub drawnValues : Drawn → Out
-drawnValues drawn.Idle = idle
-drawnValues drawn.Hidden = hidden
-drawnValues (drawn.Stroke s) = stroke (s .pen) (s .x0) (s .y0) (s .x1) (s .y1)
-
-unfoldable pub lookValues : Look → Out
-lookValues l = seen (l .location .x) (l .location .y) (l .pen) (l .down) (l .bytes)
 
 -- n draws, and the machine after them
 unfoldable pub draws : ℕ → State → List Out

@@ -3,11 +3,13 @@ ghost use mathlib.Core.Path.{_≡_};
 ghost use Prim.Native.Nat.{_/_};
 ghost use lib.ListN.{length, drop};
 ghost use Rattle.hpgl.specs.Machine as M;
-ghost use Rattle.hpgl.specs.Segment.{segmentOf};
+ghost use Rattle.hpgl.specs.Values.{drawnValues};
+ghost use Rattle.hpgl.specs.Segment.{segmentOf, drawValues};
 ghost use Rattle.hpgl.specs.Feed.{feedFrom, laidNumbers};
 ghost use Rattle.hpgl.specs.Plot.{plotFrom, laidMarks};
 ghost use Rattle.hpgl.specs.Made.{Made};
 ghost use Rattle.saved.specs.Saved.{stateNumbers, savedOf, loadedOf};
+ghost use Rattle.saved.specs.SavedLaws.{Held};
 ghost use Rattle.machine.specs.Calls.{startedOf, takenOf, workedOf};
 ghost use Rattle.machine.specs.Run.{runOf};
 ghost use Rattle.machine.specs.Gather.{gatheredOf, plottedOf, gatheredBy};
@@ -128,10 +130,11 @@ impl Machine {
         }
     }
 
-    // Works off one waiting segment.
+    // Works off one waiting segment. What it answers is also told in 01's values: a stroke (pen, x0, y0, x1, y1), hidden, or idle.
     pub fn draw(self) -> Worked
         requires { ⌜ Made (self .state) ⌝ }
         ensures { λ r. ⌜ r ≡ workedOf (self .state) ⌝ }
+        ensures { λ r. ⌜ drawnValues (r .drawn) ≡ drawValues (self .state) ⌝ }
     {
         let m = self.state;
         let reader = m.reader;
@@ -243,10 +246,11 @@ impl Machine {
         save(m, numbers);
     }
 
-    // The machine that a list of numbers holds.
+    // The machine that a list of numbers holds: such a list as `save` writes, so that the machine comes from the calls.
     pub fn load(numbers: &[i64]) -> Machine
-        requires { ⌜ length (now numbers) ≡ stateNumbers ⌝ }
+        requires { ⌜ Held (now numbers) ⌝ }
         ensures { λ r. ⌜ r .state ≡ loadedOf (now (numbers .entry)) ⌝ }
+        ensures { λ r. ⌜ Made (r .state) ⌝ }
     {
         Machine {
             state: load(numbers),

@@ -10,7 +10,7 @@ use lib.IntN.{ℤ, pos}
 use lib.ListN.{length, set}
 use Rattle.exact.specs.Whole.{_<?_, _≤?_}
 use Rattle.rows.specs.declared.Row.{Row}
-use Rattle.rows.specs.Rows.{over, lay, withRow, flagNumber, flagOf, placeNumber, smallOf, mostByte}
+use Rattle.rows.specs.Rows.{over, lay, rowAt, withRow, flagNumber, flagOf, placeNumber, smallOf, mostByte}
 
 -- ---- numbers
 
@@ -51,3 +51,13 @@ over-row r zs i ys =
     let four : i + 1 + 1 + 1 + 1 ≡ i + 4 = omega arith in
     let five : i + 1 + 1 + 1 + 1 + 1 ≡ i + 5 = omega arith in
     λ x. over (set (set (set (set (set zs i (r .a)) (i + 1) (r .b)) (two x) (r .c)) (three x) (r .d)) (four x) (r .e)) (five x) ys
+
+-- a row that is written at the start of a list, read there
+pub row-back : (r : Row) (zs : List ℤ) → 5 ≤ length zs → rowAt (over zs 0 (lay r [])) 0 ≡ r
+unfolding over rowAt
+row-back r [] h = absurd (omega (arith, h))
+row-back r (a ∷ []) h = absurd (omega (arith, h))
+row-back r (a ∷ b ∷ []) h = absurd (omega (arith, h))
+row-back r (a ∷ b ∷ c ∷ []) h = absurd (omega (arith, h))
+row-back r (a ∷ b ∷ c ∷ d ∷ []) h = absurd (omega (arith, h))
+row-back r (a ∷ b ∷ c ∷ d ∷ e ∷ zs) h = refl

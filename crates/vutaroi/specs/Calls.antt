@@ -1,14 +1,15 @@
 -- What the calls store in lists that a program in another language lends.
-use Prim.Native.Nat.{ℕ}
+use Prim.Native.Nat.{ℕ, zero, suc}
 use mathlib.Core.List.{List, [], _∷_}
-use lib.IntN.{ℤ, pos}
+use lib.IntN.{ℤ, pos, natAbs}
 use lib.ListN.{length}
 use Rattle.rows.specs.declared.Row.{Row}
-use Rattle.rows.specs.Rows.{row, lay, flagNumber}
+use Rattle.rows.specs.Rows.{row, lay, rowAt, flagNumber, flagOf}
 use Rattle.hpgl.specs.declared.Stroke.{Stroke}
 use Rattle.hpgl.specs.declared.Drawn.{Drawn}
 use Rattle.hpgl.specs.declared.Drawn.the-variants as drawn
 use Rattle.hpgl.specs.declared.Look.{Look}
+use Rattle.hpgl.specs.Values.{Out, stroke, hidden, idle, seen}
 use Rattle.hpgl.specs.Feed.{Feed}
 use Rattle.hpgl.specs.Plot.{Plot}
 
@@ -28,12 +29,21 @@ drawnNumbers drawn.Idle = []
 drawnNumbers drawn.Hidden = []
 drawnNumbers (drawn.Stroke s) = lay (strokeRow s) []
 
+-- what kind and list say to a program, in 01's values
+unfoldable pub toldDraw : ℕ → List ℤ → Out
+toldDraw zero zs = idle
+toldDraw (suc zero) zs = hidden
+toldDraw (suc (suc k)) zs = let r = rowAt zs 0 in stroke (natAbs (r .a)) (r .b) (r .c) (r .d) (r .e)
+
 -- x, y, pen, down, bytes
 unfoldable pub lookRow : Look → Row
 lookRow l = row (l .location .x) (l .location .y) (pos (l .pen)) (flagNumber (l .down)) (pos (l .bytes))
 
 unfoldable pub lookNumbers : Look → List ℤ
 lookNumbers l = lay (lookRow l) []
+
+unfoldable pub toldLook : List ℤ → Out
+toldLook zs = let r = rowAt zs 0 in seen (r .a) (r .b) (natAbs (r .c)) (flagOf (r .d)) (natAbs (r .e))
 
 -- bytes taken, strokes stored
 unfoldable pub countsOf : Feed → List ℕ

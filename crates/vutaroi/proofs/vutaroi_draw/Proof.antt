@@ -16,17 +16,17 @@ start l = l .before .before
 
 -- the machine that the list holds
 made : (l : tie.After-load) → Made (l .load .result .state)
-made l = subst Made (sym (l .load .ensures)) (held-made _ (start l .pre .0))
+made l = l .load .ensures .1
 
 worked : (w : tie.After-draw) → w .draw .result ≡ workedOf (loadedOf (start (w .before) .args .state .now))
-worked w = w .draw .ensures ∙ ap workedOf (w .before .load .ensures)
+worked w = w .draw .ensures .0 ∙ ap workedOf (w .before .load .ensures .0)
 
 worked-made : (w : tie.After-draw) → Made (w .draw .result .machine .state)
 unfolding workedOf
 worked-made w = subst (λ (r : Worked). Made (r .machine .state)) (sym (worked w)) (draw (held-made _ (start (w .before) .pre .0)))
 
 load-requires : tie.Need-load-requires
-load-requires c κs = let s : tie.Start = search in held-length _ (s .pre .0)
+load-requires c κs = let s : tie.Start = search in s .pre .0
 
 draw-requires : tie.Need-draw-requires
 draw-requires c κs = made c

@@ -22,7 +22,7 @@ start l = l .before .before .before .before
 
 -- the machine that the list holds
 made : (l : tie.After-load) → Made (l .load .result .state)
-made l = subst Made (sym (l .load .ensures)) (held-made _ (start l .pre .0))
+made l = l .load .ensures .1
 
 abbrev load : tie.After-gather → tie.After-load
 load g = g .before .before
@@ -32,7 +32,7 @@ abbrev fed : tie.Start → State → Feed
 fed s m = feedOf m (s .args .bytes .now) (length (s .args .records .now) / 5)
 
 gathered : (g : tie.After-gather) → let s = start (load g) in g .gather .result ≡ gatheredOf (fed s (loadedOf (s .args .state .now)))
-gathered g = let s = start (load g) in g .gather .ensures .0 ∙ ap (λ (m : State). gatheredOf (fed s m)) (load g .load .ensures)
+gathered g = let s = start (load g) in g .gather .ensures .0 ∙ ap (λ (m : State). gatheredOf (fed s m)) (load g .load .ensures .0)
 
 fed-made : (g : tie.After-gather) → Made (g .gather .result .machine .state)
 fed-made g =
@@ -42,7 +42,7 @@ fed-made g =
     subst (λ (r : Gathered). Made (r .machine .state)) (sym (gathered g)) made
 
 load-requires : tie.Need-load-requires
-load-requires c κs = let s : tie.Start = search in held-length _ (s .pre .0)
+load-requires c κs = let s : tie.Start = search in s .pre .0
 
 gather-requires : tie.Need-gather-requires
 gather-requires c κs = let l : tie.After-load = search in made l
@@ -78,7 +78,7 @@ returns c =
       (
         v .save .ensures ∙ ap (λ (r : Gathered). savedOf (r .machine .state)) (gathered g),
         (
-          g .gather .ensures .1 ∙ ap (λ (m : State). laidNumbers (fed s m .strokes) (s .args .records .now)) (l .load .ensures),
+          g .gather .ensures .1 ∙ ap (λ (m : State). laidNumbers (fed s m .strokes) (s .args .records .now)) (l .load .ensures .0),
           p .put-counts .ensures ∙ ap (λ (r : Gathered). over (s .args .answer .now) 0 (r .at ∷ r .stored ∷ [])) (gathered g),
         ),
       ),

@@ -1,11 +1,10 @@
 -- The proof of `vutaroi_look`.
 use borrow.Author.Needs.{needs}
-use mathlib.Core.Path.{_≡_, sym, ap, _∙_, subst}
+use mathlib.Core.Path.{ap, _∙_}
 use Rattle.rows.specs.declared.Row.{Row}
 use Rattle.rows.specs.Rows.{withRow, over}
 use Rattle.hpgl.specs.Machine.{lookAt}
 use Rattle.hpgl.specs.Made.{Made}
-use Rattle.saved.specs.SavedLaws.{held-length, held-made}
 use Rattle.vutaroi.specs.Calls.{lookRow, lookNumbers}
 use Rattle.vutaroi.proofs.vutaroi_look.Statement.{statement}
 use Rattle.vutaroi.proofs.vutaroi_look.Tie as tie
@@ -15,10 +14,10 @@ start l = l .before
 
 -- the machine that the list holds
 made : (l : tie.After-load) → Made (l .load .result .state)
-made l = subst Made (sym (l .load .ensures)) (held-made _ (start l .pre .0))
+made l = l .load .ensures .1
 
 load-requires : tie.Need-load-requires
-load-requires c κs = let s : tie.Start = search in held-length _ (s .pre .0)
+load-requires c κs = let s : tie.Start = search in s .pre .0
 
 look-requires : tie.Need-look-requires
 look-requires c κs = made c
@@ -40,7 +39,7 @@ returns c =
     let r : tie.After-look-row = search in
     let p : tie.After-put-row = search in
     let seen = start l .args .seen .now in
-    p .put-row .ensures ∙ ap (λ (row : Row). withRow row 0 seen) (r .look-row .ensures ∙ ap lookRow (k .look .ensures ∙ ap lookAt (l .load .ensures)))
+    p .put-row .ensures ∙ ap (λ (row : Row). withRow row 0 seen) (r .look-row .ensures ∙ ap lookRow (k .look .ensures ∙ ap lookAt (l .load .ensures .0)))
 
 pub vutaroi-look-spec : {M : Type 1} → statement M
 vutaroi-look-spec =

@@ -22,7 +22,7 @@ start l = l .before .before .before .before
 
 -- the machine that the list holds
 made : (l : tie.After-load) → Made (l .load .result .state)
-made l = subst Made (sym (l .load .ensures)) (held-made _ (start l .pre .0))
+made l = l .load .ensures .1
 
 abbrev load : tie.After-plot → tie.After-load
 load g = g .before .before
@@ -32,7 +32,7 @@ abbrev answer : tie.Start → State → Plot
 answer s m = plotFrom m (s .args .bytes .now) 0 (length (s .args .records .now) / 5)
 
 plotted : (g : tie.After-plot) → let s = start (load g) in g .plot .result ≡ plottedOf (answer s (loadedOf (s .args .state .now)))
-plotted g = let s = start (load g) in g .plot .ensures .0 ∙ ap (λ (m : State). plottedOf (answer s m)) (load g .load .ensures)
+plotted g = let s = start (load g) in g .plot .ensures .0 ∙ ap (λ (m : State). plottedOf (answer s m)) (load g .load .ensures .0)
 
 plotted-made : (g : tie.After-plot) → Made (g .plot .result .machine .state)
 plotted-made g =
@@ -42,7 +42,7 @@ plotted-made g =
     subst (λ (r : Gathered). Made (r .machine .state)) (sym (plotted g)) made
 
 load-requires : tie.Need-load-requires
-load-requires c κs = let s : tie.Start = search in held-length _ (s .pre .0)
+load-requires c κs = let s : tie.Start = search in s .pre .0
 
 plot-requires : tie.Need-plot-requires
 plot-requires c κs = let l : tie.After-load = search in made l
@@ -78,7 +78,7 @@ returns c =
       (
         v .save .ensures ∙ ap (λ (r : Gathered). savedOf (r .machine .state)) (plotted g),
         (
-          g .plot .ensures .1 ∙ ap (λ (m : State). laidMarks (answer s m .marks) (s .args .records .now)) (l .load .ensures),
+          g .plot .ensures .1 ∙ ap (λ (m : State). laidMarks (answer s m .marks) (s .args .records .now)) (l .load .ensures .0),
           p .put-counts .ensures ∙ ap (λ (r : Gathered). over (s .args .answer .now) 0 (r .at ∷ r .stored ∷ [])) (plotted g),
         ),
       ),

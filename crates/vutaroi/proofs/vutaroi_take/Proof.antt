@@ -16,10 +16,10 @@ start l = l .before .before
 
 -- the machine that the list holds
 made : (l : tie.After-load) → Made (l .load .result .state)
-made l = subst Made (sym (l .load .ensures)) (held-made _ (start l .pre))
+made l = l .load .ensures .1
 
 taken : (t : tie.After-take) → let s = start (t .before) in t .take .result ≡ takenOf (loadedOf (s .args .state .now)) (s .args .byte)
-taken t = let s = start (t .before) in t .take .ensures ∙ ap (λ (m : State). takenOf m (s .args .byte)) (t .before .load .ensures)
+taken t = let s = start (t .before) in t .take .ensures ∙ ap (λ (m : State). takenOf m (s .args .byte)) (t .before .load .ensures .0)
 
 taken-made : (t : tie.After-take) → Made (t .take .result .machine .state)
 unfolding takenOf
@@ -29,7 +29,7 @@ taken-made t =
     subst (λ (r : Taken). Made (r .machine .state)) (sym (taken t)) (take (held-made _ (s .pre)) (s .args .byte) small)
 
 load-requires : tie.Need-load-requires
-load-requires c κs = let s : tie.Start = search in held-length _ (s .pre)
+load-requires c κs = let s : tie.Start = search in s .pre
 
 take-requires : tie.Need-take-requires
 take-requires c κs = made c

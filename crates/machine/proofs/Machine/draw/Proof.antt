@@ -6,7 +6,8 @@ use native.Mathlib.Omega.{arith}
 use lib.ListN.{getD}
 use Rattle.hpgl.specs.Place.{limits}
 use Rattle.hpgl.specs.Machine as M
-use Rattle.hpgl.specs.Segment.{segmentOf, drawnOf, segment-drawn}
+use Rattle.hpgl.specs.Values.{drawnValues}
+use Rattle.hpgl.specs.Segment.{segmentOf, drawnOf, segment-drawn, draw-values}
 use Rattle.hpgl.specs.ValidFacts.{edge-small}
 use Rattle.hpgl.specs.ValidKept.{made-valid}
 use Rattle.queue.specs.First.{place-within}
@@ -56,11 +57,13 @@ returns c =
     let d : tie.After-draw-first = search in
     let p : tie.After-edge-place = search in
     let first = ap (λ (k : ℕ). firstSegment (m .core .settings) (getD (m .store .edges) k M.noEdge) (m .work)) (p .edge-place .ensures) ∙ first-segment m (m .work) in
-    let e = d .draw-first .ensures ∙ ap (drawnOf (limits (m .core .settings)) (m .core .carriage .pen .number)) first ∙ sym (segment-drawn m) in
-    λ i. record {
-      machine = record { state = record { reader = m .reader; core = m .core; store = m .store; work = c .work-after .ensures i } };
-      drawn = e i;
-    }
+    let e = d .draw-first .ensures ∙ ap (drawnOf (limits (m .core .settings)) (m .core .carriage .pen .number)) first ∙ sym (segment-drawn m) in (
+      (λ i. record {
+        machine = record { state = record { reader = m .reader; core = m .core; store = m .store; work = c .work-after .ensures i } };
+        drawn = e i;
+      }),
+      ap drawnValues e ∙ draw-values m,
+    )
 
 pub draw-spec : {M : Type 1} → statement M
 draw-spec =

@@ -37,8 +37,8 @@ returns c =
     let u : tie.After-draw = search in
     let d = s .args .d in
     let yes : waitsOf (segmentOf (d .machine .state)) ≡ true = sym (w .waits .ensures ∙ ap waitsOf (g .segment .ensures)) ∙ t .if1 .taken in
-    let m : made.Made (c .drew .result .machine .state) = rw (c .drew .ensures, u .draw .ensures) (made.draw (s .pre)) in
-    (rw yes (c .drew .ensures ∙ (λ i. drewOf d (g .segment .ensures i) (u .draw .ensures i))), m)
+    let m : made.Made (c .drew .result .machine .state) = rw (c .drew .ensures, u .draw .ensures .0) (made.draw (s .pre)) in
+    (rw yes (c .drew .ensures ∙ (λ i. drewOf d (g .segment .ensures i) (u .draw .ensures .0 i))), m)
 
 run-requires : tie.Need-run-requires
 run-requires c κs = search needs

@@ -23,7 +23,7 @@ worked-made m w made e = rw e (draw made)
 drawn-made : (c : tie.After-draw Inv-loop μ-loop) → Made (c .draw .result .machine .state)
 drawn-made c =
     let turn = c .before .before .loop in
-    worked-made (turn .m .state) (c .draw .result) (turn .inv .1) (c .draw .ensures)
+    worked-made (turn .m .state) (c .draw .result) (turn .inv .1) (c .draw .ensures .0)
 
 loop-holds : tie.Need-loop-holds Inv-loop μ-loop
 loop-holds c = search needs
