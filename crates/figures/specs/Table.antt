@@ -1,5 +1,5 @@
 -- The figures of document 01: calls, and what they answer, in the order of its headings; its own checked figures (a) to (n) come last. Figures.antt has the theorem.
--- A sentence of 01 stands over the rows that show it. Each row is here for a wrong number, operand or branch that no other row would show.
+-- A sentence of 01 stands over the rows that show it. A row is there for a wrong number, operand or branch of a definition that it would show.
 use mathlib.Core.Bool.{true, false}
 use mathlib.Core.List.{List, [], _∷_, _++_}
 use Prim.Native.Nat.{ℕ}
@@ -51,7 +51,7 @@ across = "SP1;PU-50,0;PD50,0;PU0,-50;PD0,50;"
 abbrev badLimits : ℤ → ℤ → ℤ → ℤ → Row
 badLimits l b r t = started (rect l b r t) 10 across (line 1 0 0 1 0 ∷ line 1 0 0 0 1 ∷ down 0 50 1 0 ∷ [])
 
--- records of a lent list: one that nothing was stored into, and a stroke of pen 1
+-- a stroke of pen 1; the same with no end below zero; and a record that nothing was stored into
 abbrev segment : ℤ → ℤ → ℤ → ℤ → Stroke
 segment x0 y0 x1 y1 = record { pen = 1; x0 = x0; y0 = y0; x1 = x1; y1 = y1 }
 
@@ -87,14 +87,15 @@ freshCalls =
     badLimits (pos 0) (minus 32769) (pos 9) (pos 9) ∷
     badLimits (pos 0) (pos 0) (pos 32768) (pos 9) ∷
     badLimits (pos 0) (pos 0) (pos 9) (pos 32768) ∷
-    badLimits (pos 32768) (pos 0) (pos 9) (pos 9) ∷
-    badLimits (pos 9) (pos 0) (pos 9) (pos 9) ∷
-    badLimits (pos 0) (pos 9) (pos 9) (pos 9) ∷
-    badLimits (pos 10) (pos 0) (pos 9) (pos 9) ∷
-    badLimits (pos 0) (pos 10) (pos 9) (pos 9) ∷
+    badLimits (pos 5) (pos 0) (pos 5) (pos 9) ∷
+    badLimits (pos 6) (pos 0) (pos 5) (pos 9) ∷
+    badLimits (pos 0) (pos 5) (pos 9) (pos 5) ∷
+    badLimits (pos 0) (pos 6) (pos 9) (pos 5) ∷
     started (rect (pos 9) (pos 9) (pos 0) (pos 0)) 10 "SC0,1,0,1;PA1,1;" (up 1 1 0 0 ∷ []) ∷
     started (rect (minus 4) (minus 3) (pos 2) (pos 1)) 0 "SC0,1,0,1;PA1,1;" (up 2 1 0 0 ∷ []) ∷
     started (rect (minus 4) (minus 3) (pos 2) (pos 1)) 0 "SC0,1,0,1;PA0,0;" (seen (minus 4) (minus 3) 0 false 0 ∷ []) ∷
+    started (rect (pos 5) (pos 0) (pos 6) (pos 3)) 0 "SC0,1,0,1;PA0,1;" (up 5 3 0 0 ∷ []) ∷
+    started (rect (pos 0) (pos 5) (pos 3) (pos 6)) 0 "SC0,1,0,1;PA1,0;" (up 3 5 0 0 ∷ []) ∷
     []
 
 -- "Draw: works off one waiting segment and answers a stroke (pen, x0, y0, x1, y1), hidden, or idle if none waits"; "take while a segment waits: 20, whole
@@ -277,7 +278,7 @@ positions =
     ends "PA5,6;PR.4,0;PA7,8;" (up 7 8 0 0) ∷
     []
 
--- "and must be within ±1,000,000": −1,000,000.5 is at −1,000,000
+-- "and must be within ±1,000,000": −1,000,000.5 is at −1,000,000. A pair that is refused draws nothing, and the rest is passed over
 abbrev farOff : List Row
 farOff =
     ends "IP0,0,5000,10000;SC0,1,0,1;PA200,100;" (up 1000000 1000000 0 0) ∷
@@ -287,6 +288,10 @@ farOff =
     ends "IP0,0,5000,10000;SC0,1,0,1;PA-200.0001,0;" (seen (minus 1000000) (pos 0) 0 false 0) ∷
     stops "IP0,0,5000,10000;SC0,1,0,1;PA-200.0002,0;" 6 41 (up 0 0 0 0) ∷
     stops "IP0,0,5000,10000;SC0,1,0,1;PA0,-100.0001;" 6 41 (up 0 0 0 0) ∷
+    stops "SP1;IP0,0,5000,10000;SC0,1,0,1;PD201,0;" 6 39 (down 0 0 1 0) ∷
+    stops "IP0,0,5000,10000;SC0,1,0,1;PA201,0 1,1;" 6 35 (up 0 0 0 0) ∷
+    stops "IP0,0,5000,10000;SC0,1,0,1;PA201,0;PU1,1;" 6 35 (up 5000 10000 0 0) ∷
+    stops "IP0,0,5000,10000;SC0,1,0,1;PA201,0PU1,1;" 6 35 (up 5000 10000 0 0) ∷
     []
 
 -- "When IN, DF, IP, SC or RO is carried out, B becomes the location and O 0": .4 and then .2 are 0, and after the others 1
@@ -455,6 +460,7 @@ turns =
     ends "PA3,5;RO90;RO.4999;" (up 3 5 0 0) ∷
     stops "PA3,5;RO89.4999;" 3 16 (up 3 5 0 0) ∷
     stops "PA3,5;RO90.5;" 3 13 (up 3 5 0 0) ∷
+    stops "PA3,5;RO90;RO45;" 3 16 (seen (pos 5) (minus 3) 0 false 0) ∷
     stops "RO.5;" 3 5 (up 0 0 0 0) ∷
     stops "RO-.5001;" 3 9 (up 0 0 0 0) ∷
     stops "RO45;" 3 5 (up 0 0 0 0) ∷
@@ -465,6 +471,7 @@ turns =
     ends "IP0,0,10,20;SC0,1,0,1;RO90;PA1,1;" (up 10 20 0 0) ∷
     take "SP1;RO90;PU1,2;PD3,5;" (stroke 1 (minus 2) (pos 1) (minus 5) (pos 3) ∷ down 3 5 1 0 ∷ []) ∷
     take "SP1;IW0,0,5,10;RO90;PA0,0;PD100,100;" (stroke 1 (pos 0) (pos 0) (minus 5) (pos 5) ∷ down 100 100 1 0 ∷ []) ∷
+    take "SP1;RO90;IW0,0,5,10;PD100,100;" (stroke 1 (pos 0) (pos 0) (minus 5) (pos 5) ∷ down 100 100 1 0 ∷ []) ∷
     take "SP1;IW1,2,5,10;RO90;PU3,0;PD3,100;PU0,4;PD100,4;" (stroke 1 (minus 2) (pos 3) (minus 10) (pos 3) ∷ stroke 1 (minus 4) (pos 1) (minus 4) (pos 5) ∷ down 100 4 1 0 ∷ []) ∷
     []
 
@@ -489,6 +496,7 @@ windows =
     stops "IP0,0,5000,10000;SC0,1,0,1;IW0,0,200.0001,1;" 3 44 (up 0 0 0 0) ∷
     stops "IP0,0,5000,10000;SC0,1,0,1;IW0,0,1,100.0001;" 3 44 (up 0 0 0 0) ∷
     stops "IP0,0,5000,10000;SC0,1,0,1;IW0,0,1,-100.0001;" 3 45 (up 0 0 0 0) ∷
+    take "SP1;IW0,0,5,5;IP0,0,5000,10000;SC0,1,0,1;IW201,0,1,1;SC;PD9,9;" (refused 3 53 ∷ line 1 0 0 5 5 ∷ down 9 9 1 0 ∷ []) ∷
     []
 
 -- ---- Strokes
@@ -669,6 +677,7 @@ circles =
     stops "IP0,0,5000,10000;SC0,1,0,1;PA0,100;CI.0001;" 6 43 (up 0 1000000 0 0) ∷
     stops "IP0,0,5000,10000;SC0,1,0,1;PA-200,0;CI.0002;" 6 44 (seen (minus 1000000) (pos 0) 0 false 0) ∷
     stops "IP0,0,5000,10000;SC0,1,0,1;PA0,-100;CI.0001;" 6 44 (seen (pos 0) (minus 1000000) 0 false 0) ∷
+    stops "SP1;IP0,0,5000,10000;SC0,1,0,1;PA200,0;CI.0001;" 6 47 (up 1000000 0 1 0) ∷
     ends "IP0,0,5000,10000;SC0,1,0,1;PA-200,0;CI.0001;" (seen (minus 1000000) (pos 0) 0 false 0) ∷
     []
 

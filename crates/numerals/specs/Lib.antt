@@ -1,4 +1,5 @@
 pub mod Bytes
+pub mod Classes
 pub mod Number
 pub mod Run
 pub mod Numeral

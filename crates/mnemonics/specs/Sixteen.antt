@@ -1,0 +1,129 @@
+-- Document 01's own sentences on the sixteen instructions, written out a second time beside the table: what is looked up in it is what they say, for every
+-- instruction and every count that a byte holds, by computation.
+use mathlib.Core.Path.{_≡_, refl}
+use mathlib.Core.Bool.{Bool, true, false, not, _&&_, _||_}
+use mathlib.Core.List.{List, [], _∷_}
+use Prim.Native.Nat.{ℕ, zero, suc, _+_, _%_, _<_}
+use Prim.Native.Char.{code}
+use Prim.Native.String.{String, charAt}
+use lib.Dec.{T, ltb, eqb}
+use Rattle.mnemonics.specs.declared.Found.{Found}
+use Rattle.mnemonics.specs.declared.Found.the-variants.{At, Nowhere}
+use Rattle.mnemonics.specs.Table.{IN, DF, EP, IP, SC, IW, RO, SP, PM, CI, EA, ER, PU, PD, PA, PR, rows, cellOf, namedOf, findFrom, findOf, isLabel, countFits, hasRoom, takesPairs, knownInPolygon, changesSettings}
+use Rattle.mnemonics.specs.Every.{every, every-at}
+
+-- ---- what 01 says
+
+abbrev among : ℕ → List ℕ → Bool
+among n [] = false
+among n (m ∷ ms) = eqb n m || among n ms
+
+-- "IN, DF, EP 0; IP 0, 2 or 4; SC, IW 0 or 4; RO, SP, PM 0 or 1; CI 1 or 2; EA, ER 2; PU, PD, PA, PR any even count"
+abbrev pub allowed : ℕ → ℕ → Bool
+allowed op n =
+    among op (IN ∷ DF ∷ EP ∷ []) && eqb n 0
+    || eqb op IP && among n (0 ∷ 2 ∷ 4 ∷ [])
+    || among op (SC ∷ IW ∷ []) && among n (0 ∷ 4 ∷ [])
+    || among op (RO ∷ SP ∷ PM ∷ []) && among n (0 ∷ 1 ∷ [])
+    || eqb op CI && among n (1 ∷ 2 ∷ [])
+    || among op (EA ∷ ER ∷ []) && eqb n 2
+    || among op (PU ∷ PD ∷ PA ∷ PR ∷ []) && eqb (n % 2) 0
+
+-- "too many": after n numbers one more is not. Pairs have no most; their count is a byte, and of a pair no number is kept
+abbrev pub room : ℕ → ℕ → Bool
+room op n =
+    among op (RO ∷ SP ∷ PM ∷ []) && ltb n 1
+    || among op (CI ∷ EA ∷ ER ∷ []) && ltb n 2
+    || among op (IP ∷ SC ∷ IW ∷ []) && ltb n 4
+    || among op (PU ∷ PD ∷ PA ∷ PR ∷ []) && ltb n 255
+
+-- "A pair of the last four"
+abbrev pub pairs : ℕ → Bool
+pairs op = among op (PU ∷ PD ∷ PA ∷ PR ∷ [])
+
+-- "There only PU, PD, PA, PR, PM, IN are known"
+abbrev pub known : ℕ → Bool
+known op = among op (PU ∷ PD ∷ PA ∷ PR ∷ PM ∷ IN ∷ [])
+
+-- the instructions that "Position" has under the settings of the sheet
+abbrev pub sets : ℕ → Bool
+sets op = among op (IN ∷ DF ∷ IP ∷ SC ∷ RO ∷ IW ∷ [])
+
+-- ---- what is looked up
+
+same : Bool → Bool → Bool
+same true b = b
+same false b = not b
+
+same-equal : (a b : Bool) → T (same a b) → a ≡ b
+unfolding same
+same-equal true true t = refl
+same-equal false false t = refl
+same-equal true false t = absurd t
+same-equal false true t = absurd t
+
+-- two tests that agree on every instruction and every count of a byte
+agree : (ℕ → ℕ → Bool) → (ℕ → ℕ → Bool) → Bool
+agree f g = every (λ op. every (λ n. same (f op n) (g op n)) 256) rows
+
+agree-at : (f g : ℕ → ℕ → Bool) → T (agree f g) → (op n : ℕ) → op < rows → n < 256 → f op n ≡ g op n
+unfolding agree
+agree-at f g t op n h k =
+    same-equal (f op n) (g op n) (every-at (λ m. same (f op m) (g op m)) 256 (every-at (λ o. every (λ m. same (f o m) (g o m)) 256) rows t op h) n k)
+
+pub counts-said : (op n : ℕ) → op < rows → n < 256 → countFits op n ≡ allowed op n
+unfolding agree same countFits cellOf
+counts-said = agree-at countFits allowed tt
+
+pub room-said : (op n : ℕ) → op < rows → n < 256 → hasRoom op n ≡ room op n
+unfolding agree same hasRoom cellOf
+room-said = agree-at hasRoom room tt
+
+-- and of an instruction alone
+agree-one : (f g : ℕ → Bool) → T (every (λ op. same (f op) (g op)) rows) → (op : ℕ) → op < rows → f op ≡ g op
+agree-one f g t op h = same-equal (f op) (g op) (every-at (λ o. same (f o) (g o)) rows t op h)
+
+pub pairs-said : (op : ℕ) → op < rows → takesPairs op ≡ pairs op
+unfolding same takesPairs cellOf
+pairs-said = agree-one takesPairs pairs tt
+
+pub known-said : (op : ℕ) → op < rows → knownInPolygon op ≡ known op
+unfolding same knownInPolygon cellOf
+known-said = agree-one knownInPolygon known tt
+
+pub sets-said : (op : ℕ) → op < rows → changesSettings op ≡ sets op
+unfolding same changesSettings cellOf
+sets-said = agree-one changesSettings sets tt
+
+-- ---- names: each is found at its code, and of all pairs of capitals no more than sixteen name an instruction; LB alone is a label
+
+abbrev find : String → Found
+find s = findOf (code (charAt s 0)) (code (charAt s 1))
+
+abbrev one : Found → ℕ
+one (At op) = 1
+one Nowhere = 0
+
+abbrev label : Bool → ℕ
+label true = 1
+label false = 0
+
+-- the sum over the capitals
+abbrev sum : (ℕ → ℕ) → ℕ → ℕ
+sum f zero = 0
+sum f (suc n) = f (code "A" + n) + sum f n
+
+abbrev all : (ℕ → ℕ → ℕ) → ℕ
+all f = sum (λ a. sum (f a) 26) 26
+
+pub record Names : Type 0 where
+  pub found :
+      find "IN" ∷ find "DF" ∷ find "EP" ∷ find "IP" ∷ find "SC" ∷ find "IW" ∷ find "RO" ∷ find "SP" ∷ find "PM" ∷ find "CI" ∷ find "EA" ∷ find "ER" ∷ find "PU" ∷ find "PD" ∷ find "PA" ∷ find "PR" ∷ []
+      ≡ At IN ∷ At DF ∷ At EP ∷ At IP ∷ At SC ∷ At IW ∷ At RO ∷ At SP ∷ At PM ∷ At CI ∷ At EA ∷ At ER ∷ At PU ∷ At PD ∷ At PA ∷ At PR ∷ []
+  pub no-more : all (λ a b. one (findOf a b)) ≡ 16
+  pub label-found : isLabel (code "L") (code "B") ≡ true
+  pub no-more-labels : all (λ a b. label (isLabel a b)) ≡ 1
+
+pub names-said : Names
+unfolding cellOf namedOf findFrom findOf isLabel
+names-said = record { found = refl; no-more = refl; label-found = refl; no-more-labels = refl }
