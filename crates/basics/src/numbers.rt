@@ -1,10 +1,10 @@
 // The numbers of document 01, as specs/Numbers.antt of the crate hpgl has them (mostAngle stands in Bounds.antt of plane).
 
-// Refusals: unknown in polygon mode, number or setting out of range, location out of range, polygon bytes, bad hard limits, take while a segment waits, list full.
-pub const UNKNOWN: u8 = 1;
+// Refusals. The reader's: unknown in polygon mode, setting out of range.
+pub use reader::OUT_OF_RANGE;
+pub use reader::UNKNOWN;
 
-pub const OUT_OF_RANGE: u8 = 3;
-
+// Location out of range, polygon bytes, bad hard limits, take while a segment waits, list full.
 pub const TOO_FAR: u8 = 6;
 
 pub const POLYGON_FULL: u8 = 7;

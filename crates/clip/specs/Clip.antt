@@ -7,9 +7,9 @@
 -- In the manner of Liang and Barsky: how far along the segment is the box entered, and how far along the way back?
 -- The segment from a to b is divided into ux · uy equal steps, where ux and uy are its extents in x and in y. A step moves x by 1/uy and y
 -- by 1/ux. So the segment crosses each edge of the box, a whole number, after a whole number of steps, and there is nothing to divide.
-use mathlib.Core.Bool.{Bool, true, false}
+use mathlib.Core.Bool.{Bool, true, false, cond}
 use lib.IntN.{ℤ, pos, negℤ, _+ℤ_, _-ℤ_, _*ℤ_}
-use Rattle.exact.specs.Whole.{_<?_, pick}
+use Rattle.exact.specs.Whole.{_<?_}
 use Rattle.exact.specs.Divide.{nearestDiv}
 use Rattle.clip.specs.declared.Point.{Point}
 use Rattle.clip.specs.declared.Rect.{Rect}
@@ -18,7 +18,7 @@ use Rattle.clip.specs.declared.Clipped.the-variants.{Hidden, Stroke}
 
 -- |q − p|, or 1 where they are equal
 unfoldable pub extent : ℤ → ℤ → ℤ
-extent p q = pick (p <? q) (q -ℤ p) (pick (q <? p) (p -ℤ q) (pos 1))
+extent p q = cond (p <? q) (q -ℤ p) (cond (q <? p) (p -ℤ q) (pos 1))
 
 -- the steps of the whole segment
 unfoldable pub steps : Point → Point → ℤ
@@ -28,10 +28,10 @@ steps a b = extent (a .x) (b .x) *ℤ extent (a .y) (b .y)
 -- Where p and q are equal there are u steps: none if they are in lo..hi, else more than all.
 unfoldable pub axisEntry : ℤ → ℤ → ℤ → ℤ → ℤ → ℤ
 axisEntry lo hi p q u =
-    pick (p <? q) ((lo -ℤ p) *ℤ u) (pick (q <? p) ((p -ℤ hi) *ℤ u) (pick (p <? lo) (u +ℤ pos 1) (pick (hi <? p) (u +ℤ pos 1) (pos 0))))
+    cond (p <? q) ((lo -ℤ p) *ℤ u) (cond (q <? p) ((p -ℤ hi) *ℤ u) (cond (p <? lo) (u +ℤ pos 1) (cond (hi <? p) (u +ℤ pos 1) (pos 0))))
 
 unfoldable pub larger : ℤ → ℤ → ℤ
-larger a b = pick (a <? b) b a
+larger a b = cond (a <? b) b a
 
 -- the steps from a towards b until the box is entered: in x and in y, and none where a is in it
 unfoldable pub entry : Rect → Point → Point → ℤ
@@ -42,7 +42,7 @@ entry r a b =
 
 -- m, with the sign of the way from p to q
 unfoldable pub toward : ℤ → ℤ → ℤ → ℤ
-toward p q m = pick (p <? q) m (pick (q <? p) (negℤ m) (pos 0))
+toward p q m = cond (p <? q) m (cond (q <? p) (negℤ m) (pos 0))
 
 -- p ± m/u, the number m steps from p towards q, rounded
 unfoldable pub axisPlace : ℤ → ℤ → ℤ → ℤ → ℤ
@@ -57,9 +57,9 @@ unfoldable pub clip : Rect → Point → Point → Clipped
 clip r a b =
     let m : ℤ = entry r a b in
     let n : ℤ = entry r b a in
-    pick (steps a b <? m +ℤ n) Hidden (Stroke (place a b m) (place b a n))
+    cond (steps a b <? m +ℤ n) Hidden (Stroke (place a b m) (place b a n))
 
 -- the point is in the box, edges included: of a segment between two such points clip leaves all (Unclipped.antt)
 unfoldable pub inside : Rect → Point → Bool
 inside r p =
-    pick (p .x <? r .left) false (pick (r .right <? p .x) false (pick (p .y <? r .bottom) false (pick (r .top <? p .y) false true)))
+    cond (p .x <? r .left) false (cond (r .right <? p .x) false (cond (p .y <? r .bottom) false (cond (r .top <? p .y) false true)))

@@ -11,7 +11,7 @@ use Rattle.exact.specs.Parts.{Is, v, #, _⊕_, _⊖_, _⊗_, _⊛_, le→, →l
 use Rattle.exact.specs.Fit.{abs}
 use Rattle.exact.specs.Laws.{≤-total}
 use Rattle.clip.specs.Clip.{extent, steps, axisEntry, larger, entry, axisPlace, place, clip}
-use Rattle.clip.specs.Line.{whole, between, Inside, rounded, exactly, nearest, at, Within}
+use Rattle.clip.specs.Line.{whole, between, Inside, nearestWhole, exactly, nearest, at, Within}
 use Rattle.clip.specs.Axis.{times, extent-sym, extent-pos, natural, recast, In, Past, in-past, past-in, place-nearest}
 use Rattle.clip.specs.declared.Point.{Point}
 use Rattle.clip.specs.declared.Rect.{Rect}
@@ -140,10 +140,10 @@ hides r a b h = rw (lt-<? (→lt (natural (not-below (extent-pos (a .x) (b .x)))
     →lt {a} {b} i j e = omega (arith, ord)
 
 -- ---- the places are the nearest to the exact ones, k of n steps from either end
-start-axis : (p q u m : ℤ) (k n : ℕ) (h : 0 < n) → pos 0 <ᶻ u → Is m k 0 → k ≤ n → n ≡ up (extent p q) * up u → axisPlace p q u m ≡ rounded (between (whole p) (whole q) k n h)
+start-axis : (p q u m : ℤ) (k n : ℕ) (h : 0 < n) → pos 0 <ᶻ u → Is m k 0 → k ≤ n → n ≡ up (extent p q) * up u → axisPlace p q u m ≡ nearestWhole (between (whole p) (whole q) k n h)
 start-axis p q u m k n h pu im l e = place-nearest p q u m _ (n - k) k (n * (1 * 1)) pu im (omega arith) (of-between p q k n h) (omega arith)
 
-stop-axis : (p q u m : ℤ) (k n : ℕ) (h : 0 < n) → pos 0 <ᶻ u → Is m k 0 → k ≤ n → n ≡ up (extent q p) * up u → axisPlace q p u m ≡ rounded (between (whole p) (whole q) (n - k) n h)
+stop-axis : (p q u m : ℤ) (k n : ℕ) (h : 0 < n) → pos 0 <ᶻ u → Is m k 0 → k ≤ n → n ≡ up (extent q p) * up u → axisPlace q p u m ≡ nearestWhole (between (whole p) (whole q) (n - k) n h)
 stop-axis p q u m k n h pu im l e =
     let f : n - (n - k) ≡ k = omega arith in
     place-nearest q p u m _ (n - k) k (n * (1 * 1)) pu im (omega arith) (recast (omega (arith, times (up p) f)) (omega (arith, times (dn p) f)) (of-between p q (n - k) n h)) (omega arith)

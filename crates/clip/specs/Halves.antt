@@ -9,7 +9,7 @@ use lib.IntN.{ℤ, pos, _+ℤ_, _*ℤ_}
 use Rattle.exact.specs.Whole.{_≤ᶻ_, _<ᶻ_, is, Z, ord, up, dn}
 use Rattle.exact.specs.Parts.{Is, v, #, _⊕_, _⊖_, _⊛_, le→, →le}
 use Rattle.exact.specs.Nearest.{nearest-law}
-use Rattle.clip.specs.Line.{Frac, whole, plus, between, _≤F_, Near, Inside, rounded, Rounds}
+use Rattle.clip.specs.Line.{Frac, whole, plus, between, _≤F_, Near, Inside, nearestWhole, Rounds}
 use Rattle.clip.specs.Axis.{times}
 use Rattle.clip.specs.Crossing.{of-between, in-inside}
 
@@ -95,10 +95,10 @@ half f {p} h e i = record {
   below = record { hi = omega (arith, times (up p) e, times (dn p) e, le→ (2 ⊛ i) (2 ⊛ (f .den ⊛ v p) ⊕ # (f .den)) (h .below)) };
 }
 
-pub rounds : (f : Frac) → Rounds f (rounded f)
+pub rounds : (f : Frac) → Rounds f (nearestWhole f)
 rounds f = let l = nearest-law (f .num) (pos (f .den)) (let h : 0 < f .den = f .above in omega (arith, ord)) in record {
-  above = low (f .num) (pos (f .den)) (rounded f) (l .0);
-  below = high (f .num) (pos (f .den)) (rounded f) (l .1);
+  above = low (f .num) (pos (f .den)) (nearestWhole f) (l .0);
+  below = high (f .num) (pos (f .den)) (nearestWhole f) (l .1);
 }
   where
     low : (n d q : ℤ) → pos 2 *ℤ d *ℤ q ≤ᶻ pos 2 *ℤ n +ℤ d → pos 2 *ℤ (d *ℤ q) ≤ᶻ pos 2 *ℤ n +ℤ d

@@ -52,8 +52,8 @@ pub record Inside (lo hi : ℤ) (c : ℕ) (f : Frac) : Type 0 where
   pub high : f ≤F whole (hi -ℤ pos c)
 
 -- "Rounding is to the nearest whole; a half goes to the larger number, also below zero."
-abbrev pub rounded : Frac → ℤ
-rounded f = nearestDiv (f .num) (pos (f .den))
+abbrev pub nearestWhole : Frac → ℤ
+nearestWhole f = nearestDiv (f .num) (pos (f .den))
 
 -- The whole number p is at most a half from f, on either side. A location is rounded and then turned to the page, and a half that went to the
 -- larger number may lie at the smaller one after the turn: so a page point rounds its exact point in this sense, and is not always `rounded`.
@@ -72,7 +72,7 @@ abbrev pub exactly : Point → Exact
 exactly p = record { x = whole (p .x); y = whole (p .y) }
 
 abbrev pub nearest : Exact → Point
-nearest e = record { x = rounded (e .x); y = rounded (e .y) }
+nearest e = record { x = nearestWhole (e .x); y = nearestWhole (e .y) }
 
 pub record RoundsTo (e : Exact) (p : Point) : Type 0 where
   pub x : Rounds (e .x) (p .x)

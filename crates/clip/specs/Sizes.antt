@@ -1,25 +1,25 @@
 -- Proofs only, for the code: how large each value is that it makes, from coordinates within reach. A choice is as large as its larger side.
 use mathlib.Core.Path.{_≡_, _∙_}
-use mathlib.Core.Bool.{Bool, true, false}
+use mathlib.Core.Bool.{Bool, true, false, cond}
 use Prim.Native.Nat.{ℕ, zero-le, _<_, _^_}
 use lib.IntN.{ℤ, pos}
 use lib.Signed.{mag}
 use mir.Syntax.{w64}
 use mir.Val.{hbits}
-use Rattle.exact.specs.Whole.{_<?_, pick}
+use Rattle.exact.specs.Whole.{_<?_}
 use Rattle.exact.specs.Fit.{Bd, Num, m64, val, got, ret, lit, bd-le, bd-neg, _⊞_, _⊟_, _⊠_}
 use Rattle.clip.specs.Clip.{extent, steps, axisEntry, larger, entry, toward, axisPlace}
 use Rattle.clip.specs.Reach.{reach, mostExtent, mostSteps, SmallPoint, SmallRect}
 use Rattle.clip.specs.declared.Point.{Point}
 use Rattle.clip.specs.declared.Rect.{Rect}
 
-pick-size : (t : Bool) {a b : ℤ} {n : ℕ} → Bd a n → Bd b n → Bd (pick t a b) n
-pick-size true h k = h
-pick-size false h k = k
+cond-size : (t : Bool) {a b : ℤ} {n : ℕ} → Bd a n → Bd b n → Bd (cond t a b) n
+cond-size true h k = h
+cond-size false h k = k
 
 extent-size : {p q : ℤ} → Bd p reach → Bd q reach → Bd (extent p q) mostExtent
 unfolding extent
-extent-size {p} {q} h k = pick-size (p <? q) (k ⊟ h) (pick-size (q <? p) (h ⊟ k) (bd-le (lit (pos 1)) tt))
+extent-size {p} {q} h k = cond-size (p <? q) (k ⊟ h) (cond-size (q <? p) (h ⊟ k) (bd-le (lit (pos 1)) tt))
 
 -- what the code's call returned, of two coordinates
 pub extent-num : {p q z : ℤ} → Bd p reach → Bd q reach → mag z < 2 ^ hbits w64 → z ≡ extent (m64 p) (m64 q) → Num (m64 z) (extent p q) mostExtent
@@ -33,7 +33,7 @@ axis-entry-size : {lo hi p : ℤ} (q : ℤ) {u : ℤ} → Bd lo reach → Bd hi 
 unfolding axisEntry
 axis-entry-size {lo} {hi} {p} q l h k m =
     let out = bd-le (m ⊞ lit (pos 1)) tt in
-    pick-size (p <? q) ((l ⊟ k) ⊠ m) (pick-size (q <? p) ((k ⊟ h) ⊠ m) (pick-size (p <? lo) out (pick-size (hi <? p) out (bd-le (lit (pos 0)) tt))))
+    cond-size (p <? q) ((l ⊟ k) ⊠ m) (cond-size (q <? p) ((k ⊟ h) ⊠ m) (cond-size (p <? lo) out (cond-size (hi <? p) out (bd-le (lit (pos 0)) tt))))
 
 pub axis-entry-num : {lo hi p q u' u z : ℤ} → Bd lo reach → Bd hi reach → Bd p reach → Bd q reach → Num u' u mostExtent →
     mag z < 2 ^ hbits w64 → z ≡ axisEntry (m64 lo) (m64 hi) (m64 p) (m64 q) u' → Num (m64 z) (axisEntry lo hi p q u) mostSteps
@@ -46,7 +46,7 @@ axis-entry-num {q = q} l h k m u ok e =
 
 larger-size : {a b : ℤ} {n : ℕ} → Bd a n → Bd b n → Bd (larger a b) n
 unfolding larger
-larger-size {a} {b} h k = pick-size (a <? b) k h
+larger-size {a} {b} h k = cond-size (a <? b) k h
 
 pub entry-size : {r : Rect} {a b : Point} → SmallRect r → SmallPoint a → SmallPoint b → Bd (entry r a b) mostSteps
 unfolding entry
@@ -56,7 +56,7 @@ entry-size {b = b} h k l =
 
 pub toward-size : (p q : ℤ) {m : ℤ} {n : ℕ} → Bd m n → Bd (toward p q m) n
 unfolding toward
-toward-size p q h = pick-size (p <? q) h (pick-size (q <? p) (bd-neg h) (record { bd = zero-le }))
+toward-size p q h = cond-size (p <? q) h (cond-size (q <? p) (bd-neg h) (record { bd = zero-le }))
 
 pub axis-place-is : {p q u' u m z : ℤ} → Bd p reach → Bd q reach → Num u' u mostExtent → Bd m mostSteps →
     mag z < 2 ^ hbits w64 → z ≡ axisPlace (m64 p) (m64 q) u' (m64 m) → m64 z ≡ axisPlace p q u m

@@ -1,9 +1,9 @@
 -- Laws: a segment with both ends in the box is left as it is. Why: the box is entered after no step either way, and no step from an end is that end.
 use mathlib.Core.Path.{_≡_, refl, sym, ap, _∙_}
-use mathlib.Core.Bool.{Bool, true, false}
+use mathlib.Core.Bool.{Bool, true, false, cond}
 use native.Mathlib.Omega.{arith}
 use lib.IntN.{ℤ, pos, _+ℤ_, _*ℤ_}
-use Rattle.exact.specs.Whole.{_≤ᶻ_, _<ᶻ_, _<?_, <?-false, pick, up, is, Z, ord}
+use Rattle.exact.specs.Whole.{_≤ᶻ_, _<ᶻ_, _<?_, <?-false, up, is, Z, ord}
 use Rattle.exact.specs.Divide.{nearestDiv}
 use Rattle.exact.specs.Nearest.{nearest-only}
 use Rattle.clip.specs.Clip.{axisEntry, entry, toward, axisPlace, place, clip, inside}
@@ -20,17 +20,17 @@ record Held (r : Rect) (p : Point) : Type 0 where
   bottom : r .bottom ≤ᶻ p .y
   top : p .y ≤ᶻ r .top
 
-pick-out : (t : Bool) {s : Bool} → pick t false s ≡ true → (t ≡ false) × (s ≡ true)
-pick-out true e = (sym e, (cc))
-pick-out false e = (refl, e)
+cond-out : (t : Bool) {s : Bool} → cond t false s ≡ true → (t ≡ false) × (s ≡ true)
+cond-out true e = (sym e, (cc))
+cond-out false e = (refl, e)
 
 held : {r : Rect} {p : Point} → inside r p ≡ true → Held r p
 unfolding inside
 held {r} {p} e =
-    let a = pick-out (p .x <? r .left) e in
-    let b = pick-out (r .right <? p .x) (a .1) in
-    let c = pick-out (p .y <? r .bottom) (b .1) in
-    let d = pick-out (r .top <? p .y) (c .1) in
+    let a = cond-out (p .x <? r .left) e in
+    let b = cond-out (r .right <? p .x) (a .1) in
+    let c = cond-out (p .y <? r .bottom) (b .1) in
+    let d = cond-out (r .top <? p .y) (c .1) in
     record { left = <?-false _ _ (a .0); right = <?-false _ _ (b .0); bottom = <?-false _ _ (c .0); top = <?-false _ _ (d .0) }
 
 -- ---- no step enters
@@ -52,7 +52,7 @@ none-entry : {r : Rect} {a : Point} (b : Point) → Held r a → entry r a b ≡
 none-entry {r} {a} b h = omega (arith, ord, entry-is r a b .eq, none-till b h)
 
 -- ---- the place after no step
-none-toward : (s t : Bool) → pick s (pos 0) (pick t (pos 0) (pos 0)) ≡ pos 0
+none-toward : (s t : Bool) → cond s (pos 0) (cond t (pos 0) (pos 0)) ≡ pos 0
 none-toward true t = refl
 none-toward false true = refl
 none-toward false false = refl

@@ -1,13 +1,14 @@
 -- Drive moves: what document 01 asks for a stroke, in exact numbers, and what an answer of floats must be to give it. Definitions only:
 -- Laws.antt has what follows from them, Floats.antt why no product loses anything.
 use mathlib.Core.Path.{_≡_}
-use mathlib.Core.Bool.{Bool, true, false, not, _&&_}
+use mathlib.Core.Bool.{Bool, true, false, not, _&&_, cond}
 use Prim.Native.Nat.{ℕ, zero, suc}
 use lib.Dec.{ltb}
-use lib.IntN.{ℤ, pos, negsuc, negℤ, natAbs, _*ℤ_}
+use lib.IntN.{ℤ, pos, negsuc, natAbs, _*ℤ_}
 use lib.Ieee.{Float, binary32, round}
 use lib.Ieee.Exact.{HasValue}
-use Rattle.exact.specs.Whole.{pick, _<?_, _≡?_}
+use Rattle.exact.specs.Whole.{_≡?_}
+use Rattle.exact.specs.Int16.{int16}
 use Rattle.hpgl.specs.declared.Stroke.{Stroke}
 use Rattle.drive.specs.declared.Place.{Place}
 use Rattle.drive.specs.declared.Move.the-variants.{Travel, Paint, Dot}
@@ -41,17 +42,8 @@ abbrev pub endOf : Stroke → ℕ → Spot
 endOf s c = spotOf (s .x1) (s .y1) c
 
 -- "Each end must be within −32768 to 32767."
-abbrev pub least : ℤ
-least = negℤ (pos 32768)
-
-abbrev pub most : ℤ
-most = pos 32767
-
-unfoldable pub insideOf : ℤ → Bool
-insideOf z = pick (z <? least) false (pick (most <? z) false true)
-
 unfoldable pub endsInsideOf : Stroke → Bool
-endsInsideOf s = insideOf (s .x0) && (insideOf (s .y0) && (insideOf (s .x1) && insideOf (s .y1)))
+endsInsideOf s = int16 (s .x0) && (int16 (s .y0) && (int16 (s .x1) && int16 (s .y1)))
 
 -- "its ends are equal"
 unfoldable pub endsEqualOf : Stroke → Bool
@@ -74,9 +66,9 @@ badEnd = 12
 -- "11 before 12"
 unfoldable pub answerOf : Stroke → ℕ → Answer
 answerOf s c =
-    pick (ltb lastCode c) (refusal badPitch)
-    (pick (not (endsInsideOf s)) (refusal badEnd)
-    (pick (endsEqualOf s) (oneDot (startOf s c))
+    cond (ltb lastCode c) (refusal badPitch)
+    (cond (not (endsInsideOf s)) (refusal badEnd)
+    (cond (endsEqualOf s) (oneDot (startOf s c))
     (travelPaint (startOf s c) (endOf s c))))
 
 -- ---- the same in floats, by the kit's account of IEEE 754 (lib.Ieee)

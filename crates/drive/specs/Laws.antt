@@ -1,4 +1,4 @@
--- What follows from the definitions of Drive.antt: the order of the two refusals, when an end is inside, when a stroke is one dot, and that every
+-- What follows from the definitions of Drive.antt: the order of the two refusals, when all ends are inside, when a stroke is one dot, and that every
 -- place is exact. Assumes nothing.
 use mathlib.Core.Path.{_≡_, refl, sym, ap, _∙_}
 use mathlib.Core.Logic.{_↔_}
@@ -10,10 +10,10 @@ use borrow.Author.Tests.{lt-ltb, le-ltb}
 use lib.IntN.{ℤ, pos, negsuc}
 use lib.Ieee.{fin, down}
 use lib.Ieee.Fits.{down-pos}
-use Rattle.exact.specs.Whole.{_≤ᶻ_, ord, pick, _<?_, _≡?_, <?-false, le-<?, ≡?-true, eq-≡?}
-use Rattle.exact.specs.Fit.{Bd, abs}
+use Rattle.exact.specs.Whole.{_≡?_, ≡?-true, eq-≡?}
+use Rattle.exact.specs.Int16.{int16, int16-size}
 use Rattle.hpgl.specs.declared.Stroke.{Stroke}
-use Rattle.drive.specs.Drive.{lastCode, spotOf, startOf, endOf, least, most, insideOf, endsInsideOf, endsEqualOf, Answer, travelPaint, oneDot, refusal, badPitch, badEnd, answerOf, Exactly, placeOf, ExactAt}
+use Rattle.drive.specs.Drive.{lastCode, spotOf, startOf, endOf, endsInsideOf, endsEqualOf, Answer, travelPaint, oneDot, refusal, badPitch, badEnd, answerOf, Exactly, placeOf, ExactAt}
 use Rattle.drive.specs.Floats.{units-exact}
 
 -- ---- the refusals: 11 whatever the stroke is, 12 at a pitch code
@@ -42,35 +42,19 @@ both : (a b : Bool) → (a && b) ≡ true → (a ≡ true) × (b ≡ true)
 both true b h = (refl, h)
 both false b h = absurd (true≢false (sym h))
 
--- an end's coordinate is inside exactly from −32768 to 32767
-pub inside-iff : (z : ℤ) → (insideOf z ≡ true) ↔ ((least ≤ᶻ z) × (z ≤ᶻ most))
-unfolding insideOf
-inside-iff z = (go (z <? least) (most <? z) refl refl, λ h. simp (le-<? {a = z} {b = least} (h .0), le-<? {a = most} {b = z} (h .1)))
-  where
-    go : (a b : Bool) → (z <? least) ≡ a → (most <? z) ≡ b → pick a false (pick b false true) ≡ true → (least ≤ᶻ z) × (z ≤ᶻ most)
-    go true b e f h = absurd (true≢false (sym h))
-    go false true e f h = absurd (true≢false (sym h))
-    go false false e f h = (<?-false z least e, <?-false most z f)
-
-pub inside-size : (z : ℤ) → insideOf z ≡ true → Bd z 32768
-inside-size z h = let r = inside-iff z .0 h in go z (r .0) (r .1)
-  where
-    go : (z : ℤ) → least ≤ᶻ z → z ≤ᶻ most → Bd z 32768
-    go z l m = record { bd = omega (arith, ord, abs z) }
-
 -- all four coordinates are inside
 pub record Inside (s : Stroke) : Type 0 where
-  pub x0 : insideOf (s .x0) ≡ true
-  pub y0 : insideOf (s .y0) ≡ true
-  pub x1 : insideOf (s .x1) ≡ true
-  pub y1 : insideOf (s .y1) ≡ true
+  pub x0 : int16 (s .x0) ≡ true
+  pub y0 : int16 (s .y0) ≡ true
+  pub x1 : int16 (s .x1) ≡ true
+  pub y1 : int16 (s .y1) ≡ true
 
 pub ends-inside : (s : Stroke) → endsInsideOf s ≡ true → Inside s
 unfolding endsInsideOf
 ends-inside s h =
-    let a = both (insideOf (s .x0)) _ h in
-    let b = both (insideOf (s .y0)) _ (a .1) in
-    let c = both (insideOf (s .x1)) (insideOf (s .y1)) (b .1) in
+    let a = both (int16 (s .x0)) _ h in
+    let b = both (int16 (s .y0)) _ (a .1) in
+    let c = both (int16 (s .x1)) (int16 (s .y1)) (b .1) in
     record { x0 = a .0; y0 = b .0; x1 = c .0; y1 = c .1 }
 
 pub equal-iff : (s : Stroke) → (endsEqualOf s ≡ true) ↔ ((s .x0 ≡ s .x1) × (s .y0 ≡ s .y1))
@@ -95,9 +79,9 @@ dot-iff s c h i = ((λ a. equal-iff s .0 (go (endsEqualOf s) refl a)), λ e. dot
 
 -- ---- exactness
 
-pub spot-exact : (x y : ℤ) (c : ℕ) → insideOf x ≡ true → insideOf y ≡ true → ExactAt (placeOf (spotOf x y c)) (spotOf x y c)
+pub spot-exact : (x y : ℤ) (c : ℕ) → int16 x ≡ true → int16 y ≡ true → ExactAt (placeOf (spotOf x y c)) (spotOf x y c)
 unfolding placeOf spotOf
-spot-exact x y c h k = (units-exact x c (inside-size x h), units-exact y c (inside-size y k))
+spot-exact x y c h k = (units-exact x c (int16-size x h), units-exact y c (int16-size y k))
 
 -- minus zero, `fin true 0 e`, is exactly no number of eighths
 pub no-minus-zero : (k : ℤ) (e : ℤ) → Exactly (fin true 0 e) k → ⊥

@@ -3,17 +3,13 @@ ghost use mathlib.Core.Path.{_≡_};
 ghost use mathlib.Core.Bool.{true};
 ghost use lib.IntN.{pos, _*ℤ_};
 ghost use Prim.Native.Nat.{_≤_};
-ghost use Rattle.drive.specs.Drive.{lastCode, pitchOf, insideOf, endsInsideOf, endsEqualOf, spotOf, answerOf, f32Of, placeOf, Gives};
+ghost use Rattle.exact.specs.Int16 as I;
+ghost use Rattle.drive.specs.Drive.{lastCode, pitchOf, endsInsideOf, endsEqualOf, spotOf, answerOf, f32Of, placeOf, Gives};
+use exact::int16;
 use hpgl::Stroke;
 
 // Pitch codes are 0 to this one.
 const LAST_CODE: u8 = 3;
-
-// A stroke's ends lie from this number ..
-const LEAST: i64 = -32768;
-
-// .. to this one.
-const MOST: i64 = 32767;
 
 // Refused: a pitch code that is none.
 const BAD_PITCH: u8 = 11;
@@ -54,33 +50,20 @@ fn pitch_of(code: u8) -> f32
     }
 }
 
-// A coordinate is in range.
-fn inside(z: i64) -> bool
-    ensures { λ r. ⌜ r ≡ insideOf z ⌝ }
-{
-    if z < LEAST {
-        return false;
-    }
-    if MOST < z {
-        return false;
-    }
-    true
-}
-
 // All four coordinates are in range: a caller may write any stroke.
 fn ends_inside(s: Stroke) -> bool
     ensures { λ r. ⌜ r ≡ endsInsideOf s ⌝ }
 {
-    if !inside(s.x0) {
+    if !int16(s.x0) {
         return false;
     }
-    if !inside(s.y0) {
+    if !int16(s.y0) {
         return false;
     }
-    if !inside(s.x1) {
+    if !int16(s.x1) {
         return false;
     }
-    inside(s.y1)
+    int16(s.y1)
 }
 
 // The stroke is a dot.
@@ -98,7 +81,7 @@ pub fn ends_equal(s: Stroke) -> bool
 
 // Units times the pitch. The whole number is converted first, so that zero is plus zero.
 fn millimetres(units: i64, code: u8) -> f32
-    requires { ⌜ (insideOf units ≡ true) × (code ≤ lastCode) ⌝ }
+    requires { ⌜ (I.int16 units ≡ true) × (code ≤ lastCode) ⌝ }
     ensures { λ r. ⌜ r ≡ f32Of (units *ℤ pos (pitchOf code)) ⌝ }
 {
     units as f32 * pitch_of(code)
@@ -106,7 +89,7 @@ fn millimetres(units: i64, code: u8) -> f32
 
 // The place of a point in units.
 fn place_at(x: i64, y: i64, code: u8) -> Place
-    requires { ⌜ (insideOf x ≡ true) × (insideOf y ≡ true) × (code ≤ lastCode) ⌝ }
+    requires { ⌜ (I.int16 x ≡ true) × (I.int16 y ≡ true) × (code ≤ lastCode) ⌝ }
     ensures { λ r. ⌜ r ≡ placeOf (spotOf x y code) ⌝ }
 {
     Place {

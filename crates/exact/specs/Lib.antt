@@ -3,6 +3,7 @@ pub mod Laws
 pub mod Ring
 pub mod Parts
 pub mod Fit
+pub mod Int16
 pub mod Divide
 pub mod Nearest
 pub mod Steps

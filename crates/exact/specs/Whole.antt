@@ -315,8 +315,3 @@ eq-≡? {a} {b} e = eq-eqZ {a = a} {b = b} e
 pub ne-≡? : {a b : ℤ} → (a ≡ b → ⊥) → (a ≡? b) ≡ false
 unfolding _≡?_
 ne-≡? {a} {b} h = ne-eqZ {a = a} {b = b} h
-
--- a choice by a test, for definitions
-abbrev pub pick {ℓ} : {A : Type ℓ} → Bool → A → A → A
-pick true a b = a
-pick false a b = b

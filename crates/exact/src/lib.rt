@@ -1,9 +1,10 @@
-// Exact whole numbers in i64: division that rounds down, and to the nearest. `/` truncates toward zero.
-// specs/Divide.antt says what, specs/Nearest.antt what holds of it; the other files of specs/ are the project's toolkit for signed numbers.
+// Exact whole numbers in i64: division that rounds down, and to the nearest (`/` truncates toward zero); and the range of 16 bits.
+// specs/Divide.antt and Int16.antt say what, specs/Nearest.antt what holds of it; the other files of specs/ are the project's toolkit for signed numbers.
 ghost use mathlib.Core.Path.{_≡_};
 ghost use lib.IntN.{pos};
 ghost use Rattle.exact.specs.Whole.{_<ᶻ_};
 ghost use Rattle.exact.specs.Fit.{Bd};
+ghost use Rattle.exact.specs.Int16 as I;
 ghost use Rattle.exact.specs.Divide.{floorDiv, nearestDiv};
 ghost use Rattle.exact.specs.Steps.{mirroredOf};
 
@@ -42,4 +43,19 @@ pub fn nearest_div(n: i64, d: i64) -> i64
         return nearest_above(-n, -d);
     }
     nearest_above(n, d)
+}
+
+// The numbers of 16 bits.
+const LEAST: i64 = -32768;
+
+const MOST: i64 = 32767;
+
+// Whether a number is one of them.
+pub fn int16(z: i64) -> bool
+    ensures { λ r. ⌜ r ≡ I.int16 z ⌝ }
+{
+    if LEAST <= z {
+        return z <= MOST;
+    }
+    false
 }

@@ -21,7 +21,7 @@ use Rattle.hpgl.specs.declared.Drawn.{Drawn}
 use Rattle.hpgl.specs.declared.Drawn.the-variants as drawn
 use Rattle.hpgl.specs.Place.{point, limits}
 use Rattle.hpgl.specs.Machine.{hardLimits, freshState, takeState, strokeOf, drawState, drawAnswer}
-use Rattle.hpgl.specs.ExactModel.{Segment, Model, freshModel, takeModel, drawModel}
+use Rattle.hpgl.specs.ExactModel.{ExactSegment, Model, freshModel, takeModel, drawModel}
 
 pub data Call : Type 0 where
   take : (b : ℕ) → b < 256 → Call
@@ -54,7 +54,7 @@ abbrev pub endOf : Stroke → Exact
 endOf s = exactly (point (s .x1) (s .y1))
 
 -- a stroke that is drawn for a segment
-pub record Painted (c : Settings) (g : Segment) (s : Stroke) : Type 0 where
+pub record Painted (c : Settings) (g : ExactSegment) (s : Stroke) : Type 0 where
   pub owed : g .owed ≡ true
   pub pen : s .pen ≡ g .pen
   pub clipped : drawn.Stroke s ≡ strokeOf (g .pen) (clip (limits c) (g .start) (g .end))
@@ -63,11 +63,11 @@ pub record Painted (c : Settings) (g : Segment) (s : Stroke) : Type 0 where
   pub covers : (k n : ℕ) → k ≤ n → (p : 0 < n) → InLimits c 1 (at (g .from) (g .to) k n p) → HasNear (at (g .from) (g .to) k n p) (startOf s) (endOf s)
 
 -- "hidden": if paint was owed, no point of the line is at least one unit inside
-pub record Unseen (c : Settings) (g : Segment) : Type 0 where
+pub record Unseen (c : Settings) (g : ExactSegment) : Type 0 where
   pub none : g .owed ≡ true → (k n : ℕ) → k ≤ n → (p : 0 < n) → ¬ InLimits c 1 (at (g .from) (g .to) k n p)
 
 -- a draw answers for the first segment of the queue, and "idle" exactly where there is none
-unfoldable pub Holds : Settings → List Segment → Drawn → Type 0
+unfoldable pub Holds : Settings → List ExactSegment → Drawn → Type 0
 Holds c [] drawn.Idle = Unit
 Holds c [] drawn.Hidden = ⊥
 Holds c [] (drawn.Stroke s) = ⊥

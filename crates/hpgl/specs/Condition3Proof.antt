@@ -11,7 +11,7 @@ use Rattle.reader.specs.declared.Event.{Event}
 use Rattle.reader.specs.declared.Event.the-variants.{Nothing}
 use Rattle.reader.specs.declared.Reader.{Reader}
 use Rattle.reader.specs.Step.{stepOf}
-use Rattle.reader.specs.InsideLaws.{Told, step-tells}
+use Rattle.reader.specs.InsideLaws.{Leads, step-tells}
 use Rattle.hpgl.specs.Cases.{never}
 use Rattle.hpgl.specs.declared.Settings.{Settings}
 use Rattle.hpgl.specs.declared.Core.{Core}
@@ -25,7 +25,7 @@ use Rattle.hpgl.specs.declared.Drawn.the-variants as drawn
 use Rattle.hpgl.specs.Numbers.{mostEdges}
 use Rattle.hpgl.specs.Rules.{freshCore, freshCarriage, noPolygon, actOn}
 use Rattle.hpgl.specs.Machine.{hardLimits, noEdge, freshState, waiting, readerAfter, applied, acted, takeState, shown, chordShown, edgeShown, workAfter, drawWork, drawState, drawAnswer}
-use Rattle.hpgl.specs.ExactModel.{ExactPolygon, Segment, Model, noPoints, freshModel, coreAfter, numberOf, taken, takeWhen, takeModel, rest, drawModel}
+use Rattle.hpgl.specs.ExactModel.{ExactPolygon, ExactSegment, Model, noPoints, freshModel, coreAfter, numberOf, taken, takeWhen, takeModel, rest, drawModel}
 use Rattle.hpgl.specs.Condition3.{Call, take, draw, stateAfter, modelAfter, Holds, HoldsAt, HoldsAll, Condition3}
 use Rattle.hpgl.specs.Valid.{Knows}
 use Rattle.hpgl.specs.Related.{edgesFrom, polygonEdges, edgesOf, allEdges, PageSegment, turnedEdges, chordsFrom, view, onPage, AllLocated, none, more, Related}
@@ -68,18 +68,18 @@ leaves-rest m (work.Edges i (suc zero)) = refl
 leaves-rest m (work.Edges i (suc (suc n))) =
     ap (λ (t : Bool). view (m .core .settings) (m .store .edges) (cond t work.Nothing (work.Edges (i + 1) (suc n)))) (eqb·suc-zero n)
 
-behind-page : (q : List Segment) → behind (onPage q) ≡ onPage (rest q)
+behind-page : (q : List ExactSegment) → behind (onPage q) ≡ onPage (rest q)
 unfolding behind onPage rest
 behind-page [] = refl
 behind-page (g ∷ gs) = refl
 
-located-rest : {k : ℕ} {q : List Segment} → AllLocated k q → AllLocated k (rest q)
+located-rest : {k : ℕ} {q : List ExactSegment} → AllLocated k q → AllLocated k (rest q)
 unfolding rest
 located-rest none = none
 located-rest (more l h) = h
 
 -- the answer is what the first of the queue was promised
-promised : (c : Core) (q : List Segment) → AllLocated (c .carriage .pen .number) q → Holds (c .settings) q (answer c (onPage q))
+promised : (c : Core) (q : List ExactSegment) → AllLocated (c .carriage .pen .number) q → Holds (c .settings) q (answer c (onPage q))
 unfolding answer onPage Holds
 promised c q none = tt
 promised c q (more {g = g} {gs = gs} l h) = keeps-promise c g l gs
@@ -111,7 +111,7 @@ busy-stays m b n h = rw (h, eqb·suc-zero n) refl
 
 -- ---- a call
 
-abbrev model : Reader → Core → ExactPolygon → List Segment → Model
+abbrev model : Reader → Core → ExactPolygon → List ExactSegment → Model
 model r c g q = record { reader = r; core = c; polygon = g; queue = q }
 
 taken-is : (c : Core) (r s : Reader) (g : ExactPolygon) (e : Event) (n : ℕ) (d : Core) →
@@ -121,10 +121,10 @@ taken-is c r s g e zero d = refl
 taken-is c r s g e (suc n) d = refl
 
 -- what it promises is kept, and the machine and the model after it are related
-record Next (m : State) (g : ExactPolygon) (q : List Segment) (c : Call) : Type 0 where
+record Next (m : State) (g : ExactPolygon) (q : List ExactSegment) (c : Call) : Type 0 where
   said : HoldsAt m (model (m .reader) (m .core) g q) c
   polygon : ExactPolygon
-  queue : List Segment
+  queue : List ExactSegment
   is : modelAfter (model (m .reader) (m .core) g q) c ≡ model (stateAfter m c .reader) (stateAfter m c .core) polygon queue
   related : Related (stateAfter m c) polygon queue
 
@@ -134,13 +134,13 @@ take-idle m g b h r =
     let s : Reader = stepOf (m .reader) b .reader in
     let e : Event = stepOf (m .reader) b .event in
     let t : Acted = actOn (m .core) e in
-    let told : Told (m .reader) s e = step-tells (m .reader) b in
+    let told : Leads (m .reader) s e = step-tells (m .reader) b in
     let k : Keeps (m .core) (m .store .edges) g e t =
     keeps (m .core) (m .store .edges) g (r .fit) (r .linked) e (ends-known (m .core) (m .reader) s e told (r .knows)) in
     let none-waits : waiting (m .work) ≡ 0 = waits (m .core .settings) (m .store .edges) (m .work) ∙ ap length (r .queue) in
     let took : takeState m b ≡ applied m s t = idle-takes m b none-waits in
     let p : ExactPolygon = polygonBy (m .core) (t .core) e (t .number) g in
-    let q : List Segment = addedBy (m .core) (t .core) e (t .number) g in
+    let q : List ExactSegment = addedBy (m .core) (t .core) e (t .number) g in
     record {
       said = tt;
       polygon = p;
@@ -155,7 +155,7 @@ take-idle m g b h r =
       });
     }
 
-take-busy : (m : State) (g : ExactPolygon) (x : Segment) (xs : List Segment) (b : ℕ) (h : b < 256) → Related m g (x ∷ xs) → Next m g (x ∷ xs) (take b h)
+take-busy : (m : State) (g : ExactPolygon) (x : ExactSegment) (xs : List ExactSegment) (b : ℕ) (h : b < 256) → Related m g (x ∷ xs) → Next m g (x ∷ xs) (take b h)
 unfolding HoldsAt modelAfter stateAfter takeModel takeWhen onPage
 take-busy m g x xs b h r =
     let some-wait : waiting (m .work) ≡ suc (length (onPage xs)) = waits (m .core .settings) (m .store .edges) (m .work) ∙ ap length (r .queue) in
@@ -168,7 +168,7 @@ take-busy m g x xs b h r =
       related = subst (λ (y : State). Related y g (x ∷ xs)) (sym stays) r;
     }
 
-draws : (m : State) (g : ExactPolygon) (q : List Segment) → Related m g q → Next m g q draw
+draws : (m : State) (g : ExactPolygon) (q : List ExactSegment) → Related m g q → Next m g q draw
 unfolding HoldsAt modelAfter stateAfter drawState drawModel drawAnswer
 draws m g q r =
     let first : drawWork m (m .work) ≡ answer (m .core) (onPage q) = draws-first m (m .work) ∙ ap (answer (m .core)) (r .queue) in
@@ -186,14 +186,14 @@ draws m g q r =
       };
     }
 
-next : (m : State) (g : ExactPolygon) (q : List Segment) (c : Call) → Related m g q → Next m g q c
+next : (m : State) (g : ExactPolygon) (q : List ExactSegment) (c : Call) → Related m g q → Next m g q c
 next m g [] (take b h) r = take-idle m g b h r
 next m g (x ∷ xs) (take b h) r = take-busy m g x xs b h r
 next m g q draw r = draws m g q r
 
 -- ---- the whole list
 
-from : (m : State) (g : ExactPolygon) (q : List Segment) (calls : List Call) → Related m g q → HoldsAll m (model (m .reader) (m .core) g q) calls
+from : (m : State) (g : ExactPolygon) (q : List ExactSegment) (calls : List Call) → Related m g q → HoldsAll m (model (m .reader) (m .core) g q) calls
 unfolding HoldsAll
 from m g q [] r = tt
 from m g q (c ∷ cs) r =

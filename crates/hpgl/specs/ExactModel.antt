@@ -42,7 +42,7 @@ pub record ExactPolygon : Type 0 where
   pub current : Subpolygon
 
 -- a segment of the queue: its exact line on the page, its located ends on the page, its pen, and whether it is owed paint
-pub record Segment : Type 0 where
+pub record ExactSegment : Type 0 where
   pub from : Exact
   pub to : Exact
   pub start : Point
@@ -54,13 +54,13 @@ pub record Model : Type 0 where
   pub reader : Reader
   pub core : Core
   pub polygon : ExactPolygon
-  pub queue : List Segment
+  pub queue : List ExactSegment
 
 -- ---- segments
 
 -- "The exact line of a move joins the exact positions, turned"; "Location is turned to the page"
-unfoldable pub segment : Core → Exact → Exact → Bool → Segment
-segment c e f owed = record {
+unfoldable pub exactSegment : Core → Exact → Exact → Bool → ExactSegment
+exactSegment c e f owed = record {
   from = turnedExact e (c .settings .turn);
   to = turnedExact f (c .settings .turn);
   start = turnedOf (nearest e) (c .settings .turn);
@@ -70,20 +70,20 @@ segment c e f owed = record {
 }
 
 -- "for each two neighbours of a subpolygon, a segment"; owed if the "second point was reached pen down"
-unfoldable pub sidesFrom : Core → PolygonPoint → Subpolygon → List Segment
+unfoldable pub sidesFrom : Core → PolygonPoint → Subpolygon → List ExactSegment
 sidesFrom c p [] = []
-sidesFrom c p (q ∷ ps) = segment c (p .exact) (q .exact) (q .down) ∷ sidesFrom c q ps
+sidesFrom c p (q ∷ ps) = exactSegment c (p .exact) (q .exact) (q .down) ∷ sidesFrom c q ps
 
-unfoldable pub sides : Core → Subpolygon → List Segment
+unfoldable pub sides : Core → Subpolygon → List ExactSegment
 sides c [] = []
 sides c (p ∷ ps) = sidesFrom c p ps
 
-unfoldable pub allSides : Core → List Subpolygon → List Segment
+unfoldable pub allSides : Core → List Subpolygon → List ExactSegment
 allSides c [] = []
 allSides c (s ∷ ss) = sides c s ++ allSides c ss
 
 -- "EP turns them by the turn then in force"
-unfoldable pub outline : Core → ExactPolygon → List Segment
+unfoldable pub outline : Core → ExactPolygon → List ExactSegment
 outline c g = allSides c (g .ended) ++ sides c (g .current)
 
 -- "A circle's chords join its exact vertices": the chords from vertex i, n of them, of radius r and chord angle a about the position
@@ -95,9 +95,9 @@ vertexAt c r a i =
       y = exactVertex (axisY (c .settings)) (c .carriage .position .y) (w .v);
     }
 
-unfoldable pub chords : Core → ℤ → ℕ → ℕ → ℕ → List Segment
+unfoldable pub chords : Core → ℤ → ℕ → ℕ → ℕ → List ExactSegment
 chords c r a i zero = []
-chords c r a i (suc n) = segment c (vertexAt c r a i) (vertexAt c r a (i + 1)) true ∷ chords c r a (i + 1) n
+chords c r a i (suc n) = exactSegment c (vertexAt c r a i) (vertexAt c r a (i + 1)) true ∷ chords c r a (i + 1) n
 
 -- ---- the polygon
 
@@ -151,26 +151,26 @@ polygonAfter c d (Refused k) g = g
 -- ---- the queue
 
 -- "Pen 0 queues nothing."
-unfoldable pub inkedOnly : Core → List Segment → List Segment
+unfoldable pub inkedOnly : Core → List ExactSegment → List ExactSegment
 inkedOnly c s = cond (eqb (c .carriage .pen .number) 0) [] s
 
 -- "outside polygon mode, each move with pen down and pen not 0"
-unfoldable pub move : Core → Core → List Segment
+unfoldable pub move : Core → Core → List ExactSegment
 move c d =
     cond (d .carriage .polygon .mode) []
     (cond (d .carriage .pen .down)
-    (inkedOnly d (segment d (exactPosition (c .settings) (c .carriage .position)) (exactPosition (d .settings) (d .carriage .position)) true ∷ []))
+    (inkedOnly d (exactSegment d (exactPosition (c .settings) (c .carriage .position)) (exactPosition (d .settings) (d .carriage .position)) true ∷ []))
     [])
 
 -- "each circle chord with pen not 0, pen up or down, and each polygon edge drawn with pen not 0"
-unfoldable pub instructed : Core → ℕ → Numbers → ExactPolygon → List Segment
+unfoldable pub instructed : Core → ℕ → Numbers → ExactPolygon → List ExactSegment
 instructed d op n g =
     cond (eqb op EP || eqb op EA || eqb op ER) (inkedOnly d (outline d g))
     (cond (eqb op CI) (inkedOnly d (chords d (n .first) (natAbs (chordAngle n)) 0 (chordsOf (natAbs (chordAngle n)))))
     [])
 
 -- what an event that was not refused adds to the queue; g is the polygon after it
-unfoldable pub added : Core → Core → Event → ExactPolygon → List Segment
+unfoldable pub added : Core → Core → Event → ExactPolygon → List ExactSegment
 added c d Nothing g = []
 added c d (Named op) g = []
 added c d (Pair p) g = move c d
@@ -197,7 +197,7 @@ taken m r e zero d =
 taken m r e (suc k) d = record { reader = readerAfter r (suc k); core = d; polygon = m .polygon; queue = m .queue }
 
 -- a take while a segment waits is refused, and leaves all
-unfoldable pub takeWhen : Model → List Segment → ℕ → Model
+unfoldable pub takeWhen : Model → List ExactSegment → ℕ → Model
 takeWhen m [] b =
     taken m (stepOf (m .reader) b .reader) (stepOf (m .reader) b .event) (numberOf (m .core) (stepOf (m .reader) b .event)) (coreAfter (m .core) (stepOf (m .reader) b .event))
 takeWhen m (s ∷ ss) b = m
@@ -206,7 +206,7 @@ unfoldable pub takeModel : Model → ℕ → Model
 takeModel m b = takeWhen m (m .queue) b
 
 -- "A draw removes the first and works off that one; on an empty queue it changes nothing."
-unfoldable pub rest : List Segment → List Segment
+unfoldable pub rest : List ExactSegment → List ExactSegment
 rest [] = []
 rest (s ∷ ss) = ss
 

@@ -1,5 +1,5 @@
 -- The call feed (document 01, "The calls"): bytes in, strokes out into a lent list.
-use Prim.Native.Nat.{ℕ, zero, suc, _+_}
+use Prim.Native.Nat.{ℕ, _+_}
 use mathlib.Core.Bool.{Bool, cond}
 use mathlib.Core.List.{List, [], _∷_, _++_}
 use lib.Dec.{eqb}
@@ -8,9 +8,9 @@ use lib.ListN.{length, drop}
 use Rattle.hpgl.specs.declared.State.{State}
 use Rattle.hpgl.specs.declared.Stroke.{Stroke}
 use Rattle.hpgl.specs.declared.Drawn.{Drawn}
-use Rattle.hpgl.specs.declared.Drawn.the-variants as drawn
 use Rattle.hpgl.specs.Numbers.{listFull}
-use Rattle.hpgl.specs.Machine.{waiting, takeState, takeNumber, drawState, drawAnswer}
+use Rattle.hpgl.specs.Machine.{waiting, takeState, takeNumber}
+use Rattle.hpgl.specs.DrawOff.{drewBy, drawOffBy}
 
 -- "Answer: bytes taken, strokes stored, number (0 for none)": with the machine after it, and the strokes themselves, in order
 pub record Feed : Type 0 where
@@ -26,18 +26,14 @@ stop m t n = record { state = m; taken = t; strokes = []; number = n }
 abbrev pub store : Stroke → Feed → Feed
 store s f = record { state = f .state; taken = f .taken; strokes = s ∷ f .strokes; number = f .number }
 
--- a draw with r + 1 records free: a stroke uses one, a hidden segment none; `rest` goes on with those that are left
+-- a draw with r + 1 records free
 unfoldable pub drew : Drawn → ℕ → (ℕ → Feed) → Feed
-drew (drawn.Stroke s) r rest = store s (rest r)
-drew drawn.Hidden r rest = rest (suc r)
-drew drawn.Idle r rest = rest (suc r)
+drew d r rest = drewBy store d r rest
 
 -- "While a segment waits, draw if the list has a free record, else stop with 21": k segments wait, t bytes are taken, r records are free;
 -- `idle` goes on once none waits
 unfoldable pub drawOff : ℕ → State → ℕ → ℕ → (State → ℕ → Feed) → Feed
-drawOff zero m t r idle = idle m r
-drawOff (suc k) m t zero idle = stop m t listFull
-drawOff (suc k) m t (suc r) idle = drew (drawAnswer m) r (λ q. drawOff k (drawState m) t q idle)
+drawOff k m t r idle = drawOffBy drew (λ i. stop i t listFull) k m r idle
 
 -- "When idle, take the next byte. Stop after a byte that is refused; it counts as taken": t bytes are taken, and these are left
 unfoldable pub feedFrom : State → List ℕ → ℕ → ℕ → Feed

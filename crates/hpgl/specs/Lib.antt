@@ -3,6 +3,7 @@ pub mod Place
 pub mod Change
 pub mod Rules
 pub mod Machine
+pub mod DrawOff
 pub mod Feed
 pub mod Plot
 pub mod Values
@@ -11,6 +12,7 @@ pub mod ExactModel
 pub mod Condition3
 pub mod Valid
 pub mod Made
+pub mod DrawOffLaws
 pub mod FeedLaws
 pub mod PlotLaws
 pub mod Cases

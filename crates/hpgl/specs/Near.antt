@@ -21,7 +21,7 @@ use Rattle.hpgl.specs.declared.Stroke.{Stroke}
 use Rattle.hpgl.specs.declared.Drawn.the-variants as drawn
 use Rattle.hpgl.specs.Place.{limits}
 use Rattle.hpgl.specs.Machine.{strokeOf, shown}
-use Rattle.hpgl.specs.ExactModel.{Segment}
+use Rattle.hpgl.specs.ExactModel.{ExactSegment}
 use Rattle.hpgl.specs.Condition3.{InLimits, HasNear, Painted, Holds}
 use Rattle.hpgl.specs.Related.{Located}
 
@@ -49,7 +49,7 @@ module _ (s : Settings) (c : ℕ) (e : Exact) where
 has-near : {e g h : Exact} → HasClose g h e → HasNear e g h
 has-near c = (c .k, c .n, c .upto, (c .some, c .close))
 
-module _ (d : Core) (g : Segment) (l : Located (d .carriage .pen .number) g) where
+module _ (d : Core) (g : ExactSegment) (l : Located (d .carriage .pen .number) g) where
   painted : (s t : Point) → g .owed ≡ true → clip (limits (d .settings)) (g .start) (g .end) ≡ clipped.Stroke s t →
       Painted (d .settings) g (record { pen = d .carriage .pen .number; x0 = s .x; y0 = s .y; x1 = t .x; y1 = t .y })
   unfolding strokeOf
@@ -74,7 +74,7 @@ module _ (d : Core) (g : Segment) (l : Located (d .carriage .pen .number) g) whe
           has-near (rw (es, et) at near)
 
   -- the answer for a segment that waits
-  pub keeps-promise : (gs : List Segment) → Holds (d .settings) (g ∷ gs) (cond (g .owed) (shown d (g .start) (g .end)) drawn.Hidden)
+  pub keeps-promise : (gs : List ExactSegment) → Holds (d .settings) (g ∷ gs) (cond (g .owed) (shown d (g .start) (g .end)) drawn.Hidden)
   unfolding shown strokeOf Holds
   keeps-promise gs = go (g .owed) refl (clip (limits (d .settings)) (g .start) (g .end)) refl
     where

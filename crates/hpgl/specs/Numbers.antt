@@ -1,16 +1,10 @@
 -- The numbers of document 01: its refusals ("Causes and numbers") and its bounds, each named once. Those of reading stand in the crate reader, those of
--- the plane (a location's range, the largest chord angle) in clip and plane.
+-- the plane (a location's range, the largest chord angle) in clip and plane, the range of 16 bits in exact.
 use Prim.Native.Nat.{ℕ, _+_}
-
 -- ---- "Causes and numbers"
 
--- unknown byte or name, number with no instruction, not known in polygon mode
-abbrev pub unknown : ℕ
-unknown = 1
-
--- number or setting out of range
-abbrev pub outOfRange : ℕ
-outOfRange = 3
+-- of the reader's three, what rules refuse with too: "not known in polygon mode", 1; "setting out of range", 3
+pub use Rattle.reader.specs.Reader.{unknown, outOfRange}
 
 -- location out of range
 abbrev pub tooFar : ℕ

@@ -13,7 +13,7 @@ use Rattle.reader.specs.declared.Reader.{Reader}
 use Rattle.reader.specs.Step.{passedOver}
 use Rattle.mnemonics.specs.Table.{PU, PD, PA, PR, knownInPolygon}
 use Rattle.reader.specs.Inside.{inside}
-use Rattle.reader.specs.InsideLaws.{Told, passed-outside}
+use Rattle.reader.specs.InsideLaws.{Leads, passed-outside}
 use Rattle.hpgl.specs.Cases.{never, pick}
 use Rattle.hpgl.specs.declared.Carriage.{Carriage}
 use Rattle.hpgl.specs.declared.Polygon.{Polygon}
@@ -58,8 +58,8 @@ pair-mode c n =
     (record { same = refl })
 
 -- an event that is not refused
-knows-done : (c : Core) (r s : Reader) (e : Event) → Told r s e → Knows c r → actOn c e .number ≡ 0 → Knows (actOn c e .core) s
-unfolding Knows Told actOn done refuse
+knows-done : (c : Core) (r s : Reader) (e : Event) → Leads r s e → Knows c r → actOn c e .number ≡ 0 → Knows (actOn c e .core) s
+unfolding Knows Leads actOn done refuse
 knows-done c r s Nothing t k z = λ m i. rw (t .op) (k m (t .within i))
 knows-done c r s (Named op) t k z = λ m i. rw t (name-known c op z m)
 knows-done c r s (Pair n) t k z = λ m i. rw (t .op) (k (sym (pair-mode c n .same) ∙ m) (t .within i))
@@ -70,7 +70,7 @@ reader-refused : (s : Reader) (n : ℕ) → readerAfter s (suc n) ≡ passedOver
 unfolding readerAfter
 reader-refused s n = rw (eqb·suc-zero n) refl
 
-pub knows-after : (c : Core) (r s : Reader) (e : Event) → Told r s e → Knows c r → Knows (actOn c e .core) (readerAfter s (actOn c e .number))
+pub knows-after : (c : Core) (r s : Reader) (e : Event) → Leads r s e → Knows c r → Knows (actOn c e .core) (readerAfter s (actOn c e .number))
 unfolding Knows readerAfter
 knows-after c r s e t k = go (actOn c e .number) refl
   where
@@ -79,8 +79,8 @@ knows-after c r s e t k = go (actOn c e .number) refl
     go (suc n) z = λ m i. never (ap (λ (x : Reader). inside (x .mode)) (reader-refused s n) ∙ passed-outside s) i
 
 -- an instruction that ends was being read
-pub ends-known : (c : Core) (r s : Reader) (e : Event) → Told r s e → Knows c r → (op : ℕ) (n : Numbers) → e ≡ Ended op n → c .carriage .polygon .mode ≡ true → knownInPolygon op ≡ true
-unfolding Knows Told
+pub ends-known : (c : Core) (r s : Reader) (e : Event) → Leads r s e → Knows c r → (op : ℕ) (n : Numbers) → e ≡ Ended op n → c .carriage .polygon .mode ≡ true → knownInPolygon op ≡ true
+unfolding Knows Leads
 ends-known c r s e t k op n q m =
-    let u : Told r s (Ended op n) = rw q at t in
+    let u : Leads r s (Ended op n) = rw q at t in
     rw (← u .op) (k m (u .within))

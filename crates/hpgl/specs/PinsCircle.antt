@@ -26,7 +26,7 @@ use Rattle.hpgl.specs.declared.Action.the-variants.{Keep, Chords}
 use Rattle.hpgl.specs.Numbers.{outOfRange, tooFar}
 use Rattle.hpgl.specs.Place.{axisX, axisY, exactPosition}
 use Rattle.hpgl.specs.Rules.{done, refuse, inked, circleFits, circle, circleWith, chordAngle, ciRule}
-use Rattle.hpgl.specs.ExactModel.{Segment, segment, vertexAt, chords}
+use Rattle.hpgl.specs.ExactModel.{ExactSegment, exactSegment, vertexAt, chords}
 use Rattle.hpgl.specs.Related.{Sound}
 use Rattle.hpgl.specs.PinsPosition.{spanOf, widthOf, Moves, standing, less, same-moves}
 
@@ -40,13 +40,13 @@ pub record Vertex (c : Core) (r : ℤ) (angle : ℕ) (e : Exact) : Type 0 where
       (widthOf (c .settings .scale .on) (c .settings .scale .y) *ℤ pos 100000)
 
 -- "A circle's chords join its exact vertices": chord i leads from v i to v (i + 1), turned to the page, and is owed paint
-pub data Joins (c : Core) (v : ℕ → Exact) : ℕ → List Segment → Type 0 where
+pub data Joins (c : Core) (v : ℕ → Exact) : ℕ → List ExactSegment → Type 0 where
   none : {i : ℕ} → Joins c v i []
-  more : {i : ℕ} {g : Segment} {gs : List Segment} → g .from ≡ turnedExact (v i) (c .settings .turn) → g .to ≡ turnedExact (v (i + 1)) (c .settings .turn) →
+  more : {i : ℕ} {g : ExactSegment} {gs : List ExactSegment} → g .from ≡ turnedExact (v i) (c .settings .turn) → g .to ≡ turnedExact (v (i + 1)) (c .settings .turn) →
       g .owed ≡ true → Joins c v (i + 1) gs → Joins c v i (g ∷ gs)
 
 -- "Chords: 3600 over it, rounded up. Vertices zero, one, two .. stand at whole multiples of the angle; the last is the first again."
-pub record Ring (c : Core) (r : ℤ) (a : ℕ) (v : ℕ → Exact) (gs : List Segment) : Type 0 where
+pub record Ring (c : Core) (r : ℤ) (a : ℕ) (v : ℕ → Exact) (gs : List ExactSegment) : Type 0 where
   pub enough : 3600 ≤ a * length gs
   pub fewest : a * length gs < 3600 + a
   pub multiples : (i : ℕ) → i < length gs → (i * a < 3600) × Vertex c r (i * a) (v i)
@@ -132,7 +132,7 @@ module _ (c : Core) (r : ℤ) (w : Sound (c .settings)) where
   count a i (suc n) = ap suc (count a (i + 1) n)
 
   joined : (a i n : ℕ) → Joins c (vertexAt c r a) i (chords c r a i n)
-  unfolding chords segment
+  unfolding chords exactSegment
   joined a i zero = none
   joined a i (suc n) = more refl refl refl (joined a (i + 1) n)
 

@@ -6,9 +6,9 @@ use lib.ListN.{length, drop}
 use Rattle.hpgl.specs.declared.State.{State}
 use Rattle.hpgl.specs.declared.Stroke.{Stroke}
 use Rattle.hpgl.specs.declared.Drawn.{Drawn}
-use Rattle.hpgl.specs.declared.Drawn.the-variants as drawn
 use Rattle.hpgl.specs.Numbers.{listFull}
-use Rattle.hpgl.specs.Machine.{waiting, takeState, takeNumber, drawState, drawAnswer}
+use Rattle.hpgl.specs.Machine.{waiting, takeState, takeNumber}
+use Rattle.hpgl.specs.DrawOff.{drewBy, drawOffBy}
 
 -- what a record holds: a stroke, or a refusal with 01's number and the place of its byte, counted from 1
 pub data Mark : Type 0 where
@@ -29,11 +29,9 @@ stop m t n = record { state = m; taken = t; marks = []; number = n }
 abbrev pub store : Mark → Plot → Plot
 store k f = record { state = f .state; taken = f .taken; marks = k ∷ f .marks; number = f .number }
 
--- a draw with r + 1 records free: a stroke uses one, a hidden segment none; `rest` goes on with those that are left
+-- a draw with r + 1 records free
 unfoldable pub drew : Drawn → ℕ → (ℕ → Plot) → Plot
-drew (drawn.Stroke s) r rest = store (stroke s) (rest r)
-drew drawn.Hidden r rest = rest (suc r)
-drew drawn.Idle r rest = rest (suc r)
+drew d r rest = drewBy (λ s. store (stroke s)) d r rest
 
 -- a byte that was taken with the number n, as the t-th, with r + 1 records free: a refusal uses one
 unfoldable pub took : ℕ → ℕ → ℕ → (ℕ → Plot) → Plot
@@ -42,9 +40,7 @@ took (suc n) t r rest = store (refusal (suc n) t) (rest r)
 
 -- while a segment waits, draw: k segments wait, t bytes are taken, r records are free; `idle` goes on once none waits
 unfoldable pub drawOff : ℕ → State → ℕ → ℕ → (State → ℕ → Plot) → Plot
-drawOff zero m t r idle = idle m r
-drawOff (suc k) m t zero idle = stop m t listFull
-drawOff (suc k) m t (suc r) idle = drew (drawAnswer m) r (λ q. drawOff k (drawState m) t q idle)
+drawOff k m t r idle = drawOffBy drew (λ i. stop i t listFull) k m r idle
 
 -- when idle, take a byte; any byte may be refused, so that it too waits for a free record
 unfoldable pub takeOn : State → ℕ → ℕ → ℕ → (State → ℕ → Plot) → Plot

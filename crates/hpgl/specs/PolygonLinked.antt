@@ -20,7 +20,7 @@ use Rattle.hpgl.specs.Numbers.{mostEdges}
 use Rattle.hpgl.specs.Place.{point, axisX, axisY, exactPosition, location}
 use Rattle.hpgl.specs.Rules.{differ, longer, endedWith, rectangular}
 use Rattle.hpgl.specs.Machine.{noEdge, rectangleEdges, stored}
-use Rattle.hpgl.specs.ExactModel.{PolygonPoint, Subpolygon, ExactPolygon, Segment, segment, sidesFrom, sides, allSides, outline, lastOf, closed, endCurrent, rectangle}
+use Rattle.hpgl.specs.ExactModel.{PolygonPoint, Subpolygon, ExactPolygon, ExactSegment, exactSegment, sidesFrom, sides, allSides, outline, lastOf, closed, endCurrent, rectangle}
 use Rattle.hpgl.specs.Related.{Sound, edgesFrom, joined, edgesAfter, edgesOf, allEdges, polygonEdges, Open, none, some, Linked, PageSegment, turnedEdges, onPage}
 
 -- "the location is that, rounded"
@@ -219,14 +219,14 @@ unfolding turnedEdges
 turned-append t [] ys = refl
 turned-append t (x ∷ xs) ys = rw (turned-append t xs ys) refl
 
-page-append : (xs ys : List Segment) → onPage (xs ++ ys) ≡ onPage xs ++ onPage ys
+page-append : (xs ys : List ExactSegment) → onPage (xs ++ ys) ≡ onPage xs ++ onPage ys
 unfolding onPage
 page-append [] ys = refl
 page-append (x ∷ xs) ys = rw (page-append xs ys) refl
 
 module _ (c : Core) where
   turned-from : (p : PolygonPoint) (ps : Subpolygon) → turnedEdges (c .settings .turn) (edgesAfter p ps) ≡ onPage (sidesFrom c p ps)
-  unfolding turnedEdges edgesAfter onPage sidesFrom segment
+  unfolding turnedEdges edgesAfter onPage sidesFrom exactSegment
   turned-from p [] = refl
   turned-from p (q ∷ ps) = rw (turned-from q ps) refl
 

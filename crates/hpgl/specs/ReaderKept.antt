@@ -10,9 +10,9 @@ use Rattle.reader.specs.declared.Event.{Event}
 use Rattle.reader.specs.declared.Event.the-variants.{Nothing, Named, Pair, Ended, Refused}
 use Rattle.reader.specs.declared.Reader.{Reader}
 use Rattle.reader.specs.Step.{stepOf}
-use Rattle.reader.specs.Sizes.{isCause, Caused, Sound, Readable}
+use Rattle.reader.specs.Sizes.{isCause, Caused, Sized, Readable}
 use Rattle.reader.specs.Laws.{cause-law, step-law, passed-over-law}
-use Rattle.reader.specs.InsideLaws.{Told, step-tells}
+use Rattle.reader.specs.InsideLaws.{Leads, step-tells}
 use Rattle.hpgl.specs.declared.Core.{Core}
 use Rattle.hpgl.specs.declared.State.{State}
 use Rattle.hpgl.specs.Machine.{readerAfter, acted}
@@ -28,7 +28,7 @@ cause-small n t = go (leb 1 n) (leb n 3) refl t
     go true false e t = absurd t
     go false b e t = absurd t
 
-event-valid : (c : Core) (r s : Reader) (e : Event) → Sound e → Caused e → Told r s e → Knows c r → ValidEvent c e
+event-valid : (c : Core) (r s : Reader) (e : Event) → Sized e → Caused e → Leads r s e → Knows c r → ValidEvent c e
 event-valid c r s Nothing h k t w = tt
 event-valid c r s (Named op) h k t w = h
 event-valid c r s (Pair p) h k t w = h

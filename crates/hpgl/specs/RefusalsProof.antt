@@ -7,7 +7,7 @@ use native.Mathlib.Omega.{arith}
 use borrow.Author.Tests.{eqb-true, eqb-false, leb-true, leb-false}
 use lib.Dec.{leb, eqb}
 use lib.IntN.{ℤ, pos, negℤ, natAbs, _+ℤ_, _-ℤ_, _*ℤ_}
-use Rattle.exact.specs.Whole.{_≤ᶻ_, _<ᶻ_, is, Z, ord, pick, _<?_, _≤?_, _≡?_, <?-true, <?-false, ≤?-true, ≤?-false, ≡?-true, ≡?-false}
+use Rattle.exact.specs.Whole.{_≤ᶻ_, _<ᶻ_, is, Z, ord, _<?_, _≤?_, _≡?_, <?-true, <?-false, ≤?-true, ≤?-false, ≡?-true, ≡?-false}
 use Rattle.exact.specs.Divide.{nearestDiv}
 use Rattle.exact.specs.Nearest.{nearest-law, nearest-only}
 use Rattle.clip.specs.declared.Point.{Point}
@@ -91,7 +91,7 @@ reach-tells : (z : ℤ) → Tells (inRangeOf z) (Between (negℤ (pos 1000000)) 
 unfolding inRangeOf
 reach-tells z = go (z <? negℤ (pos 1000000)) (pos 1000000 <? z) refl refl
   where
-    go : (s t : Bool) → (z <? negℤ (pos 1000000)) ≡ s → (pos 1000000 <? z) ≡ t → Tells (pick s false (pick t false true)) (Between (negℤ (pos 1000000)) z (pos 1000000))
+    go : (s t : Bool) → (z <? negℤ (pos 1000000)) ≡ s → (pos 1000000 <? z) ≡ t → Tells (cond s false (cond t false true)) (Between (negℤ (pos 1000000)) z (pos 1000000))
     go true t e f = record { yes = λ k. absurd (true≢false (sym k)); no = λ k h. omega (arith, ord, <?-true z (negℤ (pos 1000000)) e, h .0) }
     go false true e f = record { yes = λ k. absurd (true≢false (sym k)); no = λ k h. omega (arith, ord, <?-true (pos 1000000) z f, h .1) }
     go false false e f = record { yes = λ k. (<?-false z (negℤ (pos 1000000)) e, <?-false (pos 1000000) z f); no = λ k h. true≢false k }

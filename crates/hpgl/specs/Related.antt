@@ -25,7 +25,7 @@ use Rattle.hpgl.specs.Numbers.{modeBytes, pointBytes, mostEdges}
 use Rattle.hpgl.specs.Place.{axisX, axisY, exactPosition}
 use Rattle.hpgl.specs.Machine.{noEdge, vertex}
 use Rattle.hpgl.specs.Valid.{Knows}
-use Rattle.hpgl.specs.ExactModel.{PolygonPoint, Subpolygon, ExactPolygon, Segment, lastOf}
+use Rattle.hpgl.specs.ExactModel.{PolygonPoint, Subpolygon, ExactPolygon, ExactSegment, lastOf}
 
 -- ---- the core
 
@@ -101,24 +101,24 @@ view s es (Edges i n) = turnedEdges (s .turn) (edgesFrom es i n)
 
 -- ---- the queue
 
-unfoldable pub onPage : List Segment → List PageSegment
+unfoldable pub onPage : List ExactSegment → List PageSegment
 onPage [] = []
 onPage (g ∷ gs) = record { start = g .start; end = g .end; shown = g .owed } ∷ onPage gs
 
 -- located within a half of the exact ends, with the pen in hand
-pub record Located (pen : ℕ) (g : Segment) : Type 0 where
+pub record Located (pen : ℕ) (g : ExactSegment) : Type 0 where
   pub number : g .pen ≡ pen
   pub from : RoundsTo (g .from) (g .start)
   pub to : RoundsTo (g .to) (g .end)
 
-pub data AllLocated (pen : ℕ) : List Segment → Type 0 where
+pub data AllLocated (pen : ℕ) : List ExactSegment → Type 0 where
   none : AllLocated pen []
-  more : {g : Segment} {gs : List Segment} → Located pen g → AllLocated pen gs → AllLocated pen (g ∷ gs)
+  more : {g : ExactSegment} {gs : List ExactSegment} → Located pen g → AllLocated pen gs → AllLocated pen (g ∷ gs)
 
 -- ---- the whole
 
 -- a machine, and the polygon and queue of the model with the same reader and core
-pub record Related (m : State) (g : ExactPolygon) (q : List Segment) : Type 0 where
+pub record Related (m : State) (g : ExactPolygon) (q : List ExactSegment) : Type 0 where
   pub fit : Fit (m .core .settings) (m .core .carriage .polygon)
   pub linked : Linked (m .core .settings) (m .core .carriage .position) (m .core .carriage .polygon) (m .store .edges) g
   pub knows : Knows (m .core) (m .reader)

@@ -5,6 +5,7 @@ use mathlib.Core.Bool.{Bool, true, false, cond, not, _&&_, _||_}
 use lib.Dec.{leb, eqb}
 use lib.IntN.{ℤ, pos, negsuc, negℤ, natAbs, _+ℤ_, _-ℤ_}
 use Rattle.exact.specs.Whole.{_≡?_, _≤?_}
+unfoldable pub use Rattle.exact.specs.Int16.{int16}
 use Rattle.exact.specs.Divide.{nearestDiv}
 use Rattle.clip.specs.declared.Point.{Point}
 use Rattle.clip.specs.declared.Rect.{Rect}
@@ -132,9 +133,6 @@ dfRule c =
     Keep
 
 -- "P1 and P2 must be within −32768 to 32767 and differ in x and in y"
-unfoldable pub int16 : ℤ → Bool
-int16 z = (negℤ (pos 32768) ≤? z) && (z ≤? pos 32767)
-
 unfoldable pub goodCorners : Point → Point → Bool
 goodCorners p q =
     int16 (p .x) && int16 (p .y) && int16 (q .x) && int16 (q .y) && not (p .x ≡? q .x) && not (p .y ≡? q .y)

@@ -15,16 +15,16 @@ use Rattle.plane.specs.Turn.{turnCount}
 use Rattle.plane.specs.BoxLaws.{turned-rounds}
 use Rattle.hpgl.specs.Cases.{pick}
 use Rattle.hpgl.specs.declared.Core.{Core}
-use Rattle.hpgl.specs.ExactModel.{PolygonPoint, Subpolygon, ExactPolygon, Segment, segment, sidesFrom, sides, allSides, outline, chords, inkedOnly, move, instructed, added}
+use Rattle.hpgl.specs.ExactModel.{PolygonPoint, Subpolygon, ExactPolygon, ExactSegment, exactSegment, sidesFrom, sides, allSides, outline, chords, inkedOnly, move, instructed, added}
 use Rattle.hpgl.specs.Related.{Located, AllLocated, none, more}
 use Rattle.hpgl.specs.Steps.{addedBy}
 
 module _ (d : Core) (t : d .settings .turn < turnCount) where
-  abbrev All : List Segment → Type 0
+  abbrev All : List ExactSegment → Type 0
   All gs = AllLocated (d .carriage .pen .number) gs
 
-  located-segment : (e f : Exact) (owed : Bool) → Located (d .carriage .pen .number) (segment d e f owed)
-  unfolding segment
+  located-segment : (e f : Exact) (owed : Bool) → Located (d .carriage .pen .number) (exactSegment d e f owed)
+  unfolding exactSegment
   located-segment e f owed = record {
     number = refl;
     from = turned-rounds e (nearest e) (d .settings .turn) t (nearest-rounds e);
@@ -41,7 +41,7 @@ module _ (d : Core) (t : d .settings .turn < turnCount) where
   located-sides [] = none
   located-sides (p ∷ ps) = located-from p ps
 
-  located-append : {xs ys : List Segment} → All xs → All ys → All (xs ++ ys)
+  located-append : {xs ys : List ExactSegment} → All xs → All ys → All (xs ++ ys)
   located-append none k = k
   located-append (more l h) k = more l (located-append h k)
 
@@ -59,7 +59,7 @@ module _ (d : Core) (t : d .settings .turn < turnCount) where
   located-chords r a i zero = none
   located-chords r a i (suc n) = more (located-segment _ _ true) (located-chords r a (i + 1) n)
 
-  located-inked : {xs : List Segment} → All xs → All (inkedOnly d xs)
+  located-inked : {xs : List ExactSegment} → All xs → All (inkedOnly d xs)
   unfolding inkedOnly
   located-inked h = pick All (eqb (d .carriage .pen .number) 0) none h
 

@@ -6,8 +6,9 @@ use Prim.Native.Nat.{ℕ, _≤_, _<_}
 use native.Mathlib.Omega.{arith}
 use lib.Dec.{eqb}
 use lib.IntN.{ℤ, pos, natAbs}
-use Rattle.exact.specs.Whole.{_≤?_, _≤ᶻ_, _≡?_, ≤?-true, ≡?-false, ord}
-use Rattle.exact.specs.Fit.{Bd, abs, bd-lit}
+use Rattle.exact.specs.Whole.{_≤?_, _≡?_, ≡?-false}
+use Rattle.exact.specs.Int16.{int16-size}
+use Rattle.exact.specs.Fit.{Bd, bd-lit}
 use Rattle.clip.specs.declared.Point.{Point}
 use Rattle.clip.specs.declared.Rect.{Rect}
 use Rattle.clip.specs.Reach.{SmallRect}
@@ -121,11 +122,7 @@ module _ {s : Settings} (w : ValidSettings s) where
 -- ---- what the tests say
 
 pub int16-short : (z : ℤ) → int16 z ≡ true → Bd z mostPoint
-unfolding int16
-int16-short z e = let b = bounds _ _ z e in record { bd = omega (arith, ord, abs z, b .0, b .1) }
-  where
-    bounds : (lo hi z : ℤ) → (lo ≤? z) && (z ≤? hi) ≡ true → (lo ≤ᶻ z) × (z ≤ᶻ hi)
-    bounds lo hi z e = let b = and-both (lo ≤? z) (z ≤? hi) e in (≤?-true lo z (b .0), ≤?-true z hi (b .1))
+int16-short z e = int16-size z e
 
 not-false : (t : Bool) → not t ≡ true → t ≡ false
 not-false true e = sym e

@@ -41,7 +41,7 @@ use Rattle.hpgl.specs.Place.{point, rounded, axisX, axisY, exactPosition
 use Rattle.hpgl.specs.Change.{withPosition, withPen, withPolygon, withSettings, withCarriage, withCorners, withScale, withTurn, withWindow}
 use Rattle.hpgl.specs.Rules.{done, refuse, unscaled, noWindow, freshSettings, noPolygon, freshCarriage, letters, nameRule, rebased, inRule, dfRule, goodCorners, setCorners, ipRule, scRule, setTurn, roRule, setWindow, iwRule, setPen, spRule, inked, spent, moveTo, pointCost, longer, edgeTo, storePoint, aimed, goTo, pairRule, begun, pm0, differ, closes, endedWith, ended, pm1In, pm1, leave, pm2In, pm2, pmRule, epRule, rectangular, rectangleTo, firstTwo, eaRule, erRule, circleFits, circle, circleWith, chordAngle, ciRule, endRule, actOn}
 use Rattle.hpgl.specs.Machine.{vertex, rectangleEdges, stored, queued}
-use Rattle.hpgl.specs.ExactModel.{ExactPolygon, Segment, segment, outline, vertexAt, chords, lastOf, rectangle, polygonMode, afterEnd, polygonAfter, inkedOnly, move, instructed, added}
+use Rattle.hpgl.specs.ExactModel.{ExactPolygon, ExactSegment, exactSegment, outline, vertexAt, chords, lastOf, rectangle, polygonMode, afterEnd, polygonAfter, inkedOnly, move, instructed, added}
 use Rattle.hpgl.specs.Related.{Sound, Fit, edgesFrom, edgesOf, edgesAfter, allEdges, polygonEdges, some, Linked, turnedEdges, chordsFrom, view, onPage}
 use Rattle.hpgl.specs.PolygonLinked.{location-nearest, grown, ended-closed, ended-open, rectangle-linked, turned-outline}
 
@@ -51,12 +51,12 @@ unfoldable pub polygonBy : Core → Core → Event → ℕ → ExactPolygon → 
 polygonBy c d e zero g = polygonAfter c d e g
 polygonBy c d e (suc k) g = g
 
-unfoldable pub addedBy : Core → Core → Event → ℕ → ExactPolygon → List Segment
+unfoldable pub addedBy : Core → Core → Event → ℕ → ExactPolygon → List ExactSegment
 addedBy c d e zero g = added c d e (polygonAfter c d e g)
 addedBy c d e (suc k) g = []
 
 -- From the core c to d, by an action: the core is fit, the store is that of the polygon g, and what waits is gs.
-pub record Matched (c d : Core) (a : Action) (es : List Edge) (g : ExactPolygon) (gs : List Segment) : Type 0 where
+pub record Matched (c d : Core) (a : Action) (es : List Edge) (g : ExactPolygon) (gs : List ExactSegment) : Type 0 where
   pub fit : Fit (d .settings) (d .carriage .polygon)
   pub linked : Linked (d .settings) (d .carriage .position) (d .carriage .polygon) (stored es (c .carriage .polygon .edges) a) g
   pub queue : view (d .settings) (stored es (c .carriage .polygon .edges) a) (queued (d .carriage .polygon .edges) a) ≡ onPage gs
@@ -113,12 +113,12 @@ sound-window s k w = record { x = w .x; y = w .y; turn = w .turn }
 -- ---- cases
 
 -- "Pen 0 queues nothing": z is whether the pen is 0
-by-ink : (P : Action → List Segment → Type 0) (z : Bool) (a : Action) (gs : List Segment) → P a gs → P Keep [] → P (cond (not z) a Keep) (cond z [] gs)
+by-ink : (P : Action → List ExactSegment → Type 0) (z : Bool) (a : Action) (gs : List ExactSegment) → P a gs → P Keep [] → P (cond (not z) a Keep) (cond z [] gs)
 by-ink P true a gs h k = k
 by-ink P false a gs h k = h
 
 -- "With pen down and pen not 0": b is the action a, or none
-by-pen : (P : Action → List Segment → Type 0) (down z : Bool) {a b : Action} {gs : List Segment} → b ≡ cond (down && not z) a Keep → P a gs → P Keep [] →
+by-pen : (P : Action → List ExactSegment → Type 0) (down z : Bool) {a b : Action} {gs : List ExactSegment} → b ≡ cond (down && not z) a Keep → P a gs → P Keep [] →
     P b (cond down (cond z [] gs) [])
 by-pen P down z {a} {b} {gs} e h k = rw e (go down)
   where
@@ -127,7 +127,7 @@ by-pen P down z {a} {b} {gs} e h k = rw e (go down)
     go false = k
 
 -- the edges that wait, drawn or not
-drawn-edges : (s : Settings) (es : List Edge) (n : ℕ) (gs : List Segment) (z : Bool) → turnedEdges (s .turn) (edgesFrom es 0 n) ≡ onPage gs →
+drawn-edges : (s : Settings) (es : List Edge) (n : ℕ) (gs : List ExactSegment) (z : Bool) → turnedEdges (s .turn) (edgesFrom es 0 n) ≡ onPage gs →
     view s es (cond (not z) (work.Edges 0 n) work.Nothing) ≡ onPage (cond z [] gs)
 unfolding view onPage
 drawn-edges s es n gs true h = refl
@@ -275,23 +275,23 @@ module _ (c : Core) (es : List Edge) (g : ExactPolygon) (f : Fit (c .settings) (
 
   -- ---- pairs
 
-  recast : {d : Core} {a : Action} {x y : ExactPolygon} {u v : List Segment} → x ≡ y → u ≡ v → Matched c d a es y v → Matched c d a es x u
+  recast : {d : Core} {a : Action} {x y : ExactPolygon} {u v : List ExactSegment} → x ≡ y → u ≡ v → Matched c d a es y v → Matched c d a es x u
   recast p q h = rw (p, q) h
 
   keeps-move : (n : Coordinates) (p : Position) → c .carriage .polygon .mode ≡ false → Keeps c es g (Pair n) (moveTo c p)
-  unfolding moveTo done inked pagePoint polygonBy addedBy polygonAfter added move inkedOnly segment stored queued view onPage
+  unfolding moveTo done inked pagePoint polygonBy addedBy polygonAfter added move inkedOnly exactSegment stored queued view onPage
   keeps-move n p o =
       let s : Settings = c .settings in
       let d : Core = withCarriage c (withPosition (withPen (c .carriage) (spent (c .carriage .pen))) p) in
       let down : Bool = c .carriage .pen .down in
       let z : Bool = eqb (c .carriage .pen .number) 0 in
-      let line : Segment = segment d (exactPosition s (c .carriage .position)) (exactPosition s p) true in
+      let line : ExactSegment = exactSegment d (exactPosition s (c .carriage .position)) (exactPosition s p) true in
       let adds : added c d (Pair n) (polygonAfter c d (Pair n) g) ≡ cond down (cond z [] (line ∷ [])) [] = cond-false _ _ _ o in
       let acts : moveTo c p .action ≡ cond (down && not z) (Line (pagePoint s (c .carriage .position)) (pagePoint s p)) Keep = refl in
       let moved : Linked s p (c .carriage .polygon) es g = record { size = l .size; edges = l .edges; current = λ h. never o h } in
       record {
         kept = recast (cond-false _ _ _ o) adds
-            (by-pen (λ (a : Action) (gs : List Segment). Matched c d a es g gs) down z acts
+            (by-pen (λ (a : Action) (gs : List ExactSegment). Matched c d a es g gs) down z acts
             (record {
               fit = f;
               linked = moved;
@@ -415,7 +415,7 @@ module _ (c : Core) (es : List Edge) (g : ExactPolygon) (f : Fit (c .settings) (
   keeps-ep : (n : Numbers) → Keeps c es g (Ended EP n) (epRule c)
   unfolding epRule done inked polygonBy addedBy polygonAfter afterEnd added instructed inkedOnly stored queued view onPage
   keeps-ep n = record {
-    kept = by-ink (λ (a : Action) (gs : List Segment). Matched c c a es g gs) (eqb (c .carriage .pen .number) 0) Outline (outline c g)
+    kept = by-ink (λ (a : Action) (gs : List ExactSegment). Matched c c a es g gs) (eqb (c .carriage .pen .number) 0) Outline (outline c g)
         (record { fit = f; linked = l; queue = ap (turnedEdges (c .settings .turn)) (l .edges) ∙ turned-outline c g })
         (record { fit = f; linked = l; queue = refl });
   }
@@ -463,7 +463,7 @@ module _ (c : Core) (es : List Edge) (g : ExactPolygon) (f : Fit (c .settings) (
       ∙ (λ j. point (vertex-nearest (axisX s) (p .x) (w .u) (f .sound .x) j) (vertex-nearest (axisY s) (p .y) (w .v) (f .sound .y) j)))
 
   same-chords : (r : ℤ) (a i n : ℕ) → chordsFrom (c .settings) (circle c r a) i n ≡ onPage (chords c r a i n)
-  unfolding chordsFrom chords onPage segment
+  unfolding chordsFrom chords onPage exactSegment
   same-chords r a i zero = refl
   same-chords r a i (suc n) = λ j. record { start = same-vertex r a i j; end = same-vertex r a (i + 1) j; shown = true } ∷ same-chords r a (i + 1) n j
 
@@ -474,7 +474,7 @@ module _ (c : Core) (es : List Edge) (g : ExactPolygon) (f : Fit (c .settings) (
       both ((pos leastAngle ≤? a) && (a ≤? pos mostAngle))
       (both (circleFits c (n .first))
       (record {
-        kept = by-ink (λ (x : Action) (gs : List Segment). Matched c c x es g gs) (eqb (c .carriage .pen .number) 0) (Chords (circle c (n .first) (natAbs a)))
+        kept = by-ink (λ (x : Action) (gs : List ExactSegment). Matched c c x es g gs) (eqb (c .carriage .pen .number) 0) (Chords (circle c (n .first) (natAbs a)))
             (chords c (n .first) (natAbs a) 0 (chordsOf (natAbs a)))
             (record { fit = f; linked = l; queue = same-chords (n .first) (natAbs a) 0 (chordsOf (natAbs a)) })
             (record { fit = f; linked = l; queue = refl });

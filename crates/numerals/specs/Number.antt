@@ -11,7 +11,7 @@ use Rattle.numerals.specs.declared.number.Value.the-variants.{Good, Bad}
 abbrev pub places : ℕ
 places = 4
 
--- "Range −32768.0000 to 32767.9999": the largest magnitudes above and below zero.
+-- "Range −32768.0000 to 32767.9999": the largest magnitudes above and below zero. `in-range` (NumeralLaws.antt) ties them to the numbers of 16 bits.
 abbrev pub top : ℕ
 top = 327679999
 

@@ -4,8 +4,9 @@ use Prim.Native.Nat.{ℕ, zero, suc, _+_, _*_, _<_}
 use Prim.Native.Char.{code}
 use mathlib.Core.Bool.{Bool, true, false, cond, _&&_}
 use mathlib.Core.List.{List, [], _∷_, _++_}
-use lib.IntN.{ℤ, pos, negℤ}
+use lib.IntN.{ℤ, pos, negℤ, _+ℤ_, _*ℤ_}
 use lib.Signed.{leZ}
+use Rattle.exact.specs.Int16.{least16, most16}
 use Rattle.numerals.specs.declared.number.Value.{Value}
 use Rattle.numerals.specs.declared.number.Value.the-variants.{Good, Bad}
 
@@ -76,9 +77,9 @@ abbrev pub some : List ℕ → Bool
 some [] = false
 some (d ∷ ds) = true
 
--- "Range −32768.0000 to 32767.9999."
+-- "Range −32768.0000 to 32767.9999": the numbers of 16 bits, with decimals.
 abbrev pub inRange : ℤ → Bool
-inRange v = leZ (negℤ (pos 327680000)) v && leZ v (pos 327679999)
+inRange v = leZ (least16 *ℤ pos 10000) v && leZ v (most16 *ℤ pos 10000 +ℤ pos 9999)
 
 unfoldable pub valueOf : Numeral → Value
 valueOf n =

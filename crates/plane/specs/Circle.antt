@@ -3,7 +3,7 @@ use mathlib.Core.Bool.{cond}
 use Prim.Native.Nat.{ℕ, _+_, _-_, _*_, _/_}
 use lib.Dec.{ltb}
 use lib.IntN.{ℤ, pos, negℤ, _+ℤ_, _-ℤ_, _*ℤ_}
-use Rattle.exact.specs.Whole.{pick, _<?_}
+use Rattle.exact.specs.Whole.{_<?_}
 use Rattle.exact.specs.Divide.{floorDiv, nearestDiv}
 use Rattle.clip.specs.Line.{Frac, based}
 use Rattle.clip.specs.declared.Point.{Point}
@@ -50,7 +50,7 @@ splitOf B n d w = record { base = B +ℤ floorDiv n w; part = n -ℤ floorDiv n 
 -- the centre on an axis, with the width's sign moved to the span
 unfoldable pub centreOf : Axis → ExactPosition → Centre
 centreOf a p =
-    pick (a .width <? pos 0) (splitOf (p .base) (negℤ (p .offset *ℤ a .span)) (negℤ (a .span)) (negℤ (a .width)))
+    cond (a .width <? pos 0) (splitOf (p .base) (negℤ (p .offset *ℤ a .span)) (negℤ (a .span)) (negℤ (a .width)))
     (splitOf (p .base) (p .offset *ℤ a .span) (a .span) (a .width))
 
 -- `fromCentre (centreOf a p) t` is `vertexOf a p t` (CircleLaws.antt, `vertex-split`)

@@ -9,13 +9,13 @@ use native.Mathlib.Omega.{arith}
 use lib.Dec.{ltb}
 use borrow.Author.Tests.{ltb-true}
 use lib.IntN.{ℤ, pos, negsuc, negℤ, natAbs, _+ℤ_, _-ℤ_, _*ℤ_}
-use Rattle.exact.specs.Whole.{pick, _≤ᶻ_, _<ᶻ_, is, Z, ord, up-neg, dn-neg, _<?_, lt-<?, le-<?}
+use Rattle.exact.specs.Whole.{_≤ᶻ_, _<ᶻ_, is, Z, ord, up-neg, dn-neg, _<?_, lt-<?, le-<?}
 use Rattle.exact.specs.Laws.{mul-posᶻ, sign}
 use Rattle.exact.specs.Fit.{Bd, abs, abs-mul, bd-neg, _⊞_, _⊟_, _⊠_}
 use Rattle.exact.specs.Divide.{floorDiv, nearestDiv}
 use Rattle.exact.specs.Nearest.{nearest-neg, nearest-shift, nearest-times, nearest-mono, product-some, pos-of, neg-pos}
 use Rattle.exact.specs.Steps.{rest-size, floor-size}
-use Rattle.clip.specs.Line.{rounded, Rounds}
+use Rattle.clip.specs.Line.{nearestWhole, Rounds}
 use Rattle.clip.specs.Based.{based-nearest}
 use Rattle.clip.specs.Halves.{rounds}
 use Rattle.clip.specs.Reach.{reach, SmallPoint}
@@ -55,7 +55,7 @@ scale = omega (arith, ord)
 pub wide-some : {w : ℤ} → (w ≡ pos 0 → ⊥) → w *ℤ pos 100000 ≡ pos 0 → ⊥
 wide-some z = product-some z scale
 
-pub vertex-nearest : (a : Axis) (p : ExactPosition) (t : ℤ) → (a .width ≡ pos 0 → ⊥) → vertexOf a p t ≡ rounded (exactVertex a p t)
+pub vertex-nearest : (a : Axis) (p : ExactPosition) (t : ℤ) → (a .width ≡ pos 0 → ⊥) → vertexOf a p t ≡ nearestWhole (exactVertex a p t)
 unfolding vertexOf
 vertex-nearest a p t z = sym (based-nearest (p .base) (p .offset *ℤ pos 100000 +ℤ t) (a .span) (a .width *ℤ pos 100000) (wide-some z))
 
@@ -103,7 +103,7 @@ vertex-split a p t z = go (sign W)
     wide w = rw (is w) (simp Z (omega arith))
 
     go : (pos 0 ≤ᶻ W) ⊎ (W <ᶻ pos 0) →
-        fromCentre (pick (W <? pos 0) (splitOf (p .base) (negℤ (O *ℤ D)) (negℤ D) (negℤ W)) (splitOf (p .base) (O *ℤ D) D W)) t ≡ p .base +ℤ nearestDiv ((O *ℤ pos 100000 +ℤ t) *ℤ D) (W *ℤ pos 100000)
+        fromCentre (cond (W <? pos 0) (splitOf (p .base) (negℤ (O *ℤ D)) (negℤ D) (negℤ W)) (splitOf (p .base) (O *ℤ D) D W)) t ≡ p .base +ℤ nearestDiv ((O *ℤ pos 100000 +ℤ t) *ℤ D) (W *ℤ pos 100000)
     go (inl l) = rw (le-<? l) (split-vertex (p .base) (O *ℤ D) D W t (pos-of l z) ∙ ap (λ (x : ℤ). p .base +ℤ nearestDiv x (W *ℤ pos 100000)) (plain O D t))
     go (inr l) =
         rw (lt-<? l)
@@ -128,7 +128,7 @@ unfolding centreOf
 centre-bounds a p s t = go (sign (a .width))
   where
     go : (pos 0 ≤ᶻ a .width) ⊎ (a .width <ᶻ pos 0) →
-        CentreBounds (pick (a .width <? pos 0) (splitOf (p .base) (negℤ (p .offset *ℤ a .span)) (negℤ (a .span)) (negℤ (a .width))) (splitOf (p .base) (p .offset *ℤ a .span) (a .span) (a .width)))
+        CentreBounds (cond (a .width <? pos 0) (splitOf (p .base) (negℤ (p .offset *ℤ a .span)) (negℤ (a .span)) (negℤ (a .width))) (splitOf (p .base) (p .offset *ℤ a .span) (a .span) (a .width)))
     go (inl l) = rw (le-<? l) (split-bounds (p .base) (p .offset *ℤ a .span) (a .span) (a .width) (t .base) (t .product) (s .span) (s .width) (pos-of l (s .some)))
     go (inr l) =
         rw (lt-<? l)

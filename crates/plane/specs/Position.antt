@@ -1,8 +1,8 @@
 -- Position on one axis: "For each axis: base B (plotter units), offset O (ten-thousandths), span D, width W." x and y go by the same definitions.
 -- Definitions only: Bounds.antt says which numbers occur, PositionLaws.antt what follows.
-use mathlib.Core.Bool.{Bool, true, false}
+use mathlib.Core.Bool.{Bool, true, false, cond}
 use lib.IntN.{ℤ, pos, negℤ, _+ℤ_, _-ℤ_, _*ℤ_}
-use Rattle.exact.specs.Whole.{pick, _<?_}
+use Rattle.exact.specs.Whole.{_<?_}
 use Rattle.exact.specs.Divide.{nearestDiv}
 use Rattle.clip.specs.Line.{Frac, based}
 use Rattle.clip.specs.Reach.{reach}
@@ -33,4 +33,4 @@ locationOf a p = p .base +ℤ nearestDiv (p .offset *ℤ a .span) (a .width)
 
 -- "and must be within ±1,000,000"
 unfoldable pub inRangeOf : ℤ → Bool
-inRangeOf n = pick (n <? negℤ (pos reach)) false (pick (pos reach <? n) false true)
+inRangeOf n = cond (n <? negℤ (pos reach)) false (cond (pos reach <? n) false true)

@@ -1,17 +1,17 @@
 -- The laws of the position on an axis: its location rounds the exact position, and the bounds go round: Storable, a number more, Locatable, in range, Storable.
 use mathlib.Core.Path.{_≡_, refl, sym, ap, _∙_, subst}
 use mathlib.Core.Logic.{_⊎_, inl, inr}
-use mathlib.Core.Bool.{Bool, true, false}
+use mathlib.Core.Bool.{Bool, true, false, cond}
 use Prim.Native.Nat.{ℕ, zero, suc, _+_, _*_, _≤_, _<_}
 use native.Mathlib.Nat.{mul-le-mul-left}
 use native.Mathlib.Omega.{arith}
 use lib.IntN.{ℤ, pos, negsuc, negℤ, +ℤ-idr, natAbs, _+ℤ_, _-ℤ_, _*ℤ_}
-use Rattle.exact.specs.Whole.{pick, _≤ᶻ_, _<ᶻ_, is, Z, ord, up-neg, dn-neg, _<?_, <?-false, le-<?}
+use Rattle.exact.specs.Whole.{_≤ᶻ_, _<ᶻ_, is, Z, ord, up-neg, dn-neg, _<?_, <?-false, le-<?}
 use Rattle.exact.specs.Laws.{mul-≤, sign, add-*ℤ}
 use Rattle.exact.specs.Fit.{Bd, abs, abs-mul, abs-add, abs-neg, bd-le, lit, _⊟_, _⊠_}
 use Rattle.exact.specs.Divide.{nearestDiv}
 use Rattle.exact.specs.Nearest.{nearest-law, nearest-only, nearest-neg, pos-of, neg-pos}
-use Rattle.clip.specs.Line.{based, rounded, Rounds}
+use Rattle.clip.specs.Line.{based, nearestWhole, Rounds}
 use Rattle.clip.specs.Based.{based-nearest}
 use Rattle.clip.specs.Halves.{rounds}
 use Rattle.clip.specs.Reach.{reach}
@@ -22,7 +22,7 @@ use Rattle.plane.specs.Position.{axisOf, absoluteOf, relativeOf, exactOf
 use Rattle.plane.specs.Bounds.{mostNumber, mostPoint, mostProduct, AxisBounds, Locatable, Storable}
 
 -- ---- "the location is that, rounded"
-pub location-nearest : (a : Axis) (p : ExactPosition) → (a .width ≡ pos 0 → ⊥) → locationOf a p ≡ rounded (exactOf a p)
+pub location-nearest : (a : Axis) (p : ExactPosition) → (a .width ≡ pos 0 → ⊥) → locationOf a p ≡ nearestWhole (exactOf a p)
 unfolding locationOf
 location-nearest a p z = sym (based-nearest (p .base) (p .offset) (a .span) (a .width) z)
 
@@ -103,9 +103,9 @@ unfolding inRangeOf
 in-range n = go (n <? negℤ (pos reach)) refl (pos reach <? n) refl
   where
     no : false ≡ true → ⊥
-    no e = let z : _≡_ {A = ℕ} 0 1 = ap {B = ℕ} (λ (t : Bool). pick t 1 0) e in omega arith
+    no e = let z : _≡_ {A = ℕ} 0 1 = ap {B = ℕ} (λ (t : Bool). cond t 1 0) e in omega arith
 
-    go : (s : Bool) → (n <? negℤ (pos reach)) ≡ s → (t : Bool) → (pos reach <? n) ≡ t → pick s false (pick t false true) ≡ true → Bd n reach
+    go : (s : Bool) → (n <? negℤ (pos reach)) ≡ s → (t : Bool) → (pos reach <? n) ≡ t → cond s false (cond t false true) ≡ true → Bd n reach
     go true e t f h = absurd (no h)
     go false e true f h = absurd (no h)
     go false e false f h =

@@ -1,10 +1,11 @@
 -- The turn of the paper: "The quarter turn is a two by two table of whole numbers: point (x, y) goes to page (−y, x)."
 -- Definitions only: TurnLaws.antt and BoxLaws.antt have what follows of them.
+use mathlib.Core.Bool.{cond}
 use mathlib.Core.List.{List, [], _∷_}
 use Prim.Native.Nat.{ℕ}
 use lib.IntN.{ℤ, pos, negsuc, _+ℤ_, _*ℤ_}
 use lib.ListN.{getD}
-use Rattle.exact.specs.Whole.{pick, _<?_}
+use Rattle.exact.specs.Whole.{_<?_}
 use Rattle.clip.specs.Line.{Frac, Exact}
 use Rattle.plane.specs.Fractions.{timesF, sumF}
 use Rattle.clip.specs.declared.Point.{Point}
@@ -70,10 +71,10 @@ rebasedOf p old new = turnedBackOf (turnedOf p old) new
 -- ---- boxes
 
 unfoldable pub lesserOf : ℤ → ℤ → ℤ
-lesserOf a b = pick (b <? a) b a
+lesserOf a b = cond (b <? a) b a
 
 unfoldable pub greaterOf : ℤ → ℤ → ℤ
-greaterOf a b = pick (a <? b) b a
+greaterOf a b = cond (a <? b) b a
 
 -- "two corners .. put in order"
 unfoldable pub orderedOf : Point → Point → Rect

@@ -19,7 +19,7 @@ use Rattle.numerals.specs.Bytes.{classOf}
 use Rattle.numerals.specs.Number.{pointOf, finishOf}
 use Rattle.mnemonics.specs.Table.{findOf, countFits, takesPairs, hasRoom, isLabel}
 use Rattle.reader.specs.Sizes.{isCause, Caused}
-use Rattle.reader.specs.Reader.{unknown, count, range, storedOf, pairOf, goOnOf, quietOf, refuseOf, beginOf, openOf, withNumbers}
+use Rattle.reader.specs.Reader.{unknown, wrongCount, outOfRange, storedOf, pairOf, goOnOf, quietOf, refuseOf, beginOf, openOf, withNumbers}
 use Rattle.reader.specs.Step.{foundOf, nameOf, keptOf, judgedOf, closedOf, endOf, completeOf, afterNumberOf, closeWith, closeOf, endingOf, idleOf, firstOf, parametersOf, inNumberOf, passOverOf, labelOf, byMode, stepOf}
 use Rattle.reader.specs.Inside.{inside}
 
@@ -33,7 +33,7 @@ kept-caused : (r : Reader) (v : ℤ) → CausedEnd (keptOf r v)
 unfolding keptOf CausedEnd
 kept-caused r v = go (hasRoom (r .op) (r .numbers .count)) (takesPairs (r .op)) (eqb (r .numbers .count) 1)
   where
-    go : (x y z : Bool) → CausedEnd (cond x (cond y (cond z (Complete (pairOf (r .numbers) v)) (Kept (storedOf (r .numbers) v))) (Kept (storedOf (r .numbers) v))) (Faulty count))
+    go : (x y z : Bool) → CausedEnd (cond x (cond y (cond z (Complete (pairOf (r .numbers) v)) (Kept (storedOf (r .numbers) v))) (Kept (storedOf (r .numbers) v))) (Faulty wrongCount))
     go true true true = tt
     go true true false = tt
     go true false z = tt
@@ -52,7 +52,7 @@ module _ (r : Reader) where
   unfolding endOf refuseOf goOnOf
   end-caused m = go (countFits (r .op) (r .numbers .count))
     where
-      go : (t : Bool) → Caused (cond t (goOnOf r m (Ended (r .op) (r .numbers))) (refuseOf r m count) .event)
+      go : (t : Bool) → Caused (cond t (goOnOf r m (Ended (r .op) (r .numbers))) (refuseOf r m wrongCount) .event)
       go true = tt
       go false = tt
 
@@ -123,7 +123,7 @@ module _ (r : Reader) where
   in-number-caused (Sign s) = tt
   in-number-caused Point = go (r .number .pointed)
     where
-      go : (t : Bool) → Caused (cond t (refuseOf r PassOver range) (openOf r (pointOf (r .number))) .event)
+      go : (t : Bool) → Caused (cond t (refuseOf r PassOver outOfRange) (openOf r (pointOf (r .number))) .event)
       go true = tt
       go false = tt
   in-number-caused Other = tt

@@ -12,18 +12,18 @@ use Rattle.numerals.specs.Number.{startOf, pointOf, countedOf, digitOf, unitOf,
 use Rattle.reader.specs.Reader.{noneOf, storedOf, pairOf, freshReader, goOnOf, quietOf, refuseOf, beginOf, openOf, withNumbers}
 use Rattle.reader.specs.Step.{foundOf, nameOf, keptOf, judgedOf, closedOf, endOf, completeOf, passedMode, endingOf, afterNumberOf, closeWith, closeOf, idleOf, firstOf, parametersOf, inNumberOf, passOverOf, labelOf, byMode, stepOf}
 use Rattle.reader.specs.Inside.{inside}
-use Rattle.reader.specs.Stream.{bytes, Told, _at_, tell, tells, reads}
+use Rattle.reader.specs.Stream.{bytes, EventAt, _at_, tell, tells, reads}
 
 infix 60 _gives_
 pub data Row : Type 0 where
-  _gives_ : String → List Told → Row
+  _gives_ : String → List EventAt → Row
 
 -- What the definitions tell of the rows' texts, and what the rows say.
-abbrev pub told : List Row → List (List Told)
+abbrev pub told : List Row → List (List EventAt)
 told [] = []
 told ((s gives es) ∷ rows) = reads s ∷ told rows
 
-abbrev pub said : List Row → List (List Told)
+abbrev pub said : List Row → List (List EventAt)
 said [] = []
 said ((s gives es) ∷ rows) = es ∷ said rows
 

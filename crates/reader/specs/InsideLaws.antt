@@ -20,7 +20,7 @@ use Rattle.numerals.specs.declared.number.Number.{Number}
 use Rattle.numerals.specs.Bytes.{classOf}
 use Rattle.numerals.specs.Number.{digitOf, startOf, pointOf}
 use Rattle.mnemonics.specs.Table.{findOf, countFits, isLabel}
-use Rattle.reader.specs.Reader.{goOnOf, quietOf, refuseOf, beginOf, openOf, withNumbers, labelEnd, count}
+use Rattle.reader.specs.Reader.{goOnOf, quietOf, refuseOf, beginOf, openOf, withNumbers, labelEnd, wrongCount}
 use Rattle.reader.specs.Step.{foundOf, nameOf, endOf, completeOf, endingOf, afterNumberOf, closeWith, closedOf, closeOf, idleOf, firstOf, parametersOf, inNumberOf, passOverOf, labelOf, byMode, stepOf, passedMode, passedOver}
 use lib.Dec.{eqb}
 use Rattle.reader.specs.Inside.{inside}
@@ -36,12 +36,12 @@ pub record Ends (r s : Reader) (code : ℕ) : Type 0 where
   pub out : inside (s .mode) ≡ false
 
 -- from a reader to the next, by the event between them
-unfoldable pub Told : Reader → Reader → Event → Type 0
-Told r s Nothing = Stays r s
-Told r s (Named op) = s .op ≡ op
-Told r s (Pair p) = Stays r s
-Told r s (Ended op n) = Ends r s op
-Told r s (Refused k) = (s .op ≡ r .op) × (inside (s .mode) ≡ false)
+unfoldable pub Leads : Reader → Reader → Event → Type 0
+Leads r s Nothing = Stays r s
+Leads r s (Named op) = s .op ≡ op
+Leads r s (Pair p) = Stays r s
+Leads r s (Ended op n) = Ends r s op
+Leads r s (Refused k) = (s .op ≡ r .op) × (inside (s .mode) ≡ false)
 
 never : {X : Type 0} {t : Bool} → t ≡ false → t ≡ true → X
 never h k = absurd (false≢true (sym h ∙ k))
@@ -56,7 +56,7 @@ passed PassOver = refl
 passed Label = refl
 
 record Tells (r : Reader) (t : Step) : Type 0 where
-  told : Told r (t .reader) (t .event)
+  told : Leads r (t .reader) (t .event)
 
 module _ (r : Reader) where
   both : (t : Bool) {x y : Step} → Tells r x → Tells r y → Tells r (cond t x y)
@@ -64,11 +64,11 @@ module _ (r : Reader) where
   both false h k = k
 
   quiet : (m : Mode) → inside m ≡ false → Tells r (quietOf r m)
-  unfolding quietOf goOnOf Told
+  unfolding quietOf goOnOf Leads
   quiet m o = record { told = record { op = refl; within = λ e. never o e } }
 
   refuses : (m : Mode) (n : ℕ) → inside m ≡ false → Tells r (refuseOf r m n)
-  unfolding refuseOf goOnOf Told
+  unfolding refuseOf goOnOf Leads
   refuses m n o = record { told = (refl, o) }
 
   passes : (n : ℕ) → Tells r (refuseOf r PassOver n)
@@ -76,11 +76,11 @@ module _ (r : Reader) where
   passes n = refuses PassOver n refl
 
   opens : (n : Number) → inside (r .mode) ≡ true → Tells r (openOf r n)
-  unfolding openOf Told
+  unfolding openOf Leads
   opens n w = record { told = record { op = refl; within = λ e. w } }
 
   finds : (f : Found) → Tells r (foundOf r f)
-  unfolding foundOf beginOf Told
+  unfolding foundOf beginOf Leads
   finds (At op) = record { told = refl }
   finds Nowhere = passes _
 
@@ -89,11 +89,11 @@ module _ (r : Reader) where
   names a b = both (isLabel a b) (refuses _ _ refl) (finds (findOf a b))
 
   ends : (m : Mode) → inside (r .mode) ≡ true → inside m ≡ false → Tells r (endOf r m)
-  unfolding endOf goOnOf Told
-  ends m w o = both (countFits (r .op) (r .numbers .count)) (record { told = record { op = refl; within = w; out = o } }) (refuses m count o)
+  unfolding endOf goOnOf Leads
+  ends m w o = both (countFits (r .op) (r .numbers .count)) (record { told = record { op = refl; within = w; out = o } }) (refuses m wrongCount o)
 
   closes : (m : Mode) (k : Closed) → inside (r .mode) ≡ true → Tells r (closeWith r m k)
-  unfolding closeWith afterNumberOf completeOf quietOf endOf refuseOf goOnOf Told withNumbers
+  unfolding closeWith afterNumberOf completeOf quietOf endOf refuseOf goOnOf Leads withNumbers
   closes m (Kept ns) w = go (inside m) refl
     where
       go : (t : Bool) → inside m ≡ t → Tells r (cond t (quietOf (withNumbers r ns) m) (endOf (withNumbers r ns) m))
@@ -125,7 +125,7 @@ module _ (r : Reader) where
   first a Other = passes _
 
   parameters : (k : Class) → inside (r .mode) ≡ true → Tells r (parametersOf r k)
-  unfolding parametersOf quietOf goOnOf Told inside
+  unfolding parametersOf quietOf goOnOf Leads inside
   parameters Blank w = record { told = record { op = refl; within = λ e. w } }
   parameters Semicolon w = ends Idle w refl
   parameters (Letter l) w = ends (First l) w refl
@@ -163,7 +163,7 @@ module _ (r : Reader) where
   by-mode b PassOver e = pass-over (classOf b)
   by-mode b Label e = both (eqb b labelEnd) (quiet _ refl) (quiet _ refl)
 
-  pub step-tells : (b : ℕ) → Told r (stepOf r b .reader) (stepOf r b .event)
+  pub step-tells : (b : ℕ) → Leads r (stepOf r b .reader) (stepOf r b .event)
   unfolding stepOf
   step-tells b = by-mode b (r .mode) refl .told
 
@@ -174,7 +174,7 @@ passed-outside r = passed (r .mode)
 
 -- what the reader itself refuses has its mode already: nothing more is passed over, and the text of LB stays a text
 pub refused-passed : (r : Reader) (b k : ℕ) → stepOf r b .event ≡ Refused k → passedOver (stepOf r b .reader) ≡ stepOf r b .reader
-unfolding passedOver passedMode Told
+unfolding passedOver passedMode Leads
 refused-passed r b k e =
-    let outside : inside (stepOf r b .reader .mode) ≡ false = subst (λ (x : Event). Told r (stepOf r b .reader) x) e (step-tells r b) .1 in
+    let outside : inside (stepOf r b .reader .mode) ≡ false = subst (λ (x : Event). Leads r (stepOf r b .reader) x) e (step-tells r b) .1 in
     rw outside refl

@@ -19,12 +19,12 @@ use Rattle.numerals.specs.Numeral.{Numeral, text, Digits, decimals, some, value
 use Rattle.numerals.specs.Marks.{readNumeral}
 use Rattle.reader.specs.Stream.{reader, _telling_, Means, NoEnd}
 use Rattle.reader.specs.Written.{letters, Literal, printed, numbersFrom, lastFrom, Two, flat, pairs}
-use Rattle.reader.specs.Sizes.{Caused, Readable, SoundStep}
+use Rattle.reader.specs.Sizes.{Caused, Readable, SizedStep}
 use Rattle.numerals.specs.NumeralLaws.{numeral-value}
 use Rattle.reader.specs.TextLaws.{numeral-text, label-byte, label-end, label-whole}
 use Rattle.reader.specs.InstructionLaws.{instruction-of-numbers, instruction-of-pairs}
 use Rattle.reader.specs.CauseLaws.{step-caused}
-use Rattle.reader.specs.SizeLaws.{fresh-readable, step-sound, passed-over-readable}
+use Rattle.reader.specs.SizeLaws.{fresh-readable, step-sized, passed-over-readable}
 
 -- A number's text of any length, mark by mark, comes to the value that a person reads in it.
 pub number-law : (t : Numeral) → finishOf (readNumeral t) ≡ valueOf t
@@ -77,12 +77,12 @@ label-law = label-whole
 pub cause-law : (r : Reader) (b : ℕ) → Caused (stepOf r b .event)
 cause-law = step-caused
 
--- Sizes: fresh's reader is readable, and so is every reader after it; what a byte means is sound.
+-- Sizes: fresh's reader is readable, and so is every reader after it; what a byte means is of its size.
 pub fresh-law : Readable freshReader
 fresh-law = fresh-readable
 
-pub step-law : (r : Reader) → Readable r → (b : ℕ) → SoundStep (stepOf r b)
-step-law = step-sound
+pub step-law : (r : Reader) → Readable r → (b : ℕ) → SizedStep (stepOf r b)
+step-law = step-sized
 
 pub passed-over-law : (r : Reader) → Readable r → Readable (passedOver r)
 passed-over-law = passed-over-readable

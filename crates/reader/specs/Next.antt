@@ -64,6 +64,6 @@ unfoldable pub pairedOf : Reader → Mode → Number → Coordinates → ℕ →
 pairedOf r m n p at = record { reader = record { mode = m; op = r .op; numbers = noneOf; number = n }; event = Pair p; at = at }
 
 -- What is told of bytes ahead: a pair is what they come to; where none is known yet, they may come to anything.
-unfoldable pub Told : Reader → List ℕ → ℕ → Ahead → Type 0
-Told r bs at (ahead.Pair q) = q ≡ nextOf r bs at
-Told r bs at ahead.Unknown = Unit {0}
+unfoldable pub ReadAhead : Reader → List ℕ → ℕ → Ahead → Type 0
+ReadAhead r bs at (ahead.Pair q) = q ≡ nextOf r bs at
+ReadAhead r bs at ahead.Unknown = Unit {0}

@@ -14,7 +14,7 @@ use Rattle.reader.specs.declared.Next.{Next}
 use Rattle.reader.specs.Step.{stepOf}
 use Rattle.reader.specs.Stream.{_telling_, Means, done, quiet}
 use Rattle.reader.specs.Sizes.{Readable}
-use Rattle.reader.specs.SizeLaws.{step-sound}
+use Rattle.reader.specs.SizeLaws.{step-sized}
 use Rattle.reader.specs.Next.{isNothing, placed, nextOf}
 
 -- ---- one byte
@@ -86,7 +86,7 @@ module _ (r : Reader) (s : List ℕ) (from : ℕ) where
 pub next-readable : (r : Reader) (bs : List ℕ) (at : ℕ) → Readable r → Readable (nextOf r bs at .reader)
 next-readable r [] at h = rw (next-end r at) h
 next-readable r (b ∷ bs) at h =
-    let k = step-sound r h b .reader in
+    let k = step-sized r h b .reader in
     by-byte r b bs at (λ q. Readable (q .reader)) (λ e. next-readable (stepOf r b .reader) bs (at + 1) k) (λ e. k)
 
 -- where the event is Nothing, every byte was read and none meant anything
@@ -121,7 +121,7 @@ next-came r [] at h = rw (next-end r at) none
     none t = absurd (true≢false t)
 next-came r (b ∷ bs) at h =
     by-byte r b bs at (λ q. isNothing (q .event) ≡ false → Came r (b ∷ bs) at q)
-    (λ e t. later e (next-came (stepOf r b .reader) bs (at + 1) (step-sound r h b .reader) t))
+    (λ e t. later e (next-came (stepOf r b .reader) bs (at + 1) (step-sized r h b .reader) t))
     (λ e t. record { before = []; byte = b; rest = bs; last = r; split = refl; quiet = done; readable = h; step = refl; place = omega arith })
   where
     later : {q : Next} → isNothing (stepOf r b .event) ≡ true → Came (stepOf r b .reader) bs (at + 1) q → Came r (b ∷ bs) at q

@@ -15,16 +15,16 @@ use Rattle.reader.specs.declared.Step.{Step}
 use Rattle.numerals.specs.Number.{startOf}
 use Rattle.mnemonics.specs.Table.{IN}
 
--- The causes of a refusal that the reader finds: unknown byte or name, or number with no instruction; count of numbers;
--- number out of range.
+-- The causes of a refusal that the reader finds, by "Causes and numbers": unknown byte or name, number with no instruction; count of numbers;
+-- number out of range. The rules of the machine refuse with the first and the last too.
 abbrev pub unknown : ℕ
 unknown = 1
 
-abbrev pub count : ℕ
-count = 2
+abbrev pub wrongCount : ℕ
+wrongCount = 2
 
-abbrev pub range : ℕ
-range = 3
+abbrev pub outOfRange : ℕ
+outOfRange = 3
 
 -- The number that is returned for a byte: 0 for none.
 unfoldable pub eventNumber : Event → ℕ

@@ -27,7 +27,7 @@ use Rattle.numerals.specs.Bytes.{case, lowClassOf, classOf}
 use Rattle.reader.specs.Inside.{inside}
 use Rattle.numerals.specs.Number.{places, bottom, startOf, pointOf, countedOf, digitOf, tenThousandths, signedOf, largestOf, finishOf}
 use Rattle.mnemonics.specs.Table.{rows, namedOf, findFrom, findOf, countFits, takesPairs, hasRoom, isLabel}
-use Rattle.reader.specs.Sizes.{Small, SmallMode, SmallNumber, Readable, SmallPair, SoundStep}
+use Rattle.reader.specs.Sizes.{Small, SmallMode, SmallNumber, Readable, SmallPair, SizedStep}
 use Rattle.numerals.specs.NumeralLaws.{largest-le}
 use Rattle.reader.specs.Reader.{noneOf, storedOf, pairOf, freshReader, goOnOf, quietOf, refuseOf, beginOf, openOf, withNumbers}
 use Rattle.reader.specs.Step.{foundOf, nameOf, keptOf, judgedOf, closedOf, endOf, completeOf, passedMode, endingOf, afterNumberOf, closeWith, closeOf, idleOf, firstOf, parametersOf, inNumberOf, passOverOf, labelOf, byMode, stepOf, passedOver}
@@ -66,56 +66,56 @@ stored-small ns v s h = go (eqb (ns .count) 0) (eqb (ns .count) 1) (eqb (ns .cou
     go false false true = record { count = lit≤ tt; first = s .first; second = s .second; third = h; fourth = s .fourth }
     go false false false = record { count = lit≤ tt; first = s .first; second = s .second; third = s .third; fourth = h }
 
-SoundClosed : Closed → Type 0
-SoundClosed (Kept ns) = Small ns
-SoundClosed (Complete p) = SmallPair p
-SoundClosed (Faulty n) = Unit {0}
+SizedClosed : Closed → Type 0
+SizedClosed (Kept ns) = Small ns
+SizedClosed (Complete p) = SmallPair p
+SizedClosed (Faulty n) = Unit {0}
 
 module _ (r : Reader) (h : Readable r) where
-  kept-sound : (v : ℤ) → Bd v bottom → SoundClosed (keptOf r v)
-  unfolding keptOf pairOf SoundClosed
-  kept-sound v b = go (hasRoom (r .op) (r .numbers .count)) (takesPairs (r .op)) (eqb (r .numbers .count) 1)
+  kept-sized : (v : ℤ) → Bd v bottom → SizedClosed (keptOf r v)
+  unfolding keptOf pairOf SizedClosed
+  kept-sized v b = go (hasRoom (r .op) (r .numbers .count)) (takesPairs (r .op)) (eqb (r .numbers .count) 1)
     where
       stored : Small (storedOf (r .numbers) v)
       stored = stored-small (r .numbers) v (h .numbers) b
 
-      go : (x y z : Bool) → SoundClosed (cond x (cond y (cond z (Complete (pairOf (r .numbers) v)) (Kept (storedOf (r .numbers) v))) (Kept (storedOf (r .numbers) v))) (Faulty 2))
+      go : (x y z : Bool) → SizedClosed (cond x (cond y (cond z (Complete (pairOf (r .numbers) v)) (Kept (storedOf (r .numbers) v))) (Kept (storedOf (r .numbers) v))) (Faulty 2))
       go true true true = record { x = h .numbers .first; y = b }
       go true true false = stored
       go true false z = stored
       go false y z = tt
 
-  closed-sound : SoundClosed (closedOf r)
-  unfolding closedOf judgedOf SmallValue SoundClosed
-  closed-sound = go (finishOf (r .number)) (finish-small (r .number))
+  closed-sized : SizedClosed (closedOf r)
+  unfolding closedOf judgedOf SmallValue SizedClosed
+  closed-sized = go (finishOf (r .number)) (finish-small (r .number))
     where
-      go : (v : Value) → SmallValue v → SoundClosed (judgedOf r v)
-      go (Good v) b = kept-sound v b
+      go : (v : Value) → SmallValue v → SizedClosed (judgedOf r v)
+      go (Good v) b = kept-sized v b
       go Bad b = tt
 
-  quiet-sound : (m : Mode) → SmallMode m → SoundStep (quietOf r m)
+  quiet-sized : (m : Mode) → SmallMode m → SizedStep (quietOf r m)
   unfolding quietOf goOnOf
-  quiet-sound m k = record { reader = record { mode = k; op = h .op; numbers = h .numbers; number = h .number }; event = tt }
+  quiet-sized m k = record { reader = record { mode = k; op = h .op; numbers = h .numbers; number = h .number }; event = tt }
 
-  refuse-sound : (m : Mode) → SmallMode m → (n : ℕ) → SoundStep (refuseOf r m n)
+  refuse-sized : (m : Mode) → SmallMode m → (n : ℕ) → SizedStep (refuseOf r m n)
   unfolding refuseOf goOnOf
-  refuse-sound m k n = record { reader = record { mode = k; op = h .op; numbers = h .numbers; number = h .number }; event = tt }
+  refuse-sized m k n = record { reader = record { mode = k; op = h .op; numbers = h .numbers; number = h .number }; event = tt }
 
-  open-sound : (n : Number) → SmallNumber n → SoundStep (openOf r n)
+  open-sized : (n : Number) → SmallNumber n → SizedStep (openOf r n)
   unfolding openOf
-  open-sound n k = record { reader = record { mode = tt; op = h .op; numbers = h .numbers; number = k }; event = tt }
+  open-sized n k = record { reader = record { mode = tt; op = h .op; numbers = h .numbers; number = k }; event = tt }
 
-  pair-sound : (m : Mode) → SmallMode m → (p : Coordinates) → SmallPair p → SoundStep (completeOf r m p)
+  pair-sized : (m : Mode) → SmallMode m → (p : Coordinates) → SmallPair p → SizedStep (completeOf r m p)
   unfolding completeOf goOnOf withNumbers
-  pair-sound m k p s = record { reader = record { mode = k; op = h .op; numbers = none-small; number = h .number }; event = s }
+  pair-sized m k p s = record { reader = record { mode = k; op = h .op; numbers = none-small; number = h .number }; event = s }
 
-end-sound : (r : Reader) → Readable r → (m : Mode) → SmallMode m → SoundStep (endOf r m)
+end-sized : (r : Reader) → Readable r → (m : Mode) → SmallMode m → SizedStep (endOf r m)
 unfolding endOf goOnOf
-end-sound r h m k = go (countFits (r .op) (r .numbers .count)) refl
+end-sized r h m k = go (countFits (r .op) (r .numbers .count)) refl
   where
-    go : (t : Bool) → countFits (r .op) (r .numbers .count) ≡ t → SoundStep (cond t (goOnOf r m (Ended (r .op) (r .numbers))) (refuseOf r m 2))
+    go : (t : Bool) → countFits (r .op) (r .numbers .count) ≡ t → SizedStep (cond t (goOnOf r m (Ended (r .op) (r .numbers))) (refuseOf r m 2))
     go true e = record { reader = record { mode = k; op = h .op; numbers = h .numbers; number = h .number }; event = record { listed = h .op; count = e; numbers = h .numbers } }
-    go false e = refuse-sound r h m k 2
+    go false e = refuse-sized r h m k 2
 
 with-readable : (r : Reader) → Readable r → (ns : Numbers) → Small ns → Readable (withNumbers r ns)
 unfolding withNumbers
@@ -130,22 +130,22 @@ passed-small InNumber h = tt
 passed-small PassOver h = tt
 passed-small Label h = tt
 
-after-number-sound : (r : Reader) → Readable r → (m : Mode) → SmallMode m → SoundStep (afterNumberOf r m)
+after-number-sized : (r : Reader) → Readable r → (m : Mode) → SmallMode m → SizedStep (afterNumberOf r m)
 unfolding afterNumberOf
-after-number-sound r h m k = go (inside m)
+after-number-sized r h m k = go (inside m)
   where
-    go : (t : Bool) → SoundStep (cond t (quietOf r m) (endOf r m))
-    go true = quiet-sound r h m k
-    go false = end-sound r h m k
+    go : (t : Bool) → SizedStep (cond t (quietOf r m) (endOf r m))
+    go true = quiet-sized r h m k
+    go false = end-sized r h m k
 
-close-sound : (r : Reader) → Readable r → (m : Mode) → SmallMode m → SoundStep (closeOf r m)
-unfolding closeOf closeWith SoundClosed
-close-sound r h m k = go (closedOf r) (closed-sound r h)
+close-sized : (r : Reader) → Readable r → (m : Mode) → SmallMode m → SizedStep (closeOf r m)
+unfolding closeOf closeWith SizedClosed
+close-sized r h m k = go (closedOf r) (closed-sized r h)
   where
-    go : (c : Closed) → SoundClosed c → SoundStep (closeWith r m c)
-    go (Kept ns) s = after-number-sound (withNumbers r ns) (with-readable r h ns s) m k
-    go (Complete p) s = pair-sound r h m k p s
-    go (Faulty n) s = refuse-sound r h (passedMode m) (passed-small m k) n
+    go : (c : Closed) → SizedClosed c → SizedStep (closeWith r m c)
+    go (Kept ns) s = after-number-sized (withNumbers r ns) (with-readable r h ns s) m k
+    go (Complete p) s = pair-sized r h m k p s
+    go (Faulty n) s = refuse-sized r h (passedMode m) (passed-small m k) n
 
 -- What is found stands in the table.
 Placed : ℕ → Found → Type 0
@@ -165,14 +165,14 @@ find-placed a b i (suc n) = go (namedOf i a b) (rest (findFrom a b (i + 1) n) (f
     go true p = omega arith
     go false p = p
 
-name-sound : (r : Reader) → Readable r → (a b : ℕ) → SoundStep (nameOf r a b)
+name-sized : (r : Reader) → Readable r → (a b : ℕ) → SizedStep (nameOf r a b)
 unfolding nameOf findOf foundOf beginOf Placed
-name-sound r h a b = go (isLabel a b) (findOf a b) (find-placed a b 0 rows)
+name-sized r h a b = go (isLabel a b) (findOf a b) (find-placed a b 0 rows)
   where
-    go : (t : Bool) (f : Found) → Placed rows f → SoundStep (cond t (refuseOf r Label 1) (foundOf r f))
-    go true f p = refuse-sound r h Label tt 1
+    go : (t : Bool) (f : Found) → Placed rows f → SizedStep (cond t (refuseOf r Label 1) (foundOf r f))
+    go true f p = refuse-sized r h Label tt 1
     go false (At op) p = record { reader = record { mode = tt; op = p; numbers = none-small; number = h .number }; event = p }
-    go false Nowhere p = refuse-sound r h PassOver tt 1
+    go false Nowhere p = refuse-sized r h PassOver tt 1
 
 -- A letter is a byte, and a digit below ten, whatever the byte.
 abbrev SmallClass : Class → Type 0
@@ -235,86 +235,86 @@ digit-small n d h k = go (leb places (n .decimals)) (ltb bottom (n .magnitude)) 
 
 -- The rows of the table.
 module _ (r : Reader) (h : Readable r) where
-  abbrev quiet : (m : Mode) → SmallMode m → SoundStep (quietOf r m)
-  quiet m k = quiet-sound r h m k
+  abbrev quiet : (m : Mode) → SmallMode m → SizedStep (quietOf r m)
+  quiet m k = quiet-sized r h m k
 
-  abbrev refuse : (m : Mode) → SmallMode m → (n : ℕ) → SoundStep (refuseOf r m n)
-  refuse m k n = refuse-sound r h m k n
+  abbrev refuse : (m : Mode) → SmallMode m → (n : ℕ) → SizedStep (refuseOf r m n)
+  refuse m k n = refuse-sized r h m k n
 
-  idle-sound : (c : Class) → SmallClass c → SoundStep (idleOf r c)
+  idle-sized : (c : Class) → SmallClass c → SizedStep (idleOf r c)
   unfolding idleOf
-  idle-sound Blank k = quiet _ tt
-  idle-sound Semicolon k = quiet _ tt
-  idle-sound (Letter l) k = quiet _ k
-  idle-sound (Digit d) k = refuse _ tt _
-  idle-sound (Sign s) k = refuse _ tt _
-  idle-sound Point k = refuse _ tt _
-  idle-sound Other k = refuse _ tt _
+  idle-sized Blank k = quiet _ tt
+  idle-sized Semicolon k = quiet _ tt
+  idle-sized (Letter l) k = quiet _ k
+  idle-sized (Digit d) k = refuse _ tt _
+  idle-sized (Sign s) k = refuse _ tt _
+  idle-sized Point k = refuse _ tt _
+  idle-sized Other k = refuse _ tt _
 
-  first-sound : (a : ℕ) (c : Class) → SmallClass c → SoundStep (firstOf r a c)
+  first-sized : (a : ℕ) (c : Class) → SmallClass c → SizedStep (firstOf r a c)
   unfolding firstOf
-  first-sound a Blank k = refuse _ tt _
-  first-sound a Semicolon k = refuse _ tt _
-  first-sound a (Letter b) k = name-sound r h a b
-  first-sound a (Digit d) k = refuse _ tt _
-  first-sound a (Sign s) k = refuse _ tt _
-  first-sound a Point k = refuse _ tt _
-  first-sound a Other k = refuse _ tt _
+  first-sized a Blank k = refuse _ tt _
+  first-sized a Semicolon k = refuse _ tt _
+  first-sized a (Letter b) k = name-sized r h a b
+  first-sized a (Digit d) k = refuse _ tt _
+  first-sized a (Sign s) k = refuse _ tt _
+  first-sized a Point k = refuse _ tt _
+  first-sized a Other k = refuse _ tt _
 
-  parameters-sound : (c : Class) → SmallClass c → SoundStep (parametersOf r c)
+  parameters-sized : (c : Class) → SmallClass c → SizedStep (parametersOf r c)
   unfolding parametersOf
-  parameters-sound Blank k = quiet _ tt
-  parameters-sound Semicolon k = end-sound r h Idle tt
-  parameters-sound (Letter l) k = end-sound r h (First l) k
-  parameters-sound (Digit d) k = open-sound r h _ (digit-small _ d (start-small false) k)
-  parameters-sound (Sign s) k = open-sound r h _ (start-small s)
-  parameters-sound Point k = open-sound r h _ (point-small _ (start-small false))
-  parameters-sound Other k = refuse _ tt _
+  parameters-sized Blank k = quiet _ tt
+  parameters-sized Semicolon k = end-sized r h Idle tt
+  parameters-sized (Letter l) k = end-sized r h (First l) k
+  parameters-sized (Digit d) k = open-sized r h _ (digit-small _ d (start-small false) k)
+  parameters-sized (Sign s) k = open-sized r h _ (start-small s)
+  parameters-sized Point k = open-sized r h _ (point-small _ (start-small false))
+  parameters-sized Other k = refuse _ tt _
 
-  in-number-sound : (c : Class) → SmallClass c → SoundStep (inNumberOf r c)
+  in-number-sized : (c : Class) → SmallClass c → SizedStep (inNumberOf r c)
   unfolding inNumberOf endingOf
-  in-number-sound Blank k = close-sound r h (endingOf Blank) tt
-  in-number-sound Semicolon k = close-sound r h (endingOf Semicolon) tt
-  in-number-sound (Letter l) k = close-sound r h (endingOf (Letter l)) k
-  in-number-sound (Digit d) k = open-sound r h _ (digit-small _ d (h .number) k)
-  in-number-sound (Sign s) k = refuse _ tt _
-  in-number-sound Point k = go (r .number .pointed)
+  in-number-sized Blank k = close-sized r h (endingOf Blank) tt
+  in-number-sized Semicolon k = close-sized r h (endingOf Semicolon) tt
+  in-number-sized (Letter l) k = close-sized r h (endingOf (Letter l)) k
+  in-number-sized (Digit d) k = open-sized r h _ (digit-small _ d (h .number) k)
+  in-number-sized (Sign s) k = refuse _ tt _
+  in-number-sized Point k = go (r .number .pointed)
     where
-      go : (t : Bool) → SoundStep (cond t (refuseOf r PassOver 3) (openOf r (pointOf (r .number))))
+      go : (t : Bool) → SizedStep (cond t (refuseOf r PassOver 3) (openOf r (pointOf (r .number))))
       go true = refuse _ tt _
-      go false = open-sound r h _ (point-small _ (h .number))
-  in-number-sound Other k = refuse _ tt _
+      go false = open-sized r h _ (point-small _ (h .number))
+  in-number-sized Other k = refuse _ tt _
 
-  pass-over-sound : (c : Class) → SmallClass c → SoundStep (passOverOf r c)
+  pass-over-sized : (c : Class) → SmallClass c → SizedStep (passOverOf r c)
   unfolding passOverOf
-  pass-over-sound Blank k = quiet _ tt
-  pass-over-sound Semicolon k = quiet _ tt
-  pass-over-sound (Letter l) k = quiet _ k
-  pass-over-sound (Digit d) k = quiet _ tt
-  pass-over-sound (Sign s) k = quiet _ tt
-  pass-over-sound Point k = quiet _ tt
-  pass-over-sound Other k = quiet _ tt
+  pass-over-sized Blank k = quiet _ tt
+  pass-over-sized Semicolon k = quiet _ tt
+  pass-over-sized (Letter l) k = quiet _ k
+  pass-over-sized (Digit d) k = quiet _ tt
+  pass-over-sized (Sign s) k = quiet _ tt
+  pass-over-sized Point k = quiet _ tt
+  pass-over-sized Other k = quiet _ tt
 
-  label-sound : (b : ℕ) → SoundStep (labelOf r b)
+  label-sized : (b : ℕ) → SizedStep (labelOf r b)
   unfolding labelOf
-  label-sound b = go (eqb b 3)
+  label-sized b = go (eqb b 3)
     where
-      go : (t : Bool) → SoundStep (cond t (quietOf r Idle) (quietOf r Label))
+      go : (t : Bool) → SizedStep (cond t (quietOf r Idle) (quietOf r Label))
       go true = quiet _ tt
       go false = quiet _ tt
 
-  -- Every byte leaves a readable reader readable, and what it means is sound.
-  pub step-sound : (b : ℕ) → SoundStep (stepOf r b)
+  -- Every byte leaves a readable reader readable, and what it means is of its size.
+  pub step-sized : (b : ℕ) → SizedStep (stepOf r b)
   unfolding stepOf byMode
-  step-sound b = go (r .mode)
+  step-sized b = go (r .mode)
     where
-      go : (m : Mode) → SoundStep (byMode r b m)
-      go Idle = idle-sound (classOf b) (class-small b)
-      go (First a) = first-sound a (classOf b) (class-small b)
-      go Parameters = parameters-sound (classOf b) (class-small b)
-      go InNumber = in-number-sound (classOf b) (class-small b)
-      go PassOver = pass-over-sound (classOf b) (class-small b)
-      go Label = label-sound b
+      go : (m : Mode) → SizedStep (byMode r b m)
+      go Idle = idle-sized (classOf b) (class-small b)
+      go (First a) = first-sized a (classOf b) (class-small b)
+      go Parameters = parameters-sized (classOf b) (class-small b)
+      go InNumber = in-number-sized (classOf b) (class-small b)
+      go PassOver = pass-over-sized (classOf b) (class-small b)
+      go Label = label-sized b
 
   pub passed-over-readable : Readable (passedOver r)
   unfolding passedOver

@@ -14,12 +14,12 @@ use Rattle.numerals.specs.declared.number.Number.{Number}
 use Rattle.reader.specs.declared.Reader.{Reader}
 use Rattle.reader.specs.declared.Step.{Step}
 use Rattle.numerals.specs.Number.{places, bottom}
-use Rattle.reader.specs.Reader.{unknown, range}
+use Rattle.reader.specs.Reader.{unknown, outOfRange}
 use Rattle.mnemonics.specs.Table.{rows, countFits}
 
 -- The reader refuses with 1, 2 or 3, and with no other number.
 abbrev pub isCause : ℕ → Bool
-isCause n = leb unknown n && leb n range
+isCause n = leb unknown n && leb n outOfRange
 
 abbrev pub Caused : Event → Type 0
 Caused Nothing = Unit {0}
@@ -68,13 +68,13 @@ pub record Fitting (op : ℕ) (ns : Numbers) : Type 0 where
   pub numbers : Small ns
 
 -- What holds of an event.
-abbrev pub Sound : Event → Type 0
-Sound Nothing = Unit {0}
-Sound (Named op) = op < rows
-Sound (Pair p) = SmallPair p
-Sound (Ended op ns) = Fitting op ns
-Sound (Refused n) = Unit {0}
+abbrev pub Sized : Event → Type 0
+Sized Nothing = Unit {0}
+Sized (Named op) = op < rows
+Sized (Pair p) = SmallPair p
+Sized (Ended op ns) = Fitting op ns
+Sized (Refused n) = Unit {0}
 
-pub record SoundStep (s : Step) : Type 0 where
+pub record SizedStep (s : Step) : Type 0 where
   pub reader : Readable (s .reader)
-  pub event : Sound (s .event)
+  pub event : Sized (s .event)

@@ -22,7 +22,7 @@ use Rattle.reader.specs.declared.Mode.{Mode}
 use Rattle.reader.specs.declared.Mode.the-variants.{Idle, First, Parameters, InNumber, PassOver, Label}
 use Rattle.reader.specs.declared.Reader.{Reader}
 use Rattle.reader.specs.declared.Step.{Step}
-use Rattle.reader.specs.Reader.{unknown, count, range, labelEnd, noneOf, storedOf, pairOf, goOnOf, quietOf, refuseOf, beginOf, openOf, withNumbers}
+use Rattle.reader.specs.Reader.{unknown, wrongCount, outOfRange, labelEnd, noneOf, storedOf, pairOf, goOnOf, quietOf, refuseOf, beginOf, openOf, withNumbers}
 use Rattle.numerals.specs.Bytes.{classOf}
 use Rattle.numerals.specs.Number.{startOf, pointOf, digitOf, finishOf}
 use Rattle.mnemonics.specs.Table.{findOf, countFits, takesPairs, hasRoom, isLabel}
@@ -43,11 +43,11 @@ keptOf r v =
     (cond (takesPairs (r .op))
     (cond (eqb (r .numbers .count) 1) (Complete (pairOf (r .numbers) v)) (Kept (storedOf (r .numbers) v)))
     (Kept (storedOf (r .numbers) v)))
-    (Faulty count)
+    (Faulty wrongCount)
 
 unfoldable pub judgedOf : Reader → Value → Closed
 judgedOf r (Good v) = keptOf r v
-judgedOf r Bad = Faulty range
+judgedOf r Bad = Faulty outOfRange
 
 unfoldable pub closedOf : Reader → Closed
 closedOf r = judgedOf r (finishOf (r .number))
@@ -55,7 +55,7 @@ closedOf r = judgedOf r (finishOf (r .number))
 -- An instruction ends, and the reader goes on in mode m.
 unfoldable pub endOf : Reader → Mode → Step
 endOf r m =
-    cond (countFits (r .op) (r .numbers .count)) (goOnOf r m (Ended (r .op) (r .numbers))) (refuseOf r m count)
+    cond (countFits (r .op) (r .numbers .count)) (goOnOf r m (Ended (r .op) (r .numbers))) (refuseOf r m wrongCount)
 
 -- A pair is complete, and no number of it is kept.
 unfoldable pub completeOf : Reader → Mode → Coordinates → Step
@@ -125,8 +125,8 @@ inNumberOf r Blank = closeOf r (endingOf Blank)
 inNumberOf r Semicolon = closeOf r (endingOf Semicolon)
 inNumberOf r (Letter l) = closeOf r (endingOf (Letter l))
 inNumberOf r (Digit d) = openOf r (digitOf (r .number) d)
-inNumberOf r (Sign s) = refuseOf r PassOver range
-inNumberOf r Point = cond (r .number .pointed) (refuseOf r PassOver range) (openOf r (pointOf (r .number)))
+inNumberOf r (Sign s) = refuseOf r PassOver outOfRange
+inNumberOf r Point = cond (r .number .pointed) (refuseOf r PassOver outOfRange) (openOf r (pointOf (r .number)))
 inNumberOf r Other = refuseOf r PassOver unknown
 
 -- "After a refusal the rest is passed over up to a semicolon or letter, which plays its usual part."

@@ -59,10 +59,10 @@ bytes (string._∷_ c s) = code c ∷ bytes s
 
 -- An event and the place of its byte, counted from 1.
 infix 80 _at_
-pub data Told : Type 0 where
-  _at_ : Event → ℕ → Told
+pub data EventAt : Type 0 where
+  _at_ : Event → ℕ → EventAt
 
-unfoldable pub tell : Event → ℕ → List Told → List Told
+unfoldable pub tell : Event → ℕ → List EventAt → List EventAt
 tell Nothing k es = es
 tell (Named op) k es = Named op at k ∷ es
 tell (Pair p) k es = Pair p at k ∷ es
@@ -70,9 +70,9 @@ tell (Ended op ns) k es = Ended op ns at k ∷ es
 tell (Refused n) k es = Refused n at k ∷ es
 
 -- The events of bytes, the first of which has the place k, but for Nothing.
-unfoldable pub tells : Reader → ℕ → List ℕ → List Told
+unfoldable pub tells : Reader → ℕ → List ℕ → List EventAt
 tells r k [] = []
 tells r k (b ∷ bs) = tell (stepOf r b .event) k (tells (stepOf r b .reader) (suc k) bs)
 
-unfoldable pub reads : string.String → List Told
+unfoldable pub reads : string.String → List EventAt
 reads s = tells freshReader 1 (bytes s)

@@ -3,7 +3,7 @@ ghost use mathlib.Core.Path.{_≡_};
 ghost use mathlib.Core.Bool.{true};
 ghost use lib.ListN.{drop};
 ghost use Rattle.reader.specs.Inside.{inside};
-ghost use Rattle.reader.specs.Next.{moreDigits, isNothing, inParameters, awaitsPair, pairedOf, Told, nextOf};
+ghost use Rattle.reader.specs.Next.{moreDigits, isNothing, inParameters, awaitsPair, pairedOf, ReadAhead, nextOf};
 ghost use Rattle.reader.specs.Reader.{noneOf, storedOf, pairOf, freshReader, goOnOf, quietOf, refuseOf, beginOf, openOf, withNumbers};
 ghost use Rattle.reader.specs.Step.{nameOf, keptOf, closedOf, endOf, completeOf, endingOf, afterNumberOf, closeOf, idleOf, firstOf, parametersOf, inNumberOf, passOverOf, labelOf, stepOf, passedMode, passedOver};
 use mnemonics::Found;
@@ -22,11 +22,11 @@ use numerals::number::Value;
 use numerals::number::number_at;
 
 // The causes of a refusal that the reader finds: an unknown byte or name, the count of numbers, a number out of range.
-const UNKNOWN: u8 = 1;
+pub const UNKNOWN: u8 = 1;
 
-const COUNT: u8 = 2;
+const WRONG_COUNT: u8 = 2;
 
-const RANGE: u8 = 3;
+pub const OUT_OF_RANGE: u8 = 3;
 
 // A label's text ends with this byte.
 const LABEL_END: u8 = 3;
@@ -304,7 +304,7 @@ impl Reader {
     // A pair as most are written, with a comma between its numbers and a comma or semicolon after it. Others are read by steps.
     fn pair_ahead(self, bytes: &[u8], from: usize) -> Ahead
         requires { ⌜ awaitsPair self ≡ true ⌝ }
-        ensures { λ r. ⌜ Told self (drop from (now (bytes .entry))) from r ⌝ }
+        ensures { λ r. ⌜ ReadAhead self (drop from (now (bytes .entry))) from r ⌝ }
     {
         let x = number_at(bytes, from);
         if !is_at(bytes, x.at, b',') {
@@ -449,10 +449,10 @@ impl Reader {
             // one call for the three: what is called at one place is built in there, and runs faster
             Class::Blank | Class::Semicolon | Class::Letter(_) => self.close(ending(class)),
             Class::Digit(digit) => self.open(number.with_digit(digit)),
-            Class::Sign(_) => self.refuse(Mode::PassOver, RANGE),
+            Class::Sign(_) => self.refuse(Mode::PassOver, OUT_OF_RANGE),
             Class::Point => {
                 if number.has_point() {
-                    return self.refuse(Mode::PassOver, RANGE);
+                    return self.refuse(Mode::PassOver, OUT_OF_RANGE);
                 }
                 self.open(number.with_point())
             }
@@ -520,7 +520,7 @@ impl Reader {
         if count_fits(op, numbers.count) {
             return self.go_on(mode, Event::Ended(op, numbers));
         }
-        self.refuse(mode, COUNT)
+        self.refuse(mode, WRONG_COUNT)
     }
 
     // What becomes of a good number: the second of a pair completes it.
@@ -539,7 +539,7 @@ impl Reader {
             }
             return Closed::Kept(numbers.stored(value));
         }
-        Closed::Faulty(COUNT)
+        Closed::Faulty(WRONG_COUNT)
     }
 
     // What becomes of the open number.
@@ -549,7 +549,7 @@ impl Reader {
         let number = self.number;
         match number.finish() {
             Value::Good(value) => self.kept(value),
-            Value::Bad => Closed::Faulty(RANGE),
+            Value::Bad => Closed::Faulty(OUT_OF_RANGE),
         }
     }
 

@@ -33,6 +33,7 @@ use basics::places::rest_at;
 use basics::places::rounded;
 use clip::Point;
 use clip::Rect;
+use exact::int16;
 use hpgl::Acted;
 use hpgl::Action;
 use hpgl::Carriage;
@@ -54,11 +55,6 @@ use plane::turn::turned_back;
 use reader::Coordinates;
 use reader::Numbers;
 use reader::Reader;
-
-// P1, P2 and the hard limits are numbers of 16 bits.
-const LEAST: i64 = -32_768;
-
-const MOST: i64 = 32_767;
 
 // The turns, by their places in the table.
 const UPRIGHT: usize = 0;
@@ -196,17 +192,7 @@ pub fn fresh_core(hard: Rect) -> Core
     }
 }
 
-// A number of 16 bits.
-fn int16(z: i64) -> bool
-    ensures { λ r. ⌜ r ≡ R.int16 z ⌝ }
-{
-    if LEAST <= z {
-        return z <= MOST;
-    }
-    false
-}
-
-// A corner of such numbers.
+// A corner of two numbers of 16 bits.
 fn short(p: Point) -> bool
     ensures { λ r. ⌜ r ≡ (R.int16 (p .x) && R.int16 (p .y)) ⌝ }
 {

@@ -10,16 +10,17 @@ use Rattle.exact.specs.Fit.{val, m64}
 use Rattle.drive.specs.declared.Place.{Place}
 use Rattle.drive.specs.declared.Move.the-variants.{Travel, Paint, Dot}
 use Rattle.drive.specs.declared.Moves.the-variants.{Two, One}
-use Rattle.drive.specs.Drive.{insideOf, endsInsideOf, spotOf, placeOf}
-use Rattle.drive.specs.Laws.{pitch-refused, end-refused, dot-answered, line-answered, Inside, ends-inside, inside-size, spot-exact}
+use Rattle.exact.specs.Int16.{int16, int16-size}
+use Rattle.drive.specs.Drive.{endsInsideOf, spotOf, placeOf}
+use Rattle.drive.specs.Laws.{pitch-refused, end-refused, dot-answered, line-answered, Inside, ends-inside, spot-exact}
 use Rattle.drive.proofs.drive.Statement.{statement}
 use Rattle.drive.proofs.drive.Tie as tie
 
 -- a number inside is what the machine reads back of it
-read : (z : ℤ) → insideOf z ≡ true → m64 z ≡ z
-read z h = val w64 (inside-size z h) tt .is
+read : (z : ℤ) → int16 z ≡ true → m64 z ≡ z
+read z h = val w64 (int16-size z h) tt .is
 
-placed : (x y : ℤ) (c : ℕ) {p : Place} → insideOf x ≡ true → insideOf y ≡ true → p ≡ placeOf (spotOf (m64 x) (m64 y) c) → p ≡ placeOf (spotOf x y c)
+placed : (x y : ℤ) (c : ℕ) {p : Place} → int16 x ≡ true → int16 y ≡ true → p ≡ placeOf (spotOf (m64 x) (m64 y) c) → p ≡ placeOf (spotOf x y c)
 placed x y c h k e = e ∙ ap₂ (λ (a b : ℤ). placeOf (spotOf a b c)) (read x h) (read y k)
 
 -- past the second test both ends are inside

@@ -8,59 +8,60 @@ use mir.Syntax.{w64}
 use mir.Val.{SFits}
 use mir.Facts.{toZ-ofZ}
 use Rattle.exact.specs.Fit.{m64}
-use Rattle.drive.specs.Drive.{insideOf, endsInsideOf}
+use Rattle.exact.specs.Int16.{int16}
+use Rattle.drive.specs.Drive.{endsInsideOf}
 use Rattle.drive.proofs.ends_inside.Statement.{statement}
 use Rattle.drive.proofs.ends_inside.Tie as tie
 
 -- what a call said of a field that it was passed by its bits
-told : (z : ℤ) (r : Bool) {b : Bool} → SFits w64 z → r ≡ insideOf (m64 z) → r ≡ b → insideOf z ≡ b
-told z r f e h = ap insideOf (sym (toZ-ofZ f)) ∙ sym e ∙ h
+told : (z : ℤ) (r : Bool) {b : Bool} → SFits w64 z → r ≡ int16 (m64 z) → r ≡ b → int16 z ≡ b
+told z r f e h = ap int16 (sym (toZ-ofZ f)) ∙ sym e ∙ h
 
-x0-inside : (c : tie.Else1) → insideOf (c .before .before .before .args .s .x0) ≡ true
-x0-inside c = let r = c .before .inside .result in told (c .before .before .before .args .s .x0) r (search needs) (c .before .inside .ensures) (not-false r (c .if1 .left))
+x0-inside : (c : tie.Else1) → int16 (c .before .before .before .args .s .x0) ≡ true
+x0-inside c = let r = c .before .int16 .result in told (c .before .before .before .args .s .x0) r (search needs) (c .before .int16 .ensures) (not-false r (c .if1 .left))
 
-y0-inside : (c : tie.Else2) → insideOf (c .before .before .before .before .before .before .args .s .y0) ≡ true
-y0-inside c = let r = c .before .inside2 .result in told (c .before .before .before .before .before .before .args .s .y0) r (search needs) (c .before .inside2 .ensures) (not-false r (c .if2 .left))
+y0-inside : (c : tie.Else2) → int16 (c .before .before .before .before .before .before .args .s .y0) ≡ true
+y0-inside c = let r = c .before .int162 .result in told (c .before .before .before .before .before .before .args .s .y0) r (search needs) (c .before .int162 .ensures) (not-false r (c .if2 .left))
 
-x1-inside : (c : tie.Else3) → insideOf (c .before .before .before .before .before .before .before .before .before .args .s .x1) ≡ true
-x1-inside c = let r = c .before .inside3 .result in told (c .before .before .before .before .before .before .before .before .before .args .s .x1) r (search needs) (c .before .inside3 .ensures) (not-false r (c .if3 .left))
+x1-inside : (c : tie.Else3) → int16 (c .before .before .before .before .before .before .before .before .before .args .s .x1) ≡ true
+x1-inside c = let r = c .before .int163 .result in told (c .before .before .before .before .before .before .before .before .before .args .s .x1) r (search needs) (c .before .int163 .ensures) (not-false r (c .if3 .left))
 
-inside-requires : tie.Need-inside-requires
-inside-requires c κs = search needs
+int16-requires : tie.Need-int16-requires
+int16-requires c κs = search needs
 
 returns : tie.Need-returns
 unfolding endsInsideOf
 returns c =
-    let r = c .before .inside .result in
-    rw (told (c .before .before .before .args .s .x0) r (search needs) (c .before .inside .ensures) (not-true r (c .if1 .taken))) (search needs)
+    let r = c .before .int16 .result in
+    rw (told (c .before .before .before .args .s .x0) r (search needs) (c .before .int16 .ensures) (not-true r (c .if1 .taken))) (search needs)
 
-inside-requires-2 : tie.Need-inside-requires-2
-inside-requires-2 c κs = search needs
+int16-requires-2 : tie.Need-int16-requires-2
+int16-requires-2 c κs = search needs
 
 returns-2 : tie.Need-returns-2
 unfolding endsInsideOf
 returns-2 c =
-    let r = c .before .inside2 .result in
-    rw (x0-inside search, told (c .before .before .before .before .before .before .args .s .y0) r (search needs) (c .before .inside2 .ensures) (not-true r (c .if2 .taken))) (search needs)
+    let r = c .before .int162 .result in
+    rw (x0-inside search, told (c .before .before .before .before .before .before .args .s .y0) r (search needs) (c .before .int162 .ensures) (not-true r (c .if2 .taken))) (search needs)
 
-inside-requires-3 : tie.Need-inside-requires-3
-inside-requires-3 c κs = search needs
+int16-requires-3 : tie.Need-int16-requires-3
+int16-requires-3 c κs = search needs
 
 returns-3 : tie.Need-returns-3
 unfolding endsInsideOf
 returns-3 c =
-    let r = c .before .inside3 .result in
-    rw (x0-inside search, y0-inside search, told (c .before .before .before .before .before .before .before .before .before .args .s .x1) r (search needs) (c .before .inside3 .ensures) (not-true r (c .if3 .taken))) (search needs)
+    let r = c .before .int163 .result in
+    rw (x0-inside search, y0-inside search, told (c .before .before .before .before .before .before .before .before .before .args .s .x1) r (search needs) (c .before .int163 .ensures) (not-true r (c .if3 .taken))) (search needs)
 
-inside-requires-4 : tie.Need-inside-requires-4
-inside-requires-4 c κs = search needs
+int16-requires-4 : tie.Need-int16-requires-4
+int16-requires-4 c κs = search needs
 
 returns-4 : tie.Need-returns-4
 unfolding endsInsideOf
 returns-4 c =
     let y1 = c .before .before .before .before .before .before .before .before .before .before .before .args .s .y1 in
     let f : SFits w64 y1 = search (needs, c .before .struct-told4 .given) in
-    rw (x0-inside search, y0-inside search, x1-inside search) (c .inside4 .ensures ∙ ap insideOf (toZ-ofZ f))
+    rw (x0-inside search, y0-inside search, x1-inside search) (c .int164 .ensures ∙ ap int16 (toZ-ofZ f))
 
 pub ends-inside-spec : {M : Type 1} → statement M
-ends-inside-spec = tie.close (tie.spec inside-requires returns inside-requires-2 returns-2 inside-requires-3 returns-3 inside-requires-4 returns-4)
+ends-inside-spec = tie.close (tie.spec int16-requires returns int16-requires-2 returns-2 int16-requires-3 returns-3 int16-requires-4 returns-4)

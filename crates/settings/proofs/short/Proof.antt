@@ -4,7 +4,7 @@ use mathlib.Core.Path.{refl, sym, ap, _∙_}
 use mir.Syntax.{w64}
 use mir.Val.{SFits}
 use Rattle.exact.specs.Fit.{arg}
-use Rattle.hpgl.specs.Rules.{int16}
+use Rattle.exact.specs.Int16.{int16}
 use Rattle.settings.proofs.short.Statement.{statement}
 use Rattle.settings.proofs.short.Tie as tie
 

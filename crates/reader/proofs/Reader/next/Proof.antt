@@ -1,7 +1,7 @@
 -- A pair ahead is what is told of it; else the steps tell.
 use mathlib.Core.Path.{sym, _∙_}
 use borrow.Author.Needs.{needs}
-use Rattle.reader.specs.Next.{Told}
+use Rattle.reader.specs.Next.{ReadAhead}
 use Rattle.reader.proofs.Reader.next.Statement.{statement}
 use Rattle.reader.proofs.Reader.next.Tie as tie
 
@@ -15,7 +15,7 @@ enum-known-q : tie.Need-enum-known-q
 enum-known-q c = search needs
 
 returns : tie.Need-returns
-unfolding Told
+unfolding ReadAhead
 returns c =
     let a : tie.After-pair-ahead = search in
     rw (c .before .q .given .1) at (a .pair-ahead .ensures)

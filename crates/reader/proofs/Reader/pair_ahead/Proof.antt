@@ -5,7 +5,7 @@ use mir.Val.{toZ, ofZ}
 use borrow.Author.Needs.{needs}
 use borrow.Author.Tests.{not-false}
 use Rattle.numerals.specs.RunLaws.{at-place}
-use Rattle.reader.specs.Next.{Told}
+use Rattle.reader.specs.Next.{ReadAhead}
 use Rattle.reader.proofs.Pairs.{pair-semicolon, pair-comma}
 use Rattle.reader.proofs.Reader.pair_ahead.Statement.{statement}
 use Rattle.reader.proofs.Reader.pair_ahead.Tie as tie
@@ -17,7 +17,7 @@ is-at-requires : tie.Need-is-at-requires
 is-at-requires c κs = search needs
 
 returns : tie.Need-returns
-unfolding Told
+unfolding ReadAhead
 returns c = tt
 
 add-number-at : tie.Need-add-number-at
@@ -38,7 +38,7 @@ enum-told : tie.Need-enum-told
 enum-told c = search needs
 
 returns-2 : tie.Need-returns-2
-unfolding Told
+unfolding ReadAhead
 returns-2 c = tt
 
 finish-requires-2 : tie.Need-finish-requires-2
@@ -51,7 +51,7 @@ enum-told-2 : tie.Need-enum-told-2
 enum-told-2 c = search needs
 
 returns-3 : tie.Need-returns-3
-unfolding Told
+unfolding ReadAhead
 returns-3 c = tt
 
 is-at-requires-2 : tie.Need-is-at-requires-2
@@ -67,7 +67,7 @@ paired-requires : tie.Need-paired-requires
 paired-requires c κs = search needs
 
 returns-4 : tie.Need-returns-4
-unfolding Told
+unfolding ReadAhead
 returns-4 c =
     let e : tie.Then2 = search in
     let u : tie.After-known-told2 = search in
@@ -100,7 +100,7 @@ paired-requires-2 : tie.Need-paired-requires-2
 paired-requires-2 c κs = search needs
 
 returns-5 : tie.Need-returns-5
-unfolding Told
+unfolding ReadAhead
 returns-5 c =
     let e : tie.Then3 = search in
     let u : tie.After-known-told2 = search in
@@ -121,7 +121,7 @@ returns-5 c =
     (sym (e .before .is-at3 .ensures) ∙ e .if3 .taken))
 
 returns-6 : tie.Need-returns-6
-unfolding Told
+unfolding ReadAhead
 returns-6 c = tt
 
 pub pair-ahead-spec : {M : Type 1} → statement M

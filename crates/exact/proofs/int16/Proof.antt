@@ -2,10 +2,10 @@
 use mathlib.Core.Path.{refl, sym}
 use lib.IntN.{pos, negsuc}
 use mir.Syntax.{w64}
 use Rattle.exact.specs.Fit.{arg, num, le?-is}
-use Rattle.hpgl.specs.Rules.{int16}
-use Rattle.settings.proofs.int16.Statement.{statement}
-use Rattle.settings.proofs.int16.Tie as tie
+use Rattle.exact.specs.Int16.{int16}
+use Rattle.exact.proofs.int16.Statement.{statement}
+use Rattle.exact.proofs.int16.Tie as tie
 
 returns : tie.Need-returns
 unfolding int16
