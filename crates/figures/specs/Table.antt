@@ -763,6 +763,16 @@ checked =
     take "IN;SP1;PA0,0;PD100,50;PD20000,50;XX;" (line 1 0 0 100 50 ∷ line 1 100 50 10000 50 ∷ refused 1 35 ∷ down 20000 50 1 0 ∷ []) ∷
     []
 
+-- ---- the table, heading by heading
+
 abbrev pub table : List Row
 table =
-    freshCalls ++ (drawCalls ++ (feedCalls ++ (names ++ (numbers ++ (passedOver ++ (counts ++ (moments ++ (positions ++ (farOff ++ (bases ++ (modes ++ (pens ++ (penNumbers ++ (resets ++ (corners ++ (scales ++ (turns ++ (windows ++ (strokes ++ (polygonModes ++ (subpolygons ++ (polygonCosts ++ (fullPolygons ++ (outlines ++ (rectangles ++ (chordAngles ++ (circles ++ (driveMoves ++ (orders ++ (checked))))))))))))))))))))))))))))))
+    freshCalls ++ drawCalls ++ feedCalls
+    ++ names ++ numbers ++ passedOver ++ counts ++ moments
+    ++ positions ++ farOff ++ bases ++ modes ++ pens ++ penNumbers ++ resets ++ corners ++ scales ++ turns ++ windows
+    ++ strokes
+    ++ polygonModes ++ subpolygons ++ polygonCosts ++ fullPolygons ++ outlines ++ rectangles
+    ++ chordAngles ++ circles
+    ++ driveMoves
+    ++ orders
+    ++ checked
