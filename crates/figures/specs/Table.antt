@@ -193,6 +193,12 @@ passedOver =
     stops "PA40000 1,2,3,4PU7,8;" 3 8 (up 7 8 0 0) ∷
     stops "PA40000;PU7,8;" 3 8 (up 7 8 0 0) ∷
     stops "PA40000PU7,8;" 3 8 (up 7 8 0 0) ∷
+    take "P;5;" (refused 1 2 ∷ refused 1 3 ∷ up 0 0 0 0 ∷ []) ∷
+    take "XX;5;" (refused 1 2 ∷ refused 1 4 ∷ up 0 0 0 0 ∷ []) ∷
+    take "PA40000;5;" (refused 3 8 ∷ refused 1 9 ∷ up 0 0 0 0 ∷ []) ∷
+    take "PU1;5;" (refused 2 4 ∷ refused 1 5 ∷ up 0 0 0 0 ∷ []) ∷
+    take "SP9;5;" (refused 3 4 ∷ refused 1 5 ∷ up 0 0 0 0 ∷ []) ∷
+    stops "PA1,2 @3,4;" 1 7 (up 1 2 0 0) ∷
     take "XPU7,8;" (refused 1 2 ∷ refused 1 4 ∷ up 0 0 0 0 ∷ []) ∷
     stops "XX1,2,@PU7,8;" 1 2 (up 7 8 0 0) ∷
     take "LBPD5,5;\u{3}5;" (refused 1 2 ∷ refused 1 10 ∷ up 0 0 0 0 ∷ []) ∷
@@ -598,13 +604,13 @@ polygonCosts =
     ends "PM;PD5,5;PM2;PM;PA5,5;" (up 5 5 0 20) ∷
     []
 
--- "polygon bytes 7": 1024 fit. PM0, its point, seven PM1 and 110 points are 1015: PM1 with its point would be 1026 and "is refused together", so that PA2,0 still fits; then
--- PA3,0 is 7, PA201,0 is 6 as well, PM1 is 7, and PM2, 7, "still ends, open": EP has the 110 edges between 111 points, all reached pen up. PM2 with its point is 1024.
+-- "polygon bytes 7": 1024 fit. PM0, its point, seven PM1 and 110 points are 1015: PM1 with its point would be 1026 and "is refused together", a point
+-- with a new pen would be 1026 too, and PA2,0 fits; then PA3,0 is 7, PA201,0 is 6 as well, PM1 is 7, and PM2, 7, "still ends, open": EP has the 110 edges between 111 points, all reached pen up. PM2 with its point is 1024.
 -- With one PM1 less there are 1013 bytes, PM1 with its point is 1024, PM1 without one 1026, and PM2 asks for none; or 1022 with a last point that is the first, and PM1 is 1024
 abbrev fullPolygons : List Row
 fullPolygons =
-    filled "SP1;IP0,0,5000,1;SC0,1,0,1;PM;PM1;PM1;PM1;PM1;PM1;PM1;PM1;PA0,0," ";PM1;PA2,0;PA3,0;PA201,0;PM1;PM2;EP;"
-    (refused 7 505 ∷ refused 7 517 ∷ refused 6 525 ∷ refused 7 529 ∷ refused 7 533 ∷ replicate 110 hidden ++ (up 0 0 1 1024 ∷ [])) ∷
+    filled "SP1;IP0,0,5000,1;SC0,1,0,1;PM;PM1;PM1;PM1;PM1;PM1;PM1;PM1;PA0,0," ";PM1;PD2,0;PU;PA2,0;PA3,0;PA201,0;PM1;PM2;EP;"
+    (refused 7 505 ∷ refused 7 511 ∷ refused 7 526 ∷ refused 6 534 ∷ refused 7 538 ∷ refused 7 542 ∷ replicate 110 hidden ++ (up 0 0 1 1024 ∷ [])) ∷
     filled "SP1;PM;PM1;PM1;PM1;PM1;PM1;PM1;PM1;PA0,0," ";PM2;EP;" (replicate 110 hidden ++ (up 0 0 1 1024 ∷ [])) ∷
     filled "SP1;PM;PM1;PM1;PM1;PM1;PM1;PM1;PA0,0," ";PM1;PM1;PM2;EP;" (refused 7 482 ∷ replicate 110 hidden ++ (up 0 0 1 1024 ∷ [])) ∷
     filled "PM;PM1;PM1;PM1;PM1;PM1;PM1;PA0,0," "0,0;PM1;PM1;" (refused 7 481 ∷ up 0 0 0 1024 ∷ []) ∷
@@ -752,7 +758,7 @@ checked =
     taken ten "SP1;PU5000,5000;CI100,7;" (replicate 52 hidden ++ (up 5000 5000 1 0 ∷ [])) ∷
     -- (l) Radius 1000, angle 60, at (0,0): vertex one (500, 866)
     take "SP1;CI1000,60;" (stroke 1 (pos 1000) (pos 0) (pos 500) (pos 866) ∷ stroke 1 (pos 500) (pos 866) (minus 500) (pos 866) ∷ stroke 1 (minus 500) (pos 866) (minus 1000) (pos 0) ∷ stroke 1 (minus 1000) (pos 0) (minus 500) (minus 866) ∷ stroke 1 (minus 500) (minus 866) (pos 500) (minus 866) ∷ stroke 1 (pos 500) (minus 866) (pos 1000) (pos 0) ∷ up 0 0 1 0 ∷ []) ∷
-    -- (m) 32767.9999 passes, 32768 gives 3; −32768 passes, −32768.0001 gives 3
+    -- (m) 32767.9999 passes, 32768 gives 3; −32768 passes, −32768.0001 gives 3: the ends of numerals' `inRange`, to which its law `in-range` holds what is read
     ends "PA32767.9999,0;" (up 32768 0 0 0) ∷
     stops "PA32768,0;" 3 8 (up 0 0 0 0) ∷
     ends "PA-32768,0;" (seen (minus 32768) (pos 0) 0 false 0) ∷
@@ -763,6 +769,16 @@ checked =
     take "IN;SP1;PA0,0;PD100,50;PD20000,50;XX;" (line 1 0 0 100 50 ∷ line 1 100 50 10000 50 ∷ refused 1 35 ∷ down 20000 50 1 0 ∷ []) ∷
     []
 
+-- ---- the table, heading by heading
+
 abbrev pub table : List Row
 table =
-    freshCalls ++ (drawCalls ++ (feedCalls ++ (names ++ (numbers ++ (passedOver ++ (counts ++ (moments ++ (positions ++ (farOff ++ (bases ++ (modes ++ (pens ++ (penNumbers ++ (resets ++ (corners ++ (scales ++ (turns ++ (windows ++ (strokes ++ (polygonModes ++ (subpolygons ++ (polygonCosts ++ (fullPolygons ++ (outlines ++ (rectangles ++ (chordAngles ++ (circles ++ (driveMoves ++ (orders ++ (checked))))))))))))))))))))))))))))))
+    freshCalls ++ drawCalls ++ feedCalls
+    ++ names ++ numbers ++ passedOver ++ counts ++ moments
+    ++ positions ++ farOff ++ bases ++ modes ++ pens ++ penNumbers ++ resets ++ corners ++ scales ++ turns ++ windows
+    ++ strokes
+    ++ polygonModes ++ subpolygons ++ polygonCosts ++ fullPolygons ++ outlines ++ rectangles
+    ++ chordAngles ++ circles
+    ++ driveMoves
+    ++ orders
+    ++ checked
