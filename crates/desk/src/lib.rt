@@ -3,6 +3,7 @@ ghost use mathlib.Core.Path.{_≡_};
 ghost use Prim.Native.Nat.{_+_, _-_, _≤_};
 ghost use lib.IntN.{natAbs, _-ℤ_};
 ghost use lib.ListN.{length};
+ghost use Rattle.desk.specs.Asked.{defaultLimits, askedOf};
 ghost use Rattle.desk.specs.Sums.{added, trimmed};
 use libc::STDERR_FILENO;
 use libc::STDOUT_FILENO;
@@ -14,22 +15,42 @@ use lines::word::Whole;
 use lines::word::limits_of;
 use lines::word::whole_of;
 
+// A word that is missing is no number.
 fn argument(i: usize) -> Whole {
     let mut word = [0u8; 32];
     let n = os::arg(i, &mut word);
     whole_of(&word[..n])
 }
 
-// The limits that the arguments ask for: left, bottom, right, top; without arguments those of the program strokes.
-pub fn limits() -> Limits {
-    let count = os::arg_count();
+// The limits of the program strokes, where no others are asked for.
+pub fn default_limits() -> Limits
+    ensures { λ r. ⌜ r ≡ defaultLimits ⌝ }
+{
+    Limits::Four(-10000, -7000, 10000, 7000)
+}
+
+// The limits that so many arguments ask for, the program's own name among them, and the four after it.
+fn asked(count: usize, left: Whole, bottom: Whole, right: Whole, top: Whole) -> Limits
+    ensures { λ r. ⌜ r ≡ askedOf count left bottom right top ⌝ }
+{
     if count == 1 {
-        return Limits::Four(-10000, -7000, 10000, 7000);
+        return default_limits();
     }
-    if count != 5 {
-        return Limits::Nothing;
+    if count == 5 {
+        return limits_of(left, bottom, right, top);
     }
-    limits_of(argument(1), argument(2), argument(3), argument(4))
+    Limits::Nothing
+}
+
+// The limits that the arguments ask for: left, bottom, right, top.
+pub fn limits() -> Limits {
+    asked(
+        os::arg_count(),
+        argument(1),
+        argument(2),
+        argument(3),
+        argument(4),
+    )
 }
 
 // Says that the arguments are no limits.

@@ -5,16 +5,13 @@ ghost use mathlib.Core.Path.{_≡_};
 ghost use Prim.Native.Nat.{_+_, _≤_};
 ghost use lib.ListN.{length, drop};
 ghost use Rattle.drawings.specs.Part.{indexOf, Within};
-ghost use Rattle.hpgl.specs.Made.{Made};
-use libc::STDERR_FILENO;
 use libc::STDOUT_FILENO;
 use lines::word::Limits;
 use lines::word::Whole;
 use lines::word::limits_of;
 use lines::word::whole_of;
-use machine::Machine;
+use plotting::edge::Sink;
 use plotting::files::End;
-use plotting::files::Sink;
 use plotting::files::run;
 
 // Where a word of a line starts and ends.
@@ -105,13 +102,13 @@ fn say(line: &[u8], w: Part, what: &[u8], lines: u64, after: &[u8])
 }
 
 // Compares the lines of a drawing with those of a file, and says what came of it.
-fn compare(line: &[u8], w: Part, machine: Machine, drawing: i32, stored: i32)
+fn compare(line: &[u8], w: Part, asked: Limits, drawing: i32, stored: i32)
     requires { ⌜ Within w (now line) ⌝ }
-    requires { ⌜ Made (machine .state) ⌝ }
 {
-    let finished = run(machine, drawing, Sink::Compare(stored, 0));
+    let finished = run(asked, drawing, Sink::Compare(stored, 0));
     let end = finished.end;
-    let sink = finished.sink;
+    let output = finished.output;
+    let sink = output.sink;
     let same = same_lines(sink);
     if let End::Done = end {
         if at_end(stored) {
@@ -128,10 +125,9 @@ fn compare(line: &[u8], w: Part, machine: Machine, drawing: i32, stored: i32)
     );
 }
 
-fn check_files(line: &[u8], drawn: Part, kept: Part, machine: Machine)
+fn check_files(line: &[u8], drawn: Part, kept: Part, asked: Limits)
     requires { ⌜ Within drawn (now line) ⌝ }
     requires { ⌜ Within kept (now line) ⌝ }
-    requires { ⌜ Made (machine .state) ⌝ }
 {
     let drawing = open(line, drawn);
     if drawing < 0 {
@@ -141,7 +137,7 @@ fn check_files(line: &[u8], drawn: Part, kept: Part, machine: Machine)
     if stored < 0 {
         return;
     }
-    compare(line, kept, machine, drawing, stored);
+    compare(line, kept, asked, drawing, stored);
     libc::close(drawing);
     libc::close(stored);
 }
@@ -159,16 +155,7 @@ fn check_line(line: &[u8]) {
         limit(line, right),
         limit(line, top),
     );
-    let Limits::Four(l, b, r, t) = asked else {
-        io::write_all(
-            STDERR_FILENO,
-            b"drawings: a line of the list has no four limits\n",
-        );
-        return;
-    };
-    let started = Machine::fresh(l, b, r, t);
-    let machine = started.machine;
-    check_files(line, drawn, kept, machine);
+    check_files(line, drawn, kept, asked);
 }
 
 fn check_list(list: &[u8]) {

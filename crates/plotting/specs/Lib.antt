@@ -5,3 +5,5 @@ pub mod PlotPrinted
 pub mod PlottedLaws
 pub mod Compared
 pub mod ComparedLaws
+pub mod Ran
+pub mod RanLaws

@@ -10,6 +10,7 @@ use lib.IntN.{ℤ}
 use lib.ListN.{length, getD, drop, length-append, length-drop}
 use lib.Seq.{getD-drop, drop-length}
 use Rattle.clip.specs.declared.Rect.{Rect}
+use Rattle.hpgl.specs.Machine.{freshState, waiting}
 use Rattle.hpgl.specs.Made.{Made, fresh}
 use Rattle.hpgl.specs.Plot.{plotFrom, numbersOf}
 use Rattle.hpgl.specs.Plot.{Plot as Marked}
@@ -42,6 +43,11 @@ plotted-then {r} {block} h k = record {
 pub started-made : {s : Started} (r : Rect) → s ≡ startedOf r → Made (s .machine .state)
 unfolding startedOf
 started-made r e = subst (λ (s : Started). Made (s .machine .state)) (sym e) (fresh r)
+
+-- and nothing waits
+pub started-idle : {s : Started} (r : Rect) → s ≡ startedOf r → waiting (s .machine .state .work) ≡ 0
+unfolding startedOf freshState waiting
+started-idle r e = ap (λ (s : Started). waiting (s .machine .state .work)) e
 
 -- ---- a block, a bufferful at a time
 

@@ -1,34 +1,34 @@
-// A machine over a file: the lines of its bytes are written to another file, or compared with what another file has.
+// A machine over a file: the lines of its bytes are handed over, block by block, to be written or compared.
 ghost use mathlib.Core.Path.{_≡_};
-ghost use Prim.Native.Nat.{_+_, _^_, _≤_, _<_};
+ghost use Prim.Native.Nat.{_+_, _^_, _<_};
 ghost use lib.ListN.{length};
+ghost use Rattle.hpgl.specs.Machine.{waiting};
 ghost use Rattle.hpgl.specs.Made.{Made};
-ghost use Rattle.plotting.specs.Compared.{common as commonOf, lineEnds};
-use super::Plot;
+ghost use Rattle.plotting.specs.Ran.{Begins, Leaves, Ran, Unbegun, Answers};
 use super::begun;
+use super::edge::Input;
+use super::edge::Output;
+use super::edge::Sink;
+use super::edge::bytes_read;
+use super::edge::hand;
+use super::edge::input_of;
+use super::edge::output_to;
+use super::edge::read_block;
 use super::emptied;
 use super::fill;
+use lines::word::Limits;
 use machine::Machine;
 
 // A proved loop has to end: this one reads so many blocks of at most 64 KB, which no file uses up.
 const BLOCKS: u64 = 0x800000000000;
 
-// Where the lines go.
-pub enum Sink {
-    // to this file
-    Write(i32),
-    // beside the lines of this file, of which so many are the same
-    Compare(i32, u64),
-}
-
-struct Delivered {
-    sink: Sink,
-    good: bool,
-}
-
 // How a run ended.
 pub enum End {
     Done,
+    // no limits were asked for
+    NoLimits,
+    // fresh refuses the limits
+    Refused,
     // a read of the input failed
     Unread,
     // a write failed, or a line differs
@@ -36,99 +36,47 @@ pub enum End {
 }
 
 pub struct Finished {
-    pub sink: Sink,
+    pub input: Input,
+    pub output: Output,
     pub end: End,
 }
 
-// What a block leaves: the machine, the bytes up to its end, and whether its lines were delivered.
+// What a block leaves: the machine, and whether its lines were delivered.
 struct Left {
     machine: Machine,
-    before: u64,
-    sink: Sink,
+    output: Output,
     good: bool,
 }
 
-// How many bytes two texts have in common at their start.
-fn common(a: &[u8], b: &[u8]) -> usize
-    ensures { λ r. ⌜ r ≡ commonOf (now (a .entry)) (now (b .entry)) ⌝ }
-    ensures { λ r. ⌜ r ≤ length (now (a .entry)) ⌝ }
-{
-    let mut i = 0;
-    while i < a.len() {
-        if i >= b.len() {
-            return i;
-        }
-        if a[i] != b[i] {
-            return i;
-        }
-        i += 1;
-    }
-    i
-}
-
-fn line_ends(text: &[u8]) -> usize
-    ensures { λ r. ⌜ r ≡ lineEnds (now (text .entry)) ⌝ }
-{
-    let mut count = 0;
-    let mut i = 0;
-    while i < text.len() {
-        if text[i] == b'\n' {
-            count += 1;
-        }
-        i += 1;
-    }
-    count
-}
-
-// Compares a text with what the file has next.
-fn compare(file: i32, lines: u64, text: &[u8]) -> Delivered
-    requires { ⌜ length (now text) ≤ 65536 ⌝ }
-{
-    let mut space = io::large_buffer();
-    let n = text.len();
-    let got = io::read_full(file, &mut space[..n]);
-    let same = common(text, &space[..got]);
-    let more = line_ends(&text[..same]) as u64;
-    Delivered {
-        sink: Sink::Compare(file, std::num::wrapping_add_u64(lines, more)),
-        good: same == n,
-    }
-}
-
-fn deliver(sink: Sink, text: &[u8]) -> Delivered
-    requires { ⌜ length (now text) ≤ 65536 ⌝ }
-{
-    match sink {
-        Sink::Write(file) => Delivered {
-            sink: sink,
-            good: io::write_all(file, text),
-        },
-        Sink::Compare(file, lines) => compare(file, lines, text),
-    }
-}
-
 // The lines of a block, a bufferful at a time.
-fn deliver_block(machine: Machine, before: u64, block: &[u8], text: &mut [u8], sink: Sink) -> Left
+fn deliver_block(
+    started: Machine,
+    machine: Machine,
+    before: u64,
+    input: Input,
+    block: &[u8],
+    text: &mut [u8],
+    output: Output,
+) -> Left
     requires { ⌜ Made (machine .state) ⌝ }
     requires { ⌜ before + length (now block) < 2 ^ 64 ⌝ }
     requires { ⌜ length (now text) ≡ 65536 ⌝ }
+    requires { ⌜ Begins (started .state) (machine .state) before (input .read) (output .handed) (now block) ⌝ }
     ensures { λ r. ⌜ Made (r .machine .state) ⌝ }
-    ensures { λ r. ⌜ r .before ≡ before + length (now (block .entry)) ⌝ }
+    ensures { λ r. ⌜ Leaves (started .state) (r .machine .state) (input .read) (r .output .handed) (now (block .entry)) (r .good) ⌝ }
 {
-    let after = before + block.len() as u64;
     let mut p = begun(machine, before);
-    let mut s = sink;
+    let mut to = output;
     while p.more {
         p = fill(p, block, text);
         let n = p.length;
-        let d = deliver(s, &text[..n]);
-        s = d.sink;
-        if !d.good {
+        let h = hand(started, input, block, to, &text[..n]);
+        to = h.output;
+        if !h.good {
             let next = p.machine;
             return Left {
                 machine: next,
-                before: after,
-                sink: s,
+                output: to,
                 good: false,
             };
         }
@@ -137,48 +85,79 @@ fn deliver_block(machine: Machine, before: u64, block: &[u8], text: &mut [u8], s
     let next = p.machine;
     Left {
         machine: next,
-        before: after,
-        sink: s,
+        output: to,
         good: true,
     }
 }
 
-// Reads the input to its end.
-pub fn run(started: Machine, input: i32, sink: Sink) -> Finished
+// Reads the input to its end. No segment waits at first.
+fn plot_file(started: Machine, file: i32, sink: Sink) -> Finished
     requires { ⌜ Made (started .state) ⌝ }
+    requires { ⌜ waiting (started .state .work) ≡ 0 ⌝ }
+    ensures { λ r. ⌜ Ran (started .state) r ⌝ }
 {
     let mut block = io::large_buffer();
     let mut text = io::large_buffer();
     let mut machine = started;
-    let mut before = 0;
-    let mut s = sink;
+    let mut input = input_of(file);
+    let mut to = output_to(sink);
     let mut turns = BLOCKS;
     while turns > 0 {
-        let got = libc::read(input, &mut block);
-        if got < 0 {
+        let before = bytes_read(input);
+        let got = read_block(input, &mut block);
+        input = got.input;
+        if !got.good {
             return Finished {
-                sink: s,
+                input: input,
+                output: to,
                 end: End::Unread,
             };
         }
-        let n = io::count(got, &block);
+        let n = got.count;
         if n == 0 {
             break;
         }
-        let left = deliver_block(machine, before, &block[..n], &mut text, s);
+        let left = deliver_block(started, machine, before, input, &block[..n], &mut text, to);
         machine = left.machine;
-        before = left.before;
-        s = left.sink;
+        to = left.output;
         if !left.good {
             return Finished {
-                sink: s,
+                input: input,
+                output: to,
                 end: End::Undelivered,
             };
         }
         turns -= 1;
     }
     Finished {
-        sink: s,
+        input: input,
+        output: to,
         end: End::Done,
     }
+}
+
+// Nothing is read and nothing is handed over.
+fn unbegun(file: i32, sink: Sink, end: End) -> Finished
+    ensures { λ r. ⌜ Unbegun end r ⌝ }
+{
+    Finished {
+        input: input_of(file),
+        output: output_to(sink),
+        end: end,
+    }
+}
+
+// The lines of a file, from a machine with these hard limits.
+pub fn run(asked: Limits, file: i32, sink: Sink) -> Finished
+    ensures { λ r. ⌜ Answers asked r ⌝ }
+{
+    let Limits::Four(left, bottom, right, top) = asked else {
+        return unbegun(file, sink, End::NoLimits);
+    };
+    let started = Machine::fresh(left, bottom, right, top);
+    if started.number != 0 {
+        return unbegun(file, sink, End::Refused);
+    }
+    let machine = started.machine;
+    plot_file(machine, file, sink)
 }

@@ -1,4 +1,5 @@
--- Each turn makes what the block still asks for shorter.
+-- Each turn hands the next part over, and makes what the block still asks for shorter.
+use borrow.Author.Tests.{not-true, not-false}
 use mathlib.Core.Path.{_≡_, refl, sym, _∙_}
 use Prim.Native.Nat.{_≤_}
 use native.Mathlib.Omega.{arith}
@@ -6,17 +7,16 @@ use lib.ListN.{length}
 use lib.Seq.{length-take-le}
 use Rattle.lines.specs.TextLaws.{puts-length}
 use Rattle.plotting.specs.PlottedLaws.{Between, begins, empties, left, left-less}
+use Rattle.plotting.specs.RanLaws.{Midway, midway-first, midway-next, midway-again, leaves-part, leaves-all}
 use Rattle.plotting.proofs.files.deliver_block.Statement.{statement}
 use Rattle.plotting.proofs.files.deliver_block.Tie as tie
 
 abbrev Inv-loop : tie.InvT-loop
-Inv-loop before block text₀ after p₀ s₀ text p s = Between p block × (length text ≡ 65536)
+Inv-loop started before input block text₀ p₀ to₀ text p to =
+    Between p block × (length text ≡ 65536) × Midway (started .state) (input .read) (to .handed) p block
 
 abbrev μ-loop : tie.MeasureT-loop
-μ-loop before block text₀ after p₀ s₀ text p s = left p block
-
-add-after : tie.Need-add-after Inv-loop μ-loop
-add-after c = let s : tie.Start Inv-loop μ-loop = search in record { fits = s .pre .1 .0 }
+μ-loop started before input block text₀ p₀ to₀ text p to = left p block
 
 begun-requires : tie.Need-begun-requires Inv-loop μ-loop
 begun-requires c κs = tt
@@ -25,7 +25,8 @@ loop-holds : tie.Need-loop-holds Inv-loop μ-loop
 loop-holds c =
     let s : tie.Start Inv-loop μ-loop = search in
     let k : tie.After-shared-slice-known Inv-loop μ-loop = search in
-    (begins (c .begun .ensures) (λ i. k .shared-slice-known .given i .fits) (s .pre .0) (s .pre .1 .0), s .pre .1 .1)
+    let e = c .begun .ensures in
+    (begins e (λ i. k .shared-slice-known .given i .fits) (s .pre .0) (s .pre .1 .0), s .pre .1 .1 .0, midway-first e (s .pre .1 .1 .1))
 
 fill-requires : tie.Need-fill-requires Inv-loop μ-loop
 fill-requires c κs =
@@ -39,27 +40,39 @@ fits c = let e = c .fill .ensures .0 .puts in omega (arith, e .room, puts-length
 wide : (c : tie.After-fill Inv-loop μ-loop) → length (c .fill .last .1 .1 .0) ≡ 65536
 wide c = puts-length (c .fill .ensures .0 .puts) ∙ c .before .before .before .loop .inv .1
 
-slice-reshare-prefix-deliver : tie.Need-slice-reshare-prefix-deliver Inv-loop μ-loop
-slice-reshare-prefix-deliver c = fits (c .before .before)
+slice-reshare-prefix-hand : tie.Need-slice-reshare-prefix-hand Inv-loop μ-loop
+slice-reshare-prefix-hand c = fits (c .before .before)
 
-slice-aggregate-deliver : tie.Need-slice-aggregate-deliver Inv-loop μ-loop
-slice-aggregate-deliver c = sym (length-take-le _ _ (fits (c .before .before .before)))
+slice-aggregate-hand : tie.Need-slice-aggregate-hand Inv-loop μ-loop
+slice-aggregate-hand c = sym (length-take-le _ _ (fits (c .before .before .before)))
 
-deliver-requires : tie.Need-deliver-requires Inv-loop μ-loop
-deliver-requires c κs = let f = c .before .before .before in omega (arith, fits f, wide f, length-take-le (f .fill .result .length) (f .fill .last .1 .1 .0) (fits f))
+hand-requires : tie.Need-hand-requires Inv-loop μ-loop
+hand-requires c κs =
+    let f = c .before .before .before in
+    let l = f .before .before .before in (
+      omega (arith, fits f, wide f, length-take-le (f .fill .result .length) (f .fill .last .1 .1 .0) (fits f)),
+      midway-next (l .loop .inv .2) (f .fill .ensures .0) (l .loop .inv .0 .empty),
+    )
 
 same-length : tie.Need-same-length Inv-loop μ-loop
-same-length c = let f = c .before .before .before .before .before .before .before in let s = f .before .before .before .before .before .before .before in wide f ∙ sym (s .pre .1 .1)
+same-length c =
+    let f = c .before .before .before .before .before .before .before .before in
+    let s = f .before .before .before .before .before .before .before in
+    wide f ∙ sym (s .pre .1 .1 .0)
 
 returns : tie.Need-returns Inv-loop μ-loop
-returns c = let f = c .before .before .before .before .before .before .before in (f .fill .ensures .0 .ready .made, refl)
+returns c =
+    let f = c .before .before .before .before .before .before .before .before in
+    let l = f .before .before .before in
+    let e = f .fill .ensures .0 in
+    (e .ready .made, leaves-part (l .loop .inv .2) e (l .loop .inv .0 .empty) (c .before .before .before .before .hand .ensures))
 
 emptied-requires : tie.Need-emptied-requires Inv-loop μ-loop
 emptied-requires c κs = tt
 
 loop-less : tie.Need-loop-less Inv-loop μ-loop
 loop-less c =
-    let f = c .before .before .before .before .before .before .before in
+    let f = c .before .before .before .before .before .before .before .before in
     let l = f .before .before .before in
     let e = f .fill .ensures in
     let t : tie.In-loop Inv-loop μ-loop = search in
@@ -67,14 +80,19 @@ loop-less c =
 
 loop-again : tie.Need-loop-again Inv-loop μ-loop
 loop-again c =
-    let f = c .before .before .before .before .before .before .before in
-    (empties (c .emptied .ensures) (f .fill .ensures .0 .ready), wide f)
+    let f = c .before .before .before .before .before .before .before .before in
+    let l = f .before .before .before in
+    let e = f .fill .ensures .0 in (
+      empties (c .emptied .ensures) (e .ready),
+      wide f,
+      midway-again (l .loop .inv .2) e (l .loop .inv .0 .empty) (c .before .before .before .before .hand .ensures) (c .emptied .ensures),
+    )
 
 same-length-2 : tie.Need-same-length-2 Inv-loop μ-loop
-same-length-2 c = let s = c .before .before .before .before .before .before in c .before .before .loop .inv .1 ∙ sym (s .pre .1 .1)
+same-length-2 c = let s = c .before .before .before .before .before .before in c .before .before .loop .inv .1 ∙ sym (s .pre .1 .1 .0)
 
 returns-2 : tie.Need-returns-2 Inv-loop μ-loop
-returns-2 c = (c .before .before .loop .inv .0 .ready .made, refl)
+returns-2 c = let i = c .before .before .loop .inv in (i .0 .ready .made, leaves-all (i .2) (i .0 .ready) (c .before .loop-test .left))
 
 pub deliver-block-spec : {M : Type 1} → statement M
 deliver-block-spec =
@@ -82,13 +100,12 @@ deliver-block-spec =
     (tie.spec
     Inv-loop
     μ-loop
-    add-after
     begun-requires
     loop-holds
     fill-requires
-    slice-reshare-prefix-deliver
-    slice-aggregate-deliver
-    deliver-requires
+    slice-reshare-prefix-hand
+    slice-aggregate-hand
+    hand-requires
     same-length
     returns
     emptied-requires

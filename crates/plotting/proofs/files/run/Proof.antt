@@ -1,108 +1,66 @@
--- A turn reads at most 65,536 bytes, so that 2^47 of them do not count past 2^63.
+-- A machine of fresh may be used, and nothing waits there.
 use borrow.Author.Needs.{needs}
-use mathlib.Core.Path.{_≡_, sym, _∙_}
-use Prim.Native.Nat.{_+_, _*_, _^_, _≤_}
-use native.Mathlib.Omega.{arith}
-use lib.ListN.{length, take}
-use Rattle.hpgl.specs.Made.{Made}
+use mathlib.Core.Path.{_≡_, _∙_}
+use Rattle.clip.specs.declared.Rect.{Rect}
+use Rattle.hpgl.specs.Machine.{rect}
+use Rattle.machine.specs.Calls.{startedOf}
+use Rattle.plotting.specs.PlottedLaws.{started-made, started-idle}
+use Rattle.plotting.specs.RanLaws.{within-good, within-bad}
 use Rattle.plotting.proofs.files.run.Statement.{statement}
 use Rattle.plotting.proofs.files.run.Tie as tie
 
-abbrev Inv-loop : tie.InvT-loop
-Inv-loop input block₀ text₀ machine₀ before₀ s₀ turns₀ block text machine before s turns =
-    (65536 ≡ length block) × (65536 ≡ length text) × Made (machine .state) × (before + turns * 65536 ≤ 2 ^ 63)
+-- the limits that are asked for
+abbrev hard : tie.After-asked → Rect
+hard a = let z = a .asked .given .0 in rect (z .0) (z .1 .0) (z .1 .1 .0) (z .1 .1 .1 .0)
 
-abbrev μ-loop : tie.MeasureT-loop
-μ-loop input block₀ text₀ machine₀ before₀ s₀ turns₀ block text machine before s turns = turns
+begun : (f : tie.After-fresh) → f .fresh .result ≡ startedOf (hard (f .before .before))
+begun f = f .fresh .ensures ∙ search needs
 
--- a block is read into the same place, and is not longer
-reading : (c : tie.After-text Inv-loop μ-loop) → let r = c .before .before .before .before .before .before .before in 65536 ≡ length (r .read .last .1 .0)
-reading c = c .before .before .before .before .before .before .before .before .before .before .loop .inv .0 ∙ sym (c .before .before .before .before .before .before .before .read .kept .1 .0)
+enum-known-asked : tie.Need-enum-known-asked
+enum-known-asked c = search needs
 
-short : (c : tie.After-text Inv-loop μ-loop) → let r = c .before .before .before .before .before .before .before in let n = c .before .before .before in length (take (n .count .result) (r .read .last .1 .0)) ≤ 65536
-short c = let n = c .before .before .before .count .ensures .0 in omega (arith, n .0, n .1, reading c)
+enum-told : tie.Need-enum-told
+enum-told c = search needs
 
-large-buffer-requires : tie.Need-large-buffer-requires Inv-loop μ-loop
-large-buffer-requires c κs = tt
+unbegun-requires : tie.Need-unbegun-requires
+unbegun-requires c κs = search needs
 
-large-buffer-requires-2 : tie.Need-large-buffer-requires-2 Inv-loop μ-loop
-large-buffer-requires-2 c κs = tt
+returns : tie.Need-returns
+returns c = rw (c .before .enum-told .given .1) (c .unbegun .ensures)
 
-loop-holds : tie.Need-loop-holds Inv-loop μ-loop
-loop-holds c = let s : tie.Start Inv-loop μ-loop = search in (c .before .large-buffer .ensures, c .large-buffer2 .ensures, s .pre, omega arith)
+fresh-requires : tie.Need-fresh-requires
+fresh-requires c κs = search needs
 
-slice-aggregate-read : tie.Need-slice-aggregate-read Inv-loop μ-loop
-slice-aggregate-read c = search needs
+unbegun-requires-2 : tie.Need-unbegun-requires-2
+unbegun-requires-2 c κs = search needs
 
-read-requires : tie.Need-read-requires Inv-loop μ-loop
-read-requires c κs = tt
+returns-2 : tie.Need-returns-2
+returns-2 c =
+    let a : tie.After-asked = search in
+    let f : tie.After-fresh = search in
+    let t : tie.Then1 = search in
+    rw (a .asked .given .1) (within-bad (hard a) (begun f) (t .if1 .taken) (c .unbegun2 .ensures))
 
-returns : tie.Need-returns Inv-loop μ-loop
-returns c = tt
+plot-file-requires : tie.Need-plot-file-requires
+plot-file-requires c κs = let e = c .before .before .before .fresh .ensures in (started-made _ e, started-idle _ e)
 
-slice-aggregate-count : tie.Need-slice-aggregate-count Inv-loop μ-loop
-slice-aggregate-count c = search needs
-
-count-requires : tie.Need-count-requires Inv-loop μ-loop
-count-requires c κs = tt
-
-array-share-prefix-block : tie.Need-array-share-prefix-block Inv-loop μ-loop
-array-share-prefix-block c = search needs
-
-slice-aggregate-deliver-block : tie.Need-slice-aggregate-deliver-block Inv-loop μ-loop
-slice-aggregate-deliver-block c = search needs
-
-slice-aggregate-deliver-block-2 : tie.Need-slice-aggregate-deliver-block-2 Inv-loop μ-loop
-slice-aggregate-deliver-block-2 c = search needs
-
-deliver-block-requires : tie.Need-deliver-block-requires Inv-loop μ-loop
-deliver-block-requires c κs =
-    let i = c .before .before .before .before .before .before .before .before .before .before .loop .inv in
-    (i .2, (omega (arith, i .3, short c), sym (i .1)))
-
-returns-2 : tie.Need-returns-2 Inv-loop μ-loop
-returns-2 c = tt
-
-sub-turns : tie.Need-sub-turns Inv-loop μ-loop
-sub-turns c = let t = c .before .before .before .before .before .before .before .before .before .before .before .before .before .before in omega (arith, t .loop-test .taken)
-
-loop-less : tie.Need-loop-less Inv-loop μ-loop
-loop-less c = let t = c .before .before .before .before .before .before .before .before .before .before .before .before .before .before in omega (arith, t .loop-test .taken)
-
-loop-again : tie.Need-loop-again Inv-loop μ-loop
-loop-again c =
-    let d = c .before .before .before .before in
-    let t = d .before .before .before .before .before .before .before .before .before .before in
-    let i = t .before .loop .inv in
-    (reading (d .before), i .1 ∙ sym (d .deliver-block .kept .1 .1 .1 .0), d .deliver-block .ensures .0, omega (arith, i .3, short (d .before), d .deliver-block .ensures .1, t .loop-test .taken))
-
-returns-3 : tie.Need-returns-3 Inv-loop μ-loop
-returns-3 c = tt
-
-returns-4 : tie.Need-returns-4 Inv-loop μ-loop
-returns-4 c = tt
+returns-3 : tie.Need-returns-3
+returns-3 c =
+    let a : tie.After-asked = search in
+    let f : tie.After-fresh = search in
+    let t : tie.Else1 = search in
+    rw (a .asked .given .1) (within-good (hard a) (begun f) (t .if1 .left) (c .plot-file .ensures))
 
 pub run-spec : {M : Type 1} → statement M
 run-spec =
     tie.close
     (tie.spec
-    Inv-loop
-    μ-loop
-    large-buffer-requires
-    large-buffer-requires-2
-    loop-holds
-    slice-aggregate-read
-    read-requires
+    enum-known-asked
+    enum-told
+    unbegun-requires
     returns
-    slice-aggregate-count
-    count-requires
-    array-share-prefix-block
-    slice-aggregate-deliver-block
-    slice-aggregate-deliver-block-2
-    deliver-block-requires
+    fresh-requires
+    unbegun-requires-2
     returns-2
-    sub-turns
-    loop-less
-    loop-again
-    returns-3
-    returns-4)
+    plot-file-requires
+    returns-3)

@@ -6,8 +6,8 @@ use mathlib.Core.Logic.{⊎-elim}
 use lib.ListN.{length, drop}
 use Rattle.plotting.specs.Compared.{lineEnds}
 use Rattle.plotting.specs.ComparedLaws.{ends-more, ends-other, ends-done}
-use Rattle.plotting.proofs.files.line_ends.Statement.{statement}
-use Rattle.plotting.proofs.files.line_ends.Tie as tie
+use Rattle.plotting.proofs.edge.line_ends.Statement.{statement}
+use Rattle.plotting.proofs.edge.line_ends.Tie as tie
 
 abbrev Inv-loop : tie.InvT-loop
 Inv-loop text count₀ i₀ count i = (i ≤ length text) × (count ≤ i) × (lineEnds text ≡ count + lineEnds (drop i text))

@@ -5,8 +5,8 @@ use native.Mathlib.Omega.{arith}
 use lib.ListN.{length, drop}
 use Rattle.plotting.specs.Compared.{common}
 use Rattle.plotting.specs.ComparedLaws.{common-more, common-end, common-other, common-done}
-use Rattle.plotting.proofs.files.common.Statement.{statement}
-use Rattle.plotting.proofs.files.common.Tie as tie
+use Rattle.plotting.proofs.edge.common.Statement.{statement}
+use Rattle.plotting.proofs.edge.common.Tie as tie
 
 abbrev Inv-loop : tie.InvT-loop
 Inv-loop a b i₀ i = (i ≤ length a) × (common a b ≡ i + common (drop i a) (drop i b))

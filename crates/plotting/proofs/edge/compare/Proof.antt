@@ -4,8 +4,8 @@ use native.Mathlib.Omega.{arith}
 use lib.ListN.{length-append}
 use lib.Seq.{length-take-le}
 use borrow.Author.Needs.{needs}
-use Rattle.plotting.proofs.files.compare.Statement.{statement}
-use Rattle.plotting.proofs.files.compare.Tie as tie
+use Rattle.plotting.proofs.edge.compare.Statement.{statement}
+use Rattle.plotting.proofs.edge.compare.Tie as tie
 
 large-buffer-requires : tie.Need-large-buffer-requires
 large-buffer-requires c κs = search needs

@@ -1,0 +1,30 @@
+-- A read that failed gave nothing.
+use borrow.Author.Needs.{needs}
+use mathlib.Core.Bool.{false≢true}
+use mathlib.Core.Path.{refl, sym}
+use Rattle.plotting.proofs.edge.read_block.Statement.{statement}
+use Rattle.plotting.proofs.edge.read_block.Tie as tie
+
+read-requires : tie.Need-read-requires
+read-requires c κs = search needs
+
+same-length : tie.Need-same-length
+same-length c = search needs
+
+returns : tie.Need-returns
+returns c = search needs
+
+count-requires : tie.Need-count-requires
+count-requires c κs = search needs
+
+add-t12 : tie.Need-add-t12
+add-t12 c = search needs
+
+same-length-2 : tie.Need-same-length-2
+same-length-2 c = search needs
+
+returns-2 : tie.Need-returns-2
+returns-2 c = let n : tie.After-count = search in (n .count .ensures .0, (refl, λ e. absurd (false≢true (sym e))))
+
+pub read-block-spec : {M : Type 1} → statement M
+read-block-spec = tie.close (tie.spec read-requires same-length returns count-requires add-t12 same-length-2 returns-2)
