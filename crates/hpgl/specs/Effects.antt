@@ -121,28 +121,28 @@ bytes c = c .carriage .polygon .bytes
 
 -- ---- on the second letter of a name: "PU, PD, PA, PR set pen or mode"
 
-abbrev pub named : {op : ℕ} → Instruction op → Core → Core
-named PU c = c ▸ penDown false ▸ penChanged (c .carriage .pen .down)
-named PD c = c ▸ penDown true ▸ penChanged (not (c .carriage .pen .down))
-named PA c = c ▸ relative false ▸ penChanged false
-named PR c = c ▸ relative true ▸ penChanged false
-named IN c = c
-named DF c = c
-named EP c = c
-named IP c = c
-named SC c = c
-named IW c = c
-named RO c = c
-named SP c = c
-named PM c = c
-named CI c = c
-named EA c = c
-named ER c = c
+abbrev pub atName : {op : ℕ} → Instruction op → Core → Core
+atName PU c = c ▸ penDown false ▸ penChanged (c .carriage .pen .down)
+atName PD c = c ▸ penDown true ▸ penChanged (not (c .carriage .pen .down))
+atName PA c = c ▸ relative false ▸ penChanged false
+atName PR c = c ▸ relative true ▸ penChanged false
+atName IN c = c
+atName DF c = c
+atName EP c = c
+atName IP c = c
+atName SC c = c
+atName IW c = c
+atName RO c = c
+atName SP c = c
+atName PM c = c
+atName CI c = c
+atName EA c = c
+atName ER c = c
 
 -- ---- a pair; in polygon mode it stores a point
 
-abbrev pub paired : Core → Coordinates → Polygon → Core
-paired c n g =
+abbrev pub atPair : Core → Coordinates → Polygon → Core
+atPair c n g =
     cond (c .carriage .polygon .mode) (c ▸ position (target c n) ▸ penChanged false ▸ polygon g true (bytes c + pointBytes c))
     (c ▸ position (target c n) ▸ penChanged false)
 
@@ -166,29 +166,29 @@ leaves c n g =
     ▸ polygon g false (bytes c + n)
 
 -- an instruction that is carried out
-abbrev pub ended : {op : ℕ} → Instruction op → Core → Numbers → Polygon → Core
-ended IN c n g =
+abbrev pub atEnd : {op : ℕ} → Instruction op → Core → Numbers → Polygon → Core
+atEnd IN c n g =
     c ▸ penDown false ▸ penChanged false ▸ relative false ▸ corners (point (c .settings .hard .left) (c .settings .hard .bottom)) (point (c .settings .hard .right) (c .settings .hard .top))
     ▸ scale unscaled ▸ turn 0 ▸ window noWindow ▸ position (restAt (page c)) ▸ polygon g false 0
-ended DF c n g = c ▸ relative false ▸ scale unscaled ▸ window noWindow ▸ position (atRest c)
-ended IP c n g = c ▸ corners (newP1 c n) (newP2 c n) ▸ position (atRest c)
-ended SC c n g = c ▸ scale (newScale n) ▸ position (atRest c)
-ended RO c n g = c ▸ turn (natAbs (asked n) / 90) ▸ position (restAt (turnedBackOf (page c) (natAbs (asked n) / 90)))
-ended IW c n g = c ▸ window (newWindow c n)
-ended SP c n g = c ▸ penNumber (natAbs (asked n))
-ended PM c n g = cond (asked n ≡? pos 0) (begins c g) (cond (asked n ≡? pos 1) (ends c g) (leaves c (closingBytes c) g))
-ended EA c n g = c ▸ polygon g false 49
-ended ER c n g = c ▸ polygon g false 49
-ended EP c n g = c
-ended CI c n g = c
-ended PU c n g = c
-ended PD c n g = c
-ended PA c n g = c
-ended PR c n g = c
+atEnd DF c n g = c ▸ relative false ▸ scale unscaled ▸ window noWindow ▸ position (atRest c)
+atEnd IP c n g = c ▸ corners (newP1 c n) (newP2 c n) ▸ position (atRest c)
+atEnd SC c n g = c ▸ scale (newScale n) ▸ position (atRest c)
+atEnd RO c n g = c ▸ turn (natAbs (asked n) / 90) ▸ position (restAt (turnedBackOf (page c) (natAbs (asked n) / 90)))
+atEnd IW c n g = c ▸ window (newWindow c n)
+atEnd SP c n g = c ▸ penNumber (natAbs (asked n))
+atEnd PM c n g = cond (asked n ≡? pos 0) (begins c g) (cond (asked n ≡? pos 1) (ends c g) (leaves c (closingBytes c) g))
+atEnd EA c n g = c ▸ polygon g false 49
+atEnd ER c n g = c ▸ polygon g false 49
+atEnd EP c n g = c
+atEnd CI c n g = c
+atEnd PU c n g = c
+atEnd PD c n g = c
+atEnd PA c n g = c
+atEnd PR c n g = c
 
 -- one that is refused: "settings, position, polygon" are left, but PM2 with 7 "still ends, open"
-abbrev pub refused : ℕ → Core → Numbers → ℕ → Polygon → Core
-refused op c n k g = cond (eqb op code.PM && eqb k 7 && (asked n ≡? pos 2)) (leaves c 0 g) c
+abbrev pub atRefusal : ℕ → Core → Numbers → ℕ → Polygon → Core
+atRefusal op c n k g = cond (eqb op code.PM && eqb k 7 && (asked n ≡? pos 2)) (leaves c 0 g) c
 
 -- ---- whatever happens: an event of the sixteen, its number, and how the polygon is kept after it
 
@@ -199,9 +199,9 @@ pub data Happens : Event → Type 0 where
   end : {op : ℕ} → Instruction op → (n : Numbers) → Happens (event.Ended op n)
   refusal : (k : ℕ) → Happens (event.Refused k)
 
-abbrev pub changed : {e : Event} → Happens e → Core → ℕ → Polygon → Core
-changed nothing c k g = c
-changed (name i) c k g = cond (eqb k 0) (named i c) c
-changed (pair n) c k g = cond (eqb k 0) (paired c n g) c
-changed (end {op} i n) c k g = cond (eqb k 0) (ended i c n g) (refused op c n k g)
-changed (refusal r) c k g = c
+abbrev pub changedBy : {e : Event} → Happens e → Core → ℕ → Polygon → Core
+changedBy nothing c k g = c
+changedBy (name i) c k g = cond (eqb k 0) (atName i c) c
+changedBy (pair n) c k g = cond (eqb k 0) (atPair c n g) c
+changedBy (end {op} i n) c k g = cond (eqb k 0) (atEnd i c n g) (atRefusal op c n k g)
+changedBy (refusal r) c k g = c

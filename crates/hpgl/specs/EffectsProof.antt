@@ -31,11 +31,11 @@ use Rattle.hpgl.specs.Change.{withPosition, withRelative, withPolygon, w
 use Rattle.hpgl.specs.Rules.{done, refuse, unscaled, noWindow, inked, freshSettings, noPolygon, freshCarriage, letters, nameRule, rebased, inRule, dfRule, goodCorners, setCorners, carried, ipRule, scRule, setTurn, roRule, setWindow, iwRule, setPen, spRule, moveTo, pointCost, longer, edgeTo, storePoint, aimed, goTo, pairRule, begun, pm0, closes, endedWith, ended, pm1In, pm1, leave, pm2In, pm2, pmRule, epRule, rectangular, rectangleTo, eaRule, erRule, circleFits, circleWith, chordAngle, ciRule, endRule, actOn}
 use Rattle.hpgl.specs.Instruction.{Instruction, IN, DF, EP, IP, SC, IW, RO, SP, PM, CI, EA, ER, PU, PD, PA, PR}
 use Rattle.hpgl.specs.Effects as effects
-use Rattle.hpgl.specs.Effects.{_▸_, penNumber, corners, scale, turn, window, position, polygon, asked, changed, Happens, nothing, name, pair, end, refusal}
+use Rattle.hpgl.specs.Effects.{_▸_, penNumber, corners, scale, turn, window, position, polygon, asked, changedBy, Happens, nothing, name, pair, end, refusal}
 
 module _ (c : Core) where
   record Obeys {e : Event} (k : Happens e) (t : Acted) : Type 0 where
-    is : t .core ≡ changed k c (t .number) (t .core .carriage .polygon)
+    is : t .core ≡ changedBy k c (t .number) (t .core .carriage .polygon)
 
   -- a rule that sets a part to a where it is carried out, and else leaves the core
   record Sets {A : Type 0} (f : A → Core) (a : A) (t : Acted) : Type 0 where
@@ -51,7 +51,7 @@ module _ (c : Core) where
 
   -- ---- names
 
-  lettered : {op : ℕ} (i : Instruction op) → withCarriage c (letters (c .carriage) op) ≡ effects.named i c
+  lettered : {op : ℕ} (i : Instruction op) → withCarriage c (letters (c .carriage) op) ≡ effects.atName i c
   unfolding letters
   lettered IN = refl
   lettered DF = refl
@@ -306,7 +306,7 @@ module _ (c : Core) where
   obeys-end PR n h = record { is = refl }
 
 -- what an event changes is what Effects.antt names
-pub obeyed : (c : Core) {e : Event} (k : Happens e) → c .settings .turn < turnCount → let t = actOn c e in t .core ≡ changed k c (t .number) (t .core .carriage .polygon)
+pub obeyed : (c : Core) {e : Event} (k : Happens e) → c .settings .turn < turnCount → let t = actOn c e in t .core ≡ changedBy k c (t .number) (t .core .carriage .polygon)
 unfolding actOn done refuse
 obeyed c nothing h = refl
 obeyed c (name i) h = obeys-name c i .is

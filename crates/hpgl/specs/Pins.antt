@@ -229,6 +229,33 @@ pinned c (Pair n) = pin-pair c (Pair n) n
 pinned c (Ended op n) = pin-end c (Ended op n) op n refl
 pinned c (Refused k) = refuses c (Refused k) (of-reader refl)
 
+-- ---- a label
+
+label-step : (r : Reader) (b : ℕ) → r .mode ≡ Label → (b ≡ labelEnd → ⊥) → stepOf r b ≡ record { reader = r; event = Nothing }
+unfolding stepOf byMode labelOf quietOf goOnOf
+label-step r b l n =
+    ap (byMode r b) l
+    ∙ ap (λ (t : Bool). cond t (quietOf r Idle) (quietOf r Label)) (ne-eqb b labelEnd n)
+    ∙ (λ i. record { reader = record { mode = sym l i; op = r .op; numbers = r .numbers; number = r .number }; event = Nothing })
+
+-- "its text up to byte 3 is passed over": where no segment waits, a byte of it changes nothing
+pub label-passes : (m : State) (b : ℕ) → m .reader .mode ≡ Label → waiting (m .work) ≡ 0 → (b ≡ labelEnd → ⊥) →
+    (takeState m b ≡ record { reader = m .reader; core = m .core; store = m .store; work = work.Nothing }) × (takeNumber m b ≡ 0)
+unfolding takeState takeNumber acted actOn done applied readerAfter stored queued
+label-passes m b l w n =
+    let s : stepOf (m .reader) b ≡ record { reader = m .reader; event = Nothing } = label-step (m .reader) b l n in
+    let idle : eqb (waiting (m .work)) 0 ≡ true = ap (λ (k : ℕ). eqb k 0) w in (
+      ap (λ (t : Bool). cond t (applied m (stepOf (m .reader) b .reader) (acted m b)) m) idle
+          ∙ ap (λ (x : Step). applied m (x .reader) (actOn (m .core) (x .event))) s,
+      ap (λ (t : Bool). cond t (acted m b .number) busy) idle ∙ ap (λ (x : Step). actOn (m .core) (x .event) .number) s,
+    )
+
+pub label-stays : (m : State) (b : ℕ) → m .reader .mode ≡ Label → m .work ≡ work.Nothing → (b ≡ labelEnd → ⊥) → (takeState m b ≡ m) × (takeNumber m b ≡ 0)
+unfolding waiting
+label-stays m b l w n =
+    let p = label-passes m b l (ap waiting w) n in
+    (p .0 ∙ (λ i. record { reader = m .reader; core = m .core; store = m .store; work = sym w i }), p .1)
+
 -- ---- a take
 
 -- "20 | take while a segment waits", and the reader's 1, 2 and 3
@@ -268,28 +295,3 @@ unfolding takeNumber acted
 take-number m b =
     pick TakeNumber (eqb (waiting (m .work)) 0)
     (event-number (stepOf (m .reader) b .event) _ (step-caused (m .reader) b) (pinned (m .core) (stepOf (m .reader) b .event) .cause)) twenty
-
-label-step : (r : Reader) (b : ℕ) → r .mode ≡ Label → (b ≡ labelEnd → ⊥) → stepOf r b ≡ record { reader = r; event = Nothing }
-unfolding stepOf byMode labelOf quietOf goOnOf
-label-step r b l n =
-    ap (byMode r b) l
-    ∙ ap (λ (t : Bool). cond t (quietOf r Idle) (quietOf r Label)) (ne-eqb b labelEnd n)
-    ∙ (λ i. record { reader = record { mode = sym l i; op = r .op; numbers = r .numbers; number = r .number }; event = Nothing })
-
--- "its text up to byte 3 is passed over": where no segment waits, a byte of it changes nothing
-pub label-passes : (m : State) (b : ℕ) → m .reader .mode ≡ Label → waiting (m .work) ≡ 0 → (b ≡ labelEnd → ⊥) →
-    (takeState m b ≡ record { reader = m .reader; core = m .core; store = m .store; work = work.Nothing }) × (takeNumber m b ≡ 0)
-unfolding takeState takeNumber acted actOn done applied readerAfter stored queued
-label-passes m b l w n =
-    let s : stepOf (m .reader) b ≡ record { reader = m .reader; event = Nothing } = label-step (m .reader) b l n in
-    let idle : eqb (waiting (m .work)) 0 ≡ true = ap (λ (k : ℕ). eqb k 0) w in (
-      ap (λ (t : Bool). cond t (applied m (stepOf (m .reader) b .reader) (acted m b)) m) idle
-          ∙ ap (λ (x : Step). applied m (x .reader) (actOn (m .core) (x .event))) s,
-      ap (λ (t : Bool). cond t (acted m b .number) busy) idle ∙ ap (λ (x : Step). actOn (m .core) (x .event) .number) s,
-    )
-
-pub label-stays : (m : State) (b : ℕ) → m .reader .mode ≡ Label → m .work ≡ work.Nothing → (b ≡ labelEnd → ⊥) → (takeState m b ≡ m) × (takeNumber m b ≡ 0)
-unfolding waiting
-label-stays m b l w n =
-    let p = label-passes m b l (ap waiting w) n in
-    (p .0 ∙ (λ i. record { reader = m .reader; core = m .core; store = m .store; work = sym w i }), p .1)

@@ -38,19 +38,19 @@ Short p = Between (negℤ (pos 32768)) (p .x) (pos 32767) × Between (negℤ (po
 -- ---- rounding
 
 -- "to the nearest whole; a half goes to the larger number, also below zero": k − 1/2 ≤ n / w < k + 1/2
-pub record Nearest (n : ℤ) (w : ℕ) (k : ℤ) : Type 0 where
+pub record IsNearest (n : ℤ) (w : ℕ) (k : ℤ) : Type 0 where
   pub least : pos w *ℤ (pos 2 *ℤ k -ℤ pos 1) ≤ᶻ pos 2 *ℤ n
   pub most : pos 2 *ℤ n <ᶻ pos w *ℤ (pos 2 *ℤ k +ℤ pos 1)
 
 -- "SP, RO, PM .. numbers are rounded first"; none is 0
 pub record Asked (n : Numbers) (k : ℤ) : Type 0 where
   pub none : n .count ≡ 0 → k ≡ pos 0
-  pub some : (n .count ≡ 0 → ⊥) → Nearest (n .first) 10000 k
+  pub some : (n .count ≡ 0 → ⊥) → IsNearest (n .first) 10000 k
 
 -- CI's chord angle: "in tenths of a degree, rounded, .. default 50"
 pub record Angle (n : Numbers) (a : ℤ) : Type 0 where
   pub default : n .count ≡ 1 → a ≡ pos 50
-  pub some : (n .count ≡ 1 → ⊥) → Nearest (n .second) 1000 a
+  pub some : (n .count ≡ 1 → ⊥) → IsNearest (n .second) 1000 a
 
 -- ---- what instructions need
 
@@ -77,17 +77,17 @@ abbrev pub modeOn : Core → Type 0
 modeOn c = c .carriage .polygon .mode ≡ true
 
 -- "P1 and P2 must be within −32768 to 32767 and differ in x and in y"
-pub record Corners (p q : Point) : Type 0 where
+pub record GoodCorners (p q : Point) : Type 0 where
   pub p1 : Short p
   pub p2 : Short q
   pub x : p .x ≡ q .x → ⊥
   pub y : p .y ≡ q .y → ⊥
 
 -- "PM1 or PM2 outside, PM0 inside: 3", and so is any other number
-pub data Mode (on : Bool) : ℤ → Type 0 where
-  begins : on ≡ false → Mode on (pos 0)
-  ends : on ≡ true → Mode on (pos 1)
-  leaves : on ≡ true → Mode on (pos 2)
+pub data Allows (on : Bool) : ℤ → Type 0 where
+  begins : on ≡ false → Allows on (pos 0)
+  ends : on ≡ true → Allows on (pos 1)
+  leaves : on ≡ true → Allows on (pos 2)
 
 -- "first adding its first point if the last differs in location .. (to an empty one nothing is added)": what `closes` decides
 pub record Closing (c : Core) : Type 0 where
@@ -112,12 +112,12 @@ abbrev pub Judged : {op : ℕ} → Instruction op → Core → Numbers → ℕ �
 Judged IN c n t = t ≡ 0
 Judged DF c n t = t ≡ 0
 Judged EP c n t = t ≡ 0
-Judged IP c n t = Needs (Corners (newP1 c n) (newP2 c n)) 3 t (t ≡ 0)
+Judged IP c n t = Needs (GoodCorners (newP1 c n) (newP2 c n)) 3 t (t ≡ 0)
 Judged SC c n t = Needs ((n .count ≡ 0 → ⊥) → (n .first ≡ n .second → ⊥) × (n .third ≡ n .fourth → ⊥)) 3 t (t ≡ 0)
 Judged IW c n t = Needs ((n .count ≡ 0 → ⊥) → InRange (firstCorner c n) × InRange (secondCorner c n)) 3 t (t ≡ 0)
 Judged RO c n t = (k : ℤ) → Asked n k → Needs ((k ≡ pos 0) ⊎ (k ≡ pos 90)) 3 t (t ≡ 0)
 Judged SP c n t = (k : ℤ) → Asked n k → Needs (Between (pos 0) k (pos 8)) 3 t (t ≡ 0)
-Judged PM c n t = (k : ℤ) → Asked n k → Needs (Mode (c .carriage .polygon .mode) k) 3 t (Needs (Fits c k) 7 t (t ≡ 0))
+Judged PM c n t = (k : ℤ) → Asked n k → Needs (Allows (c .carriage .polygon .mode) k) 3 t (Needs (Fits c k) 7 t (t ≡ 0))
 Judged CI c n t = (a : ℤ) → Angle n a → Needs (Between (pos 5) a (pos 1200)) 3 t (Needs (FourPoints c (n .first)) 6 t (t ≡ 0))
 Judged EA c n t = Needs (InRange (location (c .settings) (absolutePosition (c .settings) (record { x = n .first; y = n .second })))) 6 t (t ≡ 0)
 Judged ER c n t = Needs (InRange (location (c .settings) (relativePosition (c .carriage .position) (record { x = n .first; y = n .second })))) 6 t (t ≡ 0)
@@ -128,17 +128,17 @@ Judged PR c n t = t ≡ 0
 
 -- ---- the number t of any event
 
-abbrev pub Number : {e : Event} → Happens e → Core → ℕ → Type 0
-Number nothing c t = t ≡ 0
-Number (name i) c t = Needs (modeOn c → Known i) 1 t (t ≡ 0)
-Number (pair n) c t = Needs (InRange (location (c .settings) (target c n))) 6 t (Needs (modeOn c → bytes c + pointBytes c ≤ 1024) 7 t (t ≡ 0))
-Number (end i n) c t = Judged i c n t
-Number (refusal k) c t = t ≡ k
+abbrev pub Numbered : {e : Event} → Happens e → Core → ℕ → Type 0
+Numbered nothing c t = t ≡ 0
+Numbered (name i) c t = Needs (modeOn c → Known i) 1 t (t ≡ 0)
+Numbered (pair n) c t = Needs (InRange (location (c .settings) (target c n))) 6 t (Needs (modeOn c → bytes c + pointBytes c ≤ 1024) 7 t (t ≡ 0))
+Numbered (end i n) c t = Judged i c n t
+Numbered (refusal k) c t = t ≡ k
 
 -- ---- fresh
 
 -- "hard limits left, bottom, right, top, each −32768 to 32767, left < right, bottom < top"
-pub record Limits (r : Rect) : Type 0 where
+pub record GoodLimits (r : Rect) : Type 0 where
   pub left : Between (negℤ (pos 32768)) (r .left) (pos 32767)
   pub bottom : Between (negℤ (pos 32768)) (r .bottom) (pos 32767)
   pub right : Between (negℤ (pos 32768)) (r .right) (pos 32767)

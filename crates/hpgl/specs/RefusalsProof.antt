@@ -33,7 +33,7 @@ use Rattle.hpgl.specs.Machine.{rect, goodLimits, hardLimits, freshNumber
 use Rattle.hpgl.specs.Related.{Sound}
 use Rattle.hpgl.specs.Instruction.{Instruction, IN, DF, EP, IP, SC, IW, RO, SP, PM, CI, EA, ER, PU, PD, PA, PR}
 use Rattle.hpgl.specs.Effects.{asked, newP1, newP2, firstCorner, secondCorner, target, pointBytes, closingBytes, bytes, Happens, nothing, name, pair, end, refusal}
-use Rattle.hpgl.specs.Refusals.{Needs, Between, InRange, Nearest, Asked, Angle, Known, modeOn, Corners, Mode, begins, ends, leaves, Closing, Fits, pointAt, FourPoints, Judged, Number, Limits}
+use Rattle.hpgl.specs.Refusals.{Needs, Between, InRange, IsNearest, Asked, Angle, Known, modeOn, GoodCorners, Allows, begins, ends, leaves, Closing, Fits, pointAt, FourPoints, Judged, Numbered, GoodLimits}
 
 -- ---- tests
 
@@ -123,10 +123,10 @@ module _ (n d q : ℤ) where
   high-half : pos 2 *ℤ n <ᶻ d *ℤ (pos 2 *ℤ q +ℤ pos 1) → pos 2 *ℤ n +ℤ d <ᶻ pos 2 *ℤ d *ℤ (q +ℤ pos 1)
   high-half = rw (is n, is d, is q) (simp Z (omega arith))
 
-nearest-is : (n : ℤ) (w : ℕ) → 0 < w → Nearest n w (nearestDiv n (pos w))
+nearest-is : (n : ℤ) (w : ℕ) → 0 < w → IsNearest n w (nearestDiv n (pos w))
 nearest-is n w h = let l = nearest-law n (pos w) (omega (arith, ord)) in record { least = half-low n (pos w) (nearestDiv n (pos w)) (l .0); most = half-high n (pos w) (nearestDiv n (pos w)) (l .1) }
 
-nearest-one : (n : ℤ) (w : ℕ) (k : ℤ) → 0 < w → Nearest n w k → k ≡ nearestDiv n (pos w)
+nearest-one : (n : ℤ) (w : ℕ) (k : ℤ) → 0 < w → IsNearest n w k → k ≡ nearestDiv n (pos w)
 nearest-one n w k h r = nearest-only n (pos w) k (omega (arith, ord)) (low-half n (pos w) k (r .least)) (high-half n (pos w) k (r .most))
 
 -- what RO, SP and PM are asked for
@@ -197,7 +197,7 @@ refuses true k x y w e f = record { met = λ p. absurd (w .no refl p); unmet = �
 refuses false k x y w e f = record { met = λ p. f; unmet = λ u. absurd (u (w .yes refl)) }
 
 module _ (c : Core) where
-  judged-name : {op : ℕ} (i : Instruction op) → Number (name i) c (nameRule c op .number)
+  judged-name : {op : ℕ} (i : Instruction op) → Numbered (name i) c (nameRule c op .number)
   unfolding nameRule done refuse
   judged-name {op} i = refuses (c .carriage .polygon .mode && not (knownInPolygon op)) 1 _ _ (in-mode (known i)) refl refl
 
@@ -212,7 +212,7 @@ module _ (c : Core) where
   unfolding moveTo done
   judged-move n m = record { met = λ p. refl; unmet = λ u. absurd (u (λ e. absurd (true≢false (sym e ∙ m)))) }
 
-  judged-pair : (n : Coordinates) → Number (pair n) c (pairRule c n .number)
+  judged-pair : (n : Coordinates) → Numbered (pair n) c (pairRule c n .number)
   unfolding pairRule goTo aimed refuse
   judged-pair n =
       needs (inRange (location (c .settings) (target c n))) 6 _ _ (λ (t : ℕ). Needs (modeOn c → bytes c + pointBytes c ≤ 1024) 7 t (t ≡ 0)) (range-tells _) refl
@@ -220,7 +220,7 @@ module _ (c : Core) where
 
   -- ---- settings
 
-  corners-tell : (p q : Point) → Tells (goodCorners p q) (Corners p q)
+  corners-tell : (p q : Point) → Tells (goodCorners p q) (GoodCorners p q)
   unfolding goodCorners
   corners-tell p q =
       alike
@@ -229,7 +229,7 @@ module _ (c : Core) where
       (both (both (both (both (both (short-tells (p .x)) (short-tells (p .y))) (short-tells (q .x))) (short-tells (q .y))) (opposite (same-tells (p .x) (q .x)))) (opposite (same-tells (p .y) (q .y))))
 
   abbrev Cornered : Point → Point → Acted → Type 0
-  Cornered p q t = Needs (Corners p q) 3 (t .number) (t .number ≡ 0)
+  Cornered p q t = Needs (GoodCorners p q) 3 (t .number) (t .number ≡ 0)
 
   judged-corners : (p q : Point) → Cornered p q (setCorners c p q)
   unfolding setCorners done refuse
@@ -307,22 +307,22 @@ module _ (c : Core) where
   on = c .carriage .polygon .mode
 
   abbrev Moded : ℤ → Acted → Type 0
-  Moded k t = Needs (Mode on k) 3 (t .number) (Needs (Fits c k) 7 (t .number) (t .number ≡ 0))
+  Moded k t = Needs (Allows on k) 3 (t .number) (Needs (Fits c k) 7 (t .number) (t .number ≡ 0))
 
-  zero-off : Mode on (pos 0) → on ≡ false
+  zero-off : Allows on (pos 0) → on ≡ false
   zero-off (begins e) = e
 
-  one-on : Mode on (pos 1) → on ≡ true
+  one-on : Allows on (pos 1) → on ≡ true
   one-on (ends e) = e
 
-  two-on : Mode on (pos 2) → on ≡ true
+  two-on : Allows on (pos 2) → on ≡ true
   two-on (leaves e) = e
 
   -- a number of PM where the mode forbids it
-  forbidden : (k : ℤ) (t : Acted) → (Mode on k → ⊥) → t .number ≡ 3 → Moded k t
+  forbidden : (k : ℤ) (t : Acted) → (Allows on k → ⊥) → t .number ≡ 3 → Moded k t
   forbidden k t f e = record { met = λ m. absurd (f m); unmet = λ u. e }
 
-  allowed : (k : ℤ) (t : Acted) → Mode on k → Needs (Fits c k) 7 (t .number) (t .number ≡ 0) → Moded k t
+  allowed : (k : ℤ) (t : Acted) → Allows on k → Needs (Fits c k) 7 (t .number) (t .number ≡ 0) → Moded k t
   allowed k t m h = record { met = λ m. h; unmet = λ u. absurd (u m) }
 
   fits-0 : Fits c (pos 0)
@@ -391,7 +391,7 @@ module _ (c : Core) where
   unfolding pmRule refuse
   judged-pm n = by (eqb (n .count) 0) (rounded (n .first))
     where
-      none : (k : ℤ) → (k ≡ pos 0 → ⊥) → (k ≡ pos 1 → ⊥) → (k ≡ pos 2 → ⊥) → Mode on k → ⊥
+      none : (k : ℤ) → (k ≡ pos 0 → ⊥) → (k ≡ pos 1 → ⊥) → (k ≡ pos 2 → ⊥) → Allows on k → ⊥
       none k u v w (begins e) = u refl
       none k u v w (ends e) = v refl
       none k u v w (leaves e) = w refl
@@ -482,7 +482,7 @@ module _ (c : Core) where
     judged-end PR n = refl
 
 -- the number of every event
-pub judged : (c : Core) {e : Event} (k : Happens e) → Sound (c .settings) → Number k c (actOn c e .number)
+pub judged : (c : Core) {e : Event} (k : Happens e) → Sound (c .settings) → Numbered k c (actOn c e .number)
 unfolding actOn done refuse
 judged c nothing w = refl
 judged c (name i) w = judged-name c i
@@ -491,7 +491,7 @@ judged c (end i n) w = judged-end c w i n
 judged c (refusal k) w = refl
 
 -- the number of fresh
-limits-tell : (r : Rect) → Tells (goodLimits r) (Limits r)
+limits-tell : (r : Rect) → Tells (goodLimits r) (GoodLimits r)
 unfolding goodLimits
 limits-tell r =
     alike
@@ -499,19 +499,19 @@ limits-tell r =
     (λ h. (((((h .left, h .bottom), h .right), h .top), h .wide), h .high))
     (both (both (both (both (both (short-tells (r .left)) (short-tells (r .bottom))) (short-tells (r .right))) (short-tells (r .top))) (lt-tells (r .left) (r .right))) (lt-tells (r .bottom) (r .top)))
 
-pub fresh-judged : (r : Rect) → Needs (Limits r) 10 (freshNumber r) (freshNumber r ≡ 0)
+pub fresh-judged : (r : Rect) → Needs (GoodLimits r) 10 (freshNumber r) (freshNumber r ≡ 0)
 unfolding freshNumber
 fresh-judged r = by (goodLimits r) (limits-tell r)
   where
-    by : (b : Bool) → Tells b (Limits r) → Needs (Limits r) 10 (cond b 0 badLimits) (cond b 0 badLimits ≡ 0)
+    by : (b : Bool) → Tells b (GoodLimits r) → Needs (GoodLimits r) 10 (cond b 0 badLimits) (cond b 0 badLimits ≡ 0)
     by true w = record { met = λ p. refl; unmet = λ u. absurd (u (w .yes refl)) }
     by false w = record { met = λ p. absurd (w .no refl p); unmet = λ u. refl }
 
 -- "bad hard limits: 10, fresh machine with limits 0,0,1,1"
-pub fresh-limits : (r : Rect) → (Limits r → hardLimits r ≡ r) × ((Limits r → ⊥) → hardLimits r ≡ rect (pos 0) (pos 0) (pos 1) (pos 1))
+pub fresh-limits : (r : Rect) → (GoodLimits r → hardLimits r ≡ r) × ((GoodLimits r → ⊥) → hardLimits r ≡ rect (pos 0) (pos 0) (pos 1) (pos 1))
 unfolding hardLimits
 fresh-limits r = by (goodLimits r) (limits-tell r)
   where
-    by : (b : Bool) → Tells b (Limits r) → let h = cond b r (rect (pos 0) (pos 0) (pos 1) (pos 1)) in (Limits r → h ≡ r) × ((Limits r → ⊥) → h ≡ rect (pos 0) (pos 0) (pos 1) (pos 1))
+    by : (b : Bool) → Tells b (GoodLimits r) → let h = cond b r (rect (pos 0) (pos 0) (pos 1) (pos 1)) in (GoodLimits r → h ≡ r) × ((GoodLimits r → ⊥) → h ≡ rect (pos 0) (pos 0) (pos 1) (pos 1))
     by true w = ((λ p. refl), λ u. absurd (u (w .yes refl)))
     by false w = ((λ p. absurd (w .no refl p)), λ u. refl)

@@ -26,9 +26,9 @@ use Rattle.hpgl.specs.ValidKept.{made-valid}
 use Rattle.hpgl.specs.ReaderKept.{step-event}
 use Rattle.hpgl.specs.Related.{Sound}
 use Rattle.hpgl.specs.Instruction.{instruction}
-use Rattle.hpgl.specs.Effects.{Happens, nothing, name, pair, end, refusal, changed}
+use Rattle.hpgl.specs.Effects.{Happens, nothing, name, pair, end, refusal, changedBy}
 use Rattle.hpgl.specs.EffectsProof.{obeyed}
-use Rattle.hpgl.specs.Refusals.{Needs, Number, Limits}
+use Rattle.hpgl.specs.Refusals.{Needs, Numbered, GoodLimits}
 use Rattle.hpgl.specs.RefusalsProof.{judged, fresh-judged, fresh-limits}
 
 -- ---- Take
@@ -38,10 +38,10 @@ pub record Does (m : State) (b : ℕ) : Type 0 where
   pub busy : (waiting (m .work) ≡ 0 → ⊥) → (takeNumber m b ≡ 20) × (takeState m b ≡ m)
   -- what the byte means
   pub event : Happens (stepOf (m .reader) b .event)
-  pub number : waiting (m .work) ≡ 0 → Number event (m .core) (takeNumber m b)
+  pub number : waiting (m .work) ≡ 0 → Numbered event (m .core) (takeNumber m b)
   -- "After a refusal the rest is passed over"
   pub reader : waiting (m .work) ≡ 0 → takeState m b .reader ≡ cond (eqb (takeNumber m b) 0) (stepOf (m .reader) b .reader) (passedOver (stepOf (m .reader) b .reader))
-  pub core : waiting (m .work) ≡ 0 → let d = takeState m b .core in d ≡ changed event (m .core) (takeNumber m b) (d .carriage .polygon)
+  pub core : waiting (m .work) ≡ 0 → let d = takeState m b .core in d ≡ changedBy event (m .core) (takeNumber m b) (d .carriage .polygon)
 
 -- an event that the reader gives is one of the sixteen's
 of-sixteen : (c : Core) (e : Event) → ValidEvent c e → Happens e
@@ -74,7 +74,7 @@ take-does m h b = record {
 -- ---- Fresh
 
 -- "Fresh: page point (0,0), pen up, pen 0, absolute mode, P1 left-bottom, P2 right-top, scaling off, RO 0, no window, polygon empty"
-pub record Begins (r : Rect) (c : Core) : Type 0 where
+pub record AsFresh (r : Rect) (c : Core) : Type 0 where
   pub hard : c .settings .hard ≡ r
   pub position : c .carriage .position ≡ restAt (point (pos 0) (pos 0))
   pub up : c .carriage .pen .down ≡ false
@@ -89,15 +89,15 @@ pub record Begins (r : Rect) (c : Core) : Type 0 where
   pub bytes : c .carriage .polygon .bytes ≡ 0
   pub edges : c .carriage .polygon .edges ≡ 0
 
-pub record Fresh (r : Rect) : Type 0 where
+pub record FreshCall (r : Rect) : Type 0 where
   -- "each −32768 to 32767, left < right, bottom < top", else 10
-  pub number : Needs (Limits r) 10 (freshNumber r) (freshNumber r ≡ 0)
-  pub good : Limits r → Begins r (freshState r .core)
+  pub number : Needs (GoodLimits r) 10 (freshNumber r) (freshNumber r ≡ 0)
+  pub good : GoodLimits r → AsFresh r (freshState r .core)
   -- "bad hard limits: 10, fresh machine with limits 0,0,1,1"
-  pub bad : (Limits r → ⊥) → Begins (rect (pos 0) (pos 0) (pos 1) (pos 1)) (freshState r .core)
+  pub bad : (GoodLimits r → ⊥) → AsFresh (rect (pos 0) (pos 0) (pos 1) (pos 1)) (freshState r .core)
   pub idle : waiting (freshState r .work) ≡ 0
 
-begins : (hard : Rect) → Begins hard (freshCore hard)
+begins : (hard : Rect) → AsFresh hard (freshCore hard)
 unfolding freshCore freshSettings freshCarriage noPolygon
 begins hard = record {
   hard = refl;
@@ -115,7 +115,7 @@ begins hard = record {
   edges = refl;
 }
 
-pub fresh-is : (r : Rect) → Fresh r
+pub fresh-is : (r : Rect) → FreshCall r
 unfolding freshState waiting
 fresh-is r = record {
   number = fresh-judged r;
