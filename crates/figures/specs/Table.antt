@@ -606,7 +606,8 @@ polygonCosts =
 
 -- "polygon bytes 7": 1024 fit. PM0, its point, seven PM1 and 110 points are 1015: PM1 with its point would be 1026 and "is refused together", a point
 -- with a new pen would be 1026 too, and PA2,0 fits; then PA3,0 is 7, PA201,0 is 6 as well, PM1 is 7, and PM2, 7, "still ends, open": EP has the 110 edges between 111 points, all reached pen up. PM2 with its point is 1024.
--- With one PM1 less there are 1013 bytes, PM1 with its point is 1024, PM1 without one 1026, and PM2 asks for none; or 1022 with a last point that is the first, and PM1 is 1024
+-- With one PM1 less there are 1013 bytes, PM1 with its point is 1024, PM1 without one 1026, and PM2 asks for none; or 1022 with a last point that is the first, and PM1 is 1024.
+-- 1025 do not fit: a point or PM2 after 1016 bytes, PM1 with its point after 1014, PM1 without one after 1023
 abbrev fullPolygons : List Row
 fullPolygons =
     filled "SP1;IP0,0,5000,1;SC0,1,0,1;PM;PM1;PM1;PM1;PM1;PM1;PM1;PM1;PA0,0," ";PM1;PD2,0;PU;PA2,0;PA3,0;PA201,0;PM1;PM2;EP;"
@@ -614,6 +615,8 @@ fullPolygons =
     filled "SP1;PM;PM1;PM1;PM1;PM1;PM1;PM1;PM1;PA0,0," ";PM2;EP;" (replicate 110 hidden ++ (up 0 0 1 1024 ∷ [])) ∷
     filled "SP1;PM;PM1;PM1;PM1;PM1;PM1;PM1;PA0,0," ";PM1;PM1;PM2;EP;" (refused 7 482 ∷ replicate 110 hidden ++ (up 0 0 1 1024 ∷ [])) ∷
     filled "PM;PM1;PM1;PM1;PM1;PM1;PM1;PA0,0," "0,0;PM1;PM1;" (refused 7 481 ∷ up 0 0 0 1024 ∷ []) ∷
+    filled "PM;PM1;PM1;PM1;PA0,0," "1,0;PA2,0;PM2;" (refused 7 467 ∷ refused 7 471 ∷ up 0 0 0 1016 ∷ []) ∷
+    filled "PM;PM1;PM1;PA0,0," "1,0;PM1;PA0,0;PM1;" (refused 7 461 ∷ refused 7 471 ∷ up 0 0 0 1023 ∷ []) ∷
     []
 
 -- "EP, with pen up or down, queues, for each two neighbours of a subpolygon, a segment; it is hidden if the second was reached pen up"; "EP turns them by the turn then in force"; "Pen 0 queues nothing"
