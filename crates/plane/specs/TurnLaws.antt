@@ -24,13 +24,6 @@ pub data Quarter : ℤ → ℤ → ℤ → ℤ → Type 0 where
   two : Quarter (negsuc 0) (pos 0) (pos 0) (negsuc 0)
   three : Quarter (pos 0) (pos 1) (negsuc 0) (pos 0)
 
--- each turn's table is one
-pub quarter : (t : ℕ) → t < turnCount → Quarter (turnOf t 0 0) (turnOf t 0 1) (turnOf t 1 0) (turnOf t 1 1)
-unfolding turnOf turns
-quarter zero h = none
-quarter (suc zero) h = one
-quarter (suc (suc t)) h = absurd (omega arith)
-
 abbrev pub row-x : {a b c d : ℤ} → Quarter a b c d → Row a b
 row-x none = east
 row-x one = south
@@ -75,6 +68,13 @@ turned-quarter p = λ i. record { x = coord-is south (p .x) (p .y) i; y = coord-
 pub turned-none : (p : Point) → turnedOf p 0 ≡ p
 unfolding turnedOf turnOf turns
 turned-none p = λ i. record { x = coord-is east (p .x) (p .y) i; y = coord-is north (p .x) (p .y) i }
+
+-- each turn's table is made of such rows
+pub quarter : (t : ℕ) → t < turnCount → Quarter (turnOf t 0 0) (turnOf t 0 1) (turnOf t 1 0) (turnOf t 1 1)
+unfolding turnOf turns
+quarter zero h = none
+quarter (suc zero) h = one
+quarter (suc (suc t)) h = absurd (omega arith)
 
 -- ---- back after forth, and forth after back
 back-x : {a b c d : ℤ} → Quarter a b c d → (x y : ℤ) → alongOf a c (alongOf a b x y) (alongOf c d x y) ≡ x
