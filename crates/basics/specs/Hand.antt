@@ -2,13 +2,10 @@
 -- a pair does is said by Rules.antt of hpgl alone; here are the parts, put together, and what follows for them.
 use mathlib.Core.Path.{_≡_, refl, ap, _∙_}
 use mathlib.Core.Bool.{Bool, true, false, cond, not, _&&_}
-use Prim.Native.Nat.{ℕ, _≤_}
-use native.Mathlib.Omega.{arith}
+use Prim.Native.Nat.{ℕ}
 use lib.Dec.{eqb}
-use borrow.Author.Tests.{ne-eqb}
 use Rattle.clip.specs.declared.Point.{Point}
-use Rattle.reader.specs.declared.Numbers.{Numbers}
-use Rattle.mnemonics.specs.Table.{IN, DF, EP, IP, SC, IW, RO, SP, PM, CI, EA, ER, PU, knownInPolygon}
+use Rattle.mnemonics.specs.Table.{knownInPolygon}
 use Rattle.plane.specs.Position.{locationOf}
 use Rattle.plane.specs.Turn.{rowsOf, turnedBy}
 use Rattle.plane.specs.TurnLaws.{by-rows}
@@ -24,7 +21,7 @@ use Rattle.hpgl.specs.declared.Segment.{Segment}
 use Rattle.hpgl.specs.declared.Segment.the-variants as segment
 use Rattle.hpgl.specs.Numbers.{unknown}
 use Rattle.hpgl.specs.Place.{point, axisX, axisY, location, pagePoint, limits}
-use Rattle.hpgl.specs.Rules.{done, refuse, letters, nameRule, longer, endRule}
+use Rattle.hpgl.specs.Rules.{done, refuse, letters, nameRule, longer}
 use Rattle.hpgl.specs.Valid.{ValidCore}
 use Rattle.basics.specs.declared.places.Frame.{Frame}
 use Rattle.basics.specs.declared.hand.Hand.{Hand}
@@ -110,23 +107,3 @@ name-parts s h g op = go (g .mode && not (knownInPolygon op)) (done (record { se
     go false r = refl
 
 -- ---- ends
-
--- PU, PD, PA and PR, the last of the table, have done their work when they end
-pub pairs-end : (c : Core) (op : ℕ) (n : Numbers) → PU ≤ op → endRule c op n ≡ done c Keep
-unfolding endRule
-pairs-end c op n h =
-    rw (
-      ne-eqb op IN (λ e. omega arith),
-      ne-eqb op DF (λ e. omega arith),
-      ne-eqb op EP (λ e. omega arith),
-      ne-eqb op IP (λ e. omega arith),
-      ne-eqb op SC (λ e. omega arith),
-      ne-eqb op IW (λ e. omega arith),
-      ne-eqb op RO (λ e. omega arith),
-      ne-eqb op SP (λ e. omega arith),
-      ne-eqb op PM (λ e. omega arith),
-      ne-eqb op CI (λ e. omega arith),
-      ne-eqb op EA (λ e. omega arith),
-      ne-eqb op ER (λ e. omega arith),
-    )
-    refl

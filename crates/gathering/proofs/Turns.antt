@@ -29,7 +29,8 @@ use Rattle.hpgl.specs.Machine.{waiting, stored, queued, readerAfter, applied, a
 use Rattle.hpgl.specs.Valid.{Valid}
 use Rattle.hpgl.specs.ValidKept.{valid-take}
 use Rattle.basics.specs.declared.hand.Hand.{Hand}
-use Rattle.basics.specs.Hand.{carriageOf, coreOf, nameNumber, name-parts, pairs-end}
+use Rattle.hpgl.specs.Ends.{pairs-end}
+use Rattle.basics.specs.Hand.{carriageOf, coreOf, nameNumber, name-parts}
 use Rattle.gathering.specs.Gather.{whole}
 
 -- what the calls of one turn gave: the step of the reader, what the core did, and the parts of the next machine

@@ -26,6 +26,7 @@ pub mod SegmentsLocated
 pub mod OpenInstruction
 pub mod Condition3Proof
 pub mod Instruction
+pub mod Ends
 pub mod Effects
 pub mod EffectsProof
 pub mod Refusals

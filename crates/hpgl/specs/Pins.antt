@@ -5,7 +5,7 @@ use mathlib.Core.Logic.{_⊎_, inl, inr}
 use mathlib.Core.Bool.{Bool, true, false, cond, not, _&&_}
 use Prim.Native.Nat.{ℕ, zero, suc, _+_, _≤_}
 use native.Mathlib.Omega.{arith}
-use borrow.Author.Tests.{eqb-true, ne-eqb}
+use borrow.Author.Tests.{ne-eqb}
 use lib.Dec.{T, leb, leb→le, eqb}
 use lib.IntN.{pos}
 use Rattle.exact.specs.Whole.{_≡?_, _≤?_, ≡?-true}
@@ -33,6 +33,9 @@ use Rattle.hpgl.specs.declared.Work.the-variants as work
 use Rattle.hpgl.specs.declared.State.{State}
 use Rattle.hpgl.specs.Numbers.{unknown, outOfRange, tooFar, polygonFull, busy, polygonBytes, modeBytes, pointBytes, mostPen, quarterAngle, leastAngle}
 use Rattle.hpgl.specs.Place.{rounded, location, inRange, absolutePosition, relativePosition}
+use Rattle.hpgl.specs.Instruction as ins
+use Rattle.hpgl.specs.Instruction.{Instruction}
+use Rattle.hpgl.specs.Ends.{by-end}
 use Rattle.hpgl.specs.Rules.{done, refuse, nameRule, inRule, dfRule, goodCorners, setCorners, ipRule, scRule, setTurn, roRule, setWindow, iwRule, setPen, spRule, moveTo, pointCost, storePoint, aimed, goTo, pairRule, pm0, closes, ended, pm1In, pm1, leave, pm2In, pm2, pmRule, epRule, rectangleTo, firstTwo, eaRule, erRule, circleFits, circleWith, chordAngle, ciRule, endRule, actOn}
 use Rattle.hpgl.specs.Machine.{waiting, stored, queued, readerAfter, applied, acted, takeState, takeNumber}
 
@@ -200,26 +203,27 @@ module _ (c : Core) (e : Event) where
     pin-ci =
         pick (Pinned c e) ((pos leastAngle ≤? chordAngle n) && (chordAngle n ≤? pos mostAngle)) (pick (Pinned c e) (circleFits c (n .first)) (carries c _ refl) (refuses far)) (refuses range)
 
-    -- the instruction k changes settings
-    changing : (k : ℕ) → changesSettings k ≡ true → op ≡ k → changesSettings op ≡ true
-    changing k h q = ap changesSettings q ∙ h
+  pin-each : (n : Numbers) {op : ℕ} → Instruction op → e ≡ Ended op n → Pinned c e (endRule c op n)
+  unfolding endRule changesSettings cellOf epRule eaRule erRule
+  pin-each n ins.IN is = pin-in IN n is refl
+  pin-each n ins.DF is = pin-df DF n is refl
+  pin-each n ins.EP is = pin-ep EP n is
+  pin-each n ins.IP is = pin-ip IP n is refl
+  pin-each n ins.SC is = pin-sc SC n is refl
+  pin-each n ins.IW is = pin-iw IW n is refl
+  pin-each n ins.RO is = pin-ro RO n is refl
+  pin-each n ins.SP is = pin-sp SP n is
+  pin-each n ins.PM is = pin-pm PM n is refl
+  pin-each n ins.CI is = pin-ci CI n is
+  pin-each n ins.EA is = pin-rectangle EA n is (absolutePosition (c .settings) (firstTwo n))
+  pin-each n ins.ER is = pin-rectangle ER n is (relativePosition (c .carriage .position) (firstTwo n))
+  pin-each n ins.PU is = carries c Keep refl
+  pin-each n ins.PD is = carries c Keep refl
+  pin-each n ins.PA is = carries c Keep refl
+  pin-each n ins.PR is = carries c Keep refl
 
-    pin-end : Pinned c e (endRule c op n)
-    unfolding endRule changesSettings cellOf eaRule erRule
-    pin-end =
-        when (eqb op IN) (λ h. pin-in (changing IN refl (eqb-true op IN h)))
-        (when (eqb op DF) (λ h. pin-df (changing DF refl (eqb-true op DF h)))
-        (pick (Pinned c e) (eqb op EP) pin-ep
-        (when (eqb op IP) (λ h. pin-ip (changing IP refl (eqb-true op IP h)))
-        (when (eqb op SC) (λ h. pin-sc (changing SC refl (eqb-true op SC h)))
-        (when (eqb op IW) (λ h. pin-iw (changing IW refl (eqb-true op IW h)))
-        (when (eqb op RO) (λ h. pin-ro (changing RO refl (eqb-true op RO h)))
-        (pick (Pinned c e) (eqb op SP) pin-sp
-        (when (eqb op PM) (λ h. pin-pm (eqb-true op PM h))
-        (pick (Pinned c e) (eqb op CI) pin-ci
-        (pick (Pinned c e) (eqb op EA) (pin-rectangle (absolutePosition (c .settings) (firstTwo n)))
-        (pick (Pinned c e) (eqb op ER) (pin-rectangle (relativePosition (c .carriage .position) (firstTwo n)))
-        (carries c Keep refl))))))))))))
+  pin-end : (op : ℕ) (n : Numbers) → e ≡ Ended op n → Pinned c e (endRule c op n)
+  pin-end op n = by-end c n (λ (op : ℕ) (t : Acted). e ≡ Ended op n → Pinned c e t) (λ o i. pin-each n i) (λ op h is. carries c Keep refl) op
 
 pub pinned : (c : Core) (e : Event) → Pinned c e (actOn c e)
 unfolding actOn

@@ -105,9 +105,10 @@ unfoldable pub onPage : List ExactSegment → List PageSegment
 onPage [] = []
 onPage (g ∷ gs) = record { start = g .start; end = g .end; shown = g .owed } ∷ onPage gs
 
--- located within a half of the exact ends, with the pen in hand
+-- located within a half of the exact ends, with the pen in hand, which has paint
 pub record Located (pen : ℕ) (g : ExactSegment) : Type 0 where
   pub number : g .pen ≡ pen
+  pub ink : pen ≡ 0 → ⊥
   pub from : RoundsTo (g .from) (g .start)
   pub to : RoundsTo (g .to) (g .end)
 

@@ -5,7 +5,7 @@ use mathlib.Core.Bool.{Bool, true, false, cond, not, _&&_}
 use mathlib.Core.List.{List, [], _∷_}
 use Prim.Native.Nat.{ℕ, zero, suc, _+_, _*_, _≤_, _<_}
 use native.Mathlib.Omega.{arith}
-use borrow.Author.Tests.{leb-true, eqb-true}
+use borrow.Author.Tests.{leb-true, ne-eqb}
 use lib.Dec.{leb, eqb}
 use lib.IntN.{ℤ, pos, natAbs, _-ℤ_}
 use Rattle.exact.specs.Whole.{_≡?_, _≤?_, is, Z, ≡?-false}
@@ -16,7 +16,7 @@ use Rattle.reader.specs.declared.Coordinates.{Coordinates}
 use Rattle.reader.specs.declared.Numbers.{Numbers}
 use Rattle.reader.specs.declared.Event.{Event}
 use Rattle.reader.specs.declared.Event.the-variants.{Nothing, Named, Pair, Ended, Refused}
-use Rattle.mnemonics.specs.Table.{IN, DF, EP, IP, SC, IW, RO, SP, PM, CI, EA, ER, PU, PD, PA, PR, cellOf, knownInPolygon}
+use Rattle.mnemonics.specs.Table.{IN, DF, EP, IP, SC, IW, RO, SP, PM, CI, EA, ER, PU, PD, PA, PR, rows, cellOf, knownInPolygon}
 use Rattle.plane.specs.Bounds.{mostAngle}
 use Rattle.plane.specs.Position.{axisOf}
 use Rattle.plane.specs.Turn.{turnCount, turnedOf, orderedOf}
@@ -39,6 +39,9 @@ use Rattle.hpgl.specs.declared.Work.the-variants as work
 use Rattle.hpgl.specs.Numbers.{polygonBytes, modeBytes, pointBytes, mostPen, quarterAngle, leastAngle}
 use Rattle.hpgl.specs.Place.{point, rounded, axisX, axisY, exactPosition, location, inRange, absolutePosition, relativePosition, pagePoint}
 use Rattle.hpgl.specs.Change.{withPosition, withPen, withPolygon, withSettings, withCarriage, withCorners, withScale, withTurn, withWindow}
+use Rattle.hpgl.specs.Instruction as ins
+use Rattle.hpgl.specs.Instruction.{Instruction}
+use Rattle.hpgl.specs.Ends.{by-end}
 use Rattle.hpgl.specs.Rules.{done, refuse, unscaled, noWindow, freshSettings, noPolygon, freshCarriage, letters, nameRule, rebased, inRule, dfRule, goodCorners, setCorners, ipRule, scRule, setTurn, roRule, setWindow, iwRule, setPen, spRule, inked, spent, moveTo, pointCost, longer, edgeTo, storePoint, aimed, goTo, pairRule, begun, pm0, differ, closes, endedWith, ended, pm1In, pm1, leave, pm2In, pm2, pmRule, epRule, rectangular, rectangleTo, firstTwo, eaRule, erRule, circleFits, circle, circleWith, chordAngle, ciRule, endRule, actOn}
 use Rattle.hpgl.specs.Machine.{vertex, rectangleEdges, stored, queued}
 use Rattle.hpgl.specs.ExactModel.{ExactPolygon, ExactSegment, exactSegment, outline, vertexAt, chords, lastOf, rectangle, polygonMode, afterEnd, polygonAfter, inkedOnly, move, instructed, added}
@@ -484,51 +487,48 @@ module _ (c : Core) (es : List Edge) (g : ExactPolygon) (f : Fit (c .settings) (
 
   -- ---- every event
 
-  -- a row of endRule: the instruction k, or another
-  row : (op k : ℕ) {n : Numbers} {x y : Acted} → (op ≡ k → Keeps c es g (Ended k n) x) → (eqb op k ≡ false → Keeps c es g (Ended op n) y) →
-      Keeps c es g (Ended op n) (cond (eqb op k) x y)
-  row op k {n} {x} h r =
-      when (eqb op k)
-      (λ e. let q : op ≡ k = eqb-true op k e in
-      subst (λ (o : ℕ). Keeps c es g (Ended o n) x) (sym q) (h q))
-      r
-
   -- an instruction that is not known in polygon mode does not end there
-  outside : (op k : ℕ) → (c .carriage .polygon .mode ≡ true → knownInPolygon op ≡ true) → knownInPolygon k ≡ false → op ≡ k → c .carriage .polygon .mode ≡ false
-  outside op k known h q = go (c .carriage .polygon .mode) known
+  outside : (c .carriage .polygon .mode ≡ true → false ≡ true) → c .carriage .polygon .mode ≡ false
+  outside known = go (c .carriage .polygon .mode) known
     where
-      go : (m : Bool) → (m ≡ true → knownInPolygon op ≡ true) → m ≡ false
-      go true u = never (ap knownInPolygon q ∙ h) (u refl)
+      go : (m : Bool) → (m ≡ true → false ≡ true) → m ≡ false
+      go true u = never refl (u refl)
       go false u = refl
 
-  -- PU, PD, PA, PR have done their work
-  keeps-other : (op : ℕ) (n : Numbers) → eqb op IN ≡ false → eqb op EP ≡ false → eqb op PM ≡ false → eqb op CI ≡ false → eqb op EA ≡ false → eqb op ER ≡ false →
-      Keeps c es g (Ended op n) (done c Keep)
-  unfolding polygonAfter afterEnd added instructed
-  keeps-other op n i p m k a r = calm (Ended op n) c (rw (i, m, a, r) refl) (rw (i, m, a, r, p, k) refl) f l
+  Ends : Numbers → ℕ → Acted → Type 0
+  Ends n op t = (c .carriage .polygon .mode ≡ true → knownInPolygon op ≡ true) → Keeps c es g (Ended op n) t
 
-  keeps-end : (op : ℕ) (n : Numbers) → (c .carriage .polygon .mode ≡ true → knownInPolygon op ≡ true) → Keeps c es g (Ended op n) (endRule c op n)
-  unfolding endRule knownInPolygon cellOf
-  keeps-end op n known =
-      row op IN (λ q. keeps-in n)
-      (λ is-in. row op DF (λ q. keeps-df n (outside op DF known refl q))
-      (λ df. row op EP (λ q. keeps-ep n)
-      (λ ep. row op IP (λ q. keeps-ip n (outside op IP known refl q))
-      (λ ip. row op SC (λ q. keeps-sc n (outside op SC known refl q))
-      (λ sc. row op IW (λ q. keeps-iw n (outside op IW known refl q))
-      (λ iw. row op RO (λ q. keeps-ro n (outside op RO known refl q))
-      (λ ro. row op SP (λ q. keeps-sp n)
-      (λ sp. row op PM (λ q. keeps-pm n)
-      (λ pm. row op CI (λ q. keeps-ci n)
-      (λ ci. row op EA (λ q. keeps-ea n)
-      (λ ea. row op ER (λ q. keeps-er n)
-      (λ er. keeps-other op n is-in ep pm ci ea er))))))))))))
+  keeps-each : (n : Numbers) {op : ℕ} → Instruction op → Ends n op (endRule c op n)
+  unfolding Ends endRule knownInPolygon cellOf polygonAfter afterEnd added instructed
+  keeps-each n ins.IN known = keeps-in n
+  keeps-each n ins.DF known = keeps-df n (outside known)
+  keeps-each n ins.EP known = keeps-ep n
+  keeps-each n ins.IP known = keeps-ip n (outside known)
+  keeps-each n ins.SC known = keeps-sc n (outside known)
+  keeps-each n ins.IW known = keeps-iw n (outside known)
+  keeps-each n ins.RO known = keeps-ro n (outside known)
+  keeps-each n ins.SP known = keeps-sp n
+  keeps-each n ins.PM known = keeps-pm n
+  keeps-each n ins.CI known = keeps-ci n
+  keeps-each n ins.EA known = keeps-ea n
+  keeps-each n ins.ER known = keeps-er n
+  keeps-each n ins.PU known = calm (Ended PU n) c refl refl f l
+  keeps-each n ins.PD known = calm (Ended PD n) c refl refl f l
+  keeps-each n ins.PA known = calm (Ended PA n) c refl refl f l
+  keeps-each n ins.PR known = calm (Ended PR n) c refl refl f l
+
+  keeps-other : (n : Numbers) (op : ℕ) → rows ≤ op → Ends n op (done c Keep)
+  unfolding Ends polygonAfter afterEnd added instructed
+  keeps-other n op h known =
+      let no : (k : ℕ) → k < rows → eqb op k ≡ false = λ k s. ne-eqb op k (λ e. omega (arith, e, s, h)) in
+      calm (Ended op n) c (rw (no IN (omega arith), no PM (omega arith), no EA (omega arith), no ER (omega arith)) refl)
+      (rw (no EP (omega arith), no EA (omega arith), no ER (omega arith), no CI (omega arith)) refl) f l
 
   pub keeps : (e : Event) → ((op : ℕ) (n : Numbers) → e ≡ Ended op n → c .carriage .polygon .mode ≡ true → knownInPolygon op ≡ true) → Keeps c es g e (actOn c e)
-  unfolding actOn done refuse polygonAfter added
+  unfolding actOn done refuse polygonAfter added Ends
   keeps Nothing known = calm Nothing c refl refl f l
   keeps (Named op) known = keeps-name op
   keeps (Pair n) known = keeps-pair n
-  keeps (Ended op n) known = keeps-end op n (known op n refl)
+  keeps (Ended op n) known = by-end c n (Ends n) (λ o i. keeps-each n i) (keeps-other n) op (known op n refl)
   keeps (Refused zero) known = calm (Refused 0) c refl refl f l
   keeps (Refused (suc k)) known = refused (Refused (suc k)) k

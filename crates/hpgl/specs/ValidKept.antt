@@ -5,7 +5,6 @@ use mathlib.Core.Bool.{Bool, true, false}
 use mathlib.Core.List.{List}
 use Prim.Native.Nat.{ℕ, zero, suc, _≤_, _<_}
 use native.Mathlib.Omega.{arith}
-use borrow.Author.Tests.{eqb-true}
 use lib.Dec.{eqb}
 use lib.IntN.{ℤ, natAbs}
 use lib.ListN.{length, set, replicate, length-set, length-replicate}
@@ -27,6 +26,8 @@ use Rattle.hpgl.specs.declared.Work.{Work}
 use Rattle.hpgl.specs.declared.Work.the-variants as work
 use Rattle.hpgl.specs.declared.State.{State}
 use Rattle.hpgl.specs.Place.{point}
+use Rattle.hpgl.specs.Instruction as ins
+use Rattle.hpgl.specs.Instruction.{Instruction, instruction}
 use Rattle.hpgl.specs.Rules.{freshSettings, noPolygon, freshCarriage, freshCore, int16, endRule, actOn}
 use Rattle.hpgl.specs.Machine.{goodLimits, hardLimits, noEdge, freshState, waiting, rectangleEdges, stored, queued, applied, acted, takeState, workAfter, drawState}
 use Rattle.hpgl.specs.Numbers.{mostEdges}
@@ -44,27 +45,30 @@ use Rattle.hpgl.specs.ReaderKept.{step-event, known-after, readable-afte
 -- ---- every event
 
 -- an instruction that is not known in polygon mode ends outside it
-outside : {mode : Bool} (op k : ℕ) → knownInPolygon k ≡ false → eqb op k ≡ true → (mode ≡ true → knownInPolygon op ≡ true) → mode ≡ false
-outside op k h e w = unknown-outside (ap knownInPolygon (eqb-true op k e) ∙ h) w
+outside : {mode : Bool} → (mode ≡ true → false ≡ true) → mode ≡ false
+outside w = unknown-outside refl w
+
+valid-each : {c : Core} {n : Numbers} {op : ℕ} → ValidCore c → Instruction op → ValidEvent c (Ended op n) → ValidActed c (endRule c op n)
+unfolding endRule knownInPolygon cellOf
+valid-each {c} {n} w ins.IN h = valid-in w
+valid-each {c} {n} w ins.DF h = valid-df w (outside (h .1))
+valid-each {c} {n} w ins.EP h = valid-ep w
+valid-each {c} {n} w ins.IP h = valid-ip w (outside (h .1)) n
+valid-each {c} {n} w ins.SC h = valid-sc w (outside (h .1)) (h .0 .numbers)
+valid-each {c} {n} w ins.IW h = valid-iw w (outside (h .1)) n
+valid-each {c} {n} w ins.RO h = valid-ro w (outside (h .1)) n
+valid-each {c} {n} w ins.SP h = valid-sp n w
+valid-each {c} {n} w ins.PM h = valid-pm n w
+valid-each {c} {n} w ins.CI h = valid-ci w (h .0 .numbers)
+valid-each {c} {n} w ins.EA h = valid-ea w (h .0 .numbers)
+valid-each {c} {n} w ins.ER h = valid-er w (h .0 .numbers)
+valid-each {c} {n} w ins.PU h = keeps c c w
+valid-each {c} {n} w ins.PD h = keeps c c w
+valid-each {c} {n} w ins.PA h = keeps c c w
+valid-each {c} {n} w ins.PR h = keeps c c w
 
 pub valid-end : {c : Core} {op : ℕ} {n : Numbers} → ValidCore c → ValidEvent c (Ended op n) → ValidActed c (endRule c op n)
-unfolding endRule knownInPolygon cellOf
-valid-end {c} {op} {n} w h =
-    let P = ValidActed c in
-    let s = h .0 .numbers in
-    pick P (eqb op IN) (valid-in w)
-    (when P (eqb op DF) (λ e. valid-df w (outside op DF refl e (h .1)))
-    (λ e. pick P (eqb op EP) (valid-ep w)
-    (when P (eqb op IP) (λ e. valid-ip w (outside op IP refl e (h .1)) n)
-    (λ e. when P (eqb op SC) (λ e. valid-sc w (outside op SC refl e (h .1)) s)
-    (λ e. when P (eqb op IW) (λ e. valid-iw w (outside op IW refl e (h .1)) n)
-    (λ e. when P (eqb op RO) (λ e. valid-ro w (outside op RO refl e (h .1)) n)
-    (λ e. pick P (eqb op SP) (valid-sp n w)
-    (pick P (eqb op PM) (valid-pm n w)
-    (pick P (eqb op CI) (valid-ci w s)
-    (pick P (eqb op EA) (valid-ea w s)
-    (pick P (eqb op ER) (valid-er w s)
-    (keeps c c w))))))))))))
+valid-end {op} w h = valid-each w (instruction op (h .0 .listed)) h
 
 pub valid-event : {c : Core} (e : Event) → ValidCore c → ValidEvent c e → ValidActed c (actOn c e)
 unfolding actOn

@@ -15,7 +15,7 @@ use Rattle.hpgl.specs.Made.{Made, fresh}
 use Rattle.hpgl.specs.Plot.{plotFrom, numbersOf}
 use Rattle.hpgl.specs.Plot.{Plot as Marked}
 use Rattle.hpgl.specs.PlotLaws.{plot-place, plot-made}
-use Rattle.hpgl.specs.WhatMarksTell.{made-inked, plot-told}
+use Rattle.hpgl.specs.WhatMarksTell.{plot-told}
 use Rattle.machine.specs.declared.Machine.{Machine}
 use Rattle.machine.specs.declared.Started.{Started}
 use Rattle.machine.specs.Calls.{startedOf}
@@ -109,7 +109,7 @@ module _ (p : Plot) (block : List ℕ) (r : ℕ) (h : Ready p block) where
   pub marks-lines : (xs : List ℤ) → marksBelow (p .before) (numbersOf (got .marks) ++ xs) (length (got .marks)) ≡ markLines (p .before) (got .marks)
   marks-lines xs =
       numbers-lines (p .before) (length block) (h .count) xs (got .marks)
-      (plot-told (length block) (p .machine .state) (drop (p .at) block) (p .at) r (omega (arith, rest)) (made-inked (h .made)))
+      (plot-told (length block) (p .machine .state) (drop (p .at) block) (p .at) r (omega (arith, rest)) (λ i. rw getD-drop (h .bytes (p .at + i))) (h .made))
 
   -- what the code makes of it: there is more where the number is not 0
   pub steps : {q : Plot} {before after : List ℕ} (end : ℕ) → q ≡ movedOf p (plottedOf got) end (not (eqb (got .number) 0)) → 0 < r
