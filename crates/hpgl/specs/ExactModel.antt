@@ -86,7 +86,7 @@ allSides c (s ∷ ss) = sides c s ++ allSides c ss
 unfoldable pub outline : Core → ExactPolygon → List ExactSegment
 outline c g = allSides c (g .ended) ++ sides c (g .current)
 
--- "A circle's chords join its exact vertices": the chords from vertex i, n of them, of radius r and chord angle a about the position
+-- vertex i of a circle of radius r and chord angle a about the position
 unfoldable pub vertexAt : Core → ℤ → ℕ → ℕ → Exact
 vertexAt c r a i =
     let w : Way = rotatedOf (record { u = r; v = pos 0 }) (angleOf a i) in
@@ -95,9 +95,10 @@ vertexAt c r a i =
       y = exactVertex (axisY (c .settings)) (c .carriage .position .y) (w .v);
     }
 
-unfoldable pub chords : Core → ℤ → ℕ → ℕ → ℕ → List ExactSegment
-chords c r a i zero = []
-chords c r a i (suc n) = exactSegment c (vertexAt c r a i) (vertexAt c r a (i + 1)) true ∷ chords c r a (i + 1) n
+-- "A circle's chords join its exact vertices": n segments that are owed, from vertex i on, each from v there to v at the next
+unfoldable pub path : Core → (ℕ → Exact) → ℕ → ℕ → List ExactSegment
+path c v i zero = []
+path c v i (suc n) = exactSegment c (v i) (v (i + 1)) true ∷ path c v (i + 1) n
 
 -- ---- the polygon
 
@@ -166,7 +167,7 @@ move c d =
 unfoldable pub instructed : Core → ℕ → Numbers → ExactPolygon → List ExactSegment
 instructed d op n g =
     cond (eqb op EP || eqb op EA || eqb op ER) (inkedOnly d (outline d g))
-    (cond (eqb op CI) (inkedOnly d (chords d (n .first) (natAbs (chordAngle n)) 0 (chordsOf (natAbs (chordAngle n)))))
+    (cond (eqb op CI) (inkedOnly d (path d (vertexAt d (n .first) (natAbs (chordAngle n))) 0 (chordsOf (natAbs (chordAngle n)))))
     [])
 
 -- what an event that was not refused adds to the queue; g is the polygon after it

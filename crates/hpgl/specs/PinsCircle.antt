@@ -26,7 +26,7 @@ use Rattle.hpgl.specs.declared.Action.the-variants.{Keep, Chords}
 use Rattle.hpgl.specs.Numbers.{outOfRange, tooFar}
 use Rattle.hpgl.specs.Place.{axisX, axisY, exactPosition}
 use Rattle.hpgl.specs.Rules.{done, refuse, inked, circleFits, circle, circleWith, chordAngle, ciRule}
-use Rattle.hpgl.specs.ExactModel.{ExactSegment, exactSegment, vertexAt, chords}
+use Rattle.hpgl.specs.ExactModel.{ExactSegment, exactSegment, vertexAt, path}
 use Rattle.hpgl.specs.Related.{Sound}
 use Rattle.hpgl.specs.PinsPosition.{spanOf, widthOf, Moves, standing, less, same-moves}
 
@@ -126,20 +126,20 @@ module _ (c : Core) (r : ℤ) (w : Sound (c .settings)) where
   at-start : (a : ℕ) → 0 < chordsOf a → angleOf a 0 ≡ pos 0
   at-start a l = at-multiple a 0 l ∙ ap pos (omega arith)
 
-  count : (a i n : ℕ) → length (chords c r a i n) ≡ n
-  unfolding chords
-  count a i zero = refl
-  count a i (suc n) = ap suc (count a (i + 1) n)
+  count : (v : ℕ → Exact) (i n : ℕ) → length (path c v i n) ≡ n
+  unfolding path
+  count v i zero = refl
+  count v i (suc n) = ap suc (count v (i + 1) n)
 
-  joined : (a i n : ℕ) → Joins c (vertexAt c r a) i (chords c r a i n)
-  unfolding chords exactSegment
-  joined a i zero = none
-  joined a i (suc n) = more refl refl refl (joined a (i + 1) n)
+  joined : (v : ℕ → Exact) (i n : ℕ) → Joins c v i (path c v i n)
+  unfolding path exactSegment
+  joined v i zero = none
+  joined v i (suc n) = more refl refl refl (joined v (i + 1) n)
 
-  circle-ring : (a : ℕ) → 0 < a → Ring c r a (vertexAt c r a) (chords c r a 0 (chordsOf a))
+  circle-ring : (a : ℕ) → 0 < a → Ring c r a (vertexAt c r a) (path c (vertexAt c r a) 0 (chordsOf a))
   circle-ring a h =
       let n : ℕ = chordsOf a in
-      let e : length (chords c r a 0 n) ≡ n = count a 0 n in
+      let e : length (path c (vertexAt c r a) 0 n) ≡ n = count (vertexAt c r a) 0 n in
       let l : (3600 ≤ a * n) × (a * n < 3600 + a) = chords-law a h in
       let some : 0 < n = not-none n (l .0) in
       record {
@@ -147,7 +147,7 @@ module _ (c : Core) (r : ℤ) (w : Sound (c .settings)) where
         fewest = rw e (l .1);
         multiples = λ i k. let m : i < n = rw e at k in (angle-law a i h m, subst (Vertex c r (i * a)) (sym (at-angle a i _ (at-multiple a i m))) (vertex-around (i * a)));
         again = ap (vertexAt c r a) e ∙ at-angle a n (pos 0) (at-end a) ∙ sym (at-angle a 0 (pos 0) (at-start a some));
-        joins = joined a 0 n;
+        joins = joined (vertexAt c r a) 0 n;
       }
     where
       not-none : (n : ℕ) → 3600 ≤ a * n → 0 < n
@@ -156,7 +156,7 @@ module _ (c : Core) (r : ℤ) (w : Sound (c .settings)) where
 
 -- "the angle .. 5 to 1200": the chords of a CI that is carried out are a ring about the position, of radius n .first
 pub circle-drawn : (c : Core) (n : Numbers) → Sound (c .settings) → ciRule c n .number ≡ 0 →
-    let a = natAbs (chordAngle n) in (5 ≤ a) × (a ≤ 1200) × Ring c (n .first) a (vertexAt c (n .first) a) (chords c (n .first) a 0 (chordsOf a))
+    let a = natAbs (chordAngle n) in (5 ≤ a) × (a ≤ 1200) × Ring c (n .first) a (vertexAt c (n .first) a) (path c (vertexAt c (n .first) a) 0 (chordsOf a))
 unfolding ciRule circleWith done refuse
 circle-drawn c n w = go (pos 5 ≤? A) refl (A ≤? pos 1200) refl
   where
@@ -165,7 +165,7 @@ circle-drawn c n w = go (pos 5 ≤? A) refl (A ≤? pos 1200) refl
 
     go : (s : Bool) → (pos 5 ≤? A) ≡ s → (t : Bool) → (A ≤? pos 1200) ≡ t →
         cond (s && t) (cond (circleFits c (n .first)) (done c (cond (inked c) (Chords (circle c (n .first) (natAbs A))) Keep)) (refuse c tooFar)) (refuse c outOfRange) .number ≡ 0 →
-        (5 ≤ natAbs A) × (natAbs A ≤ 1200) × Ring c (n .first) (natAbs A) (vertexAt c (n .first) (natAbs A)) (chords c (n .first) (natAbs A) 0 (chordsOf (natAbs A)))
+        (5 ≤ natAbs A) × (natAbs A ≤ 1200) × Ring c (n .first) (natAbs A) (vertexAt c (n .first) (natAbs A)) (path c (vertexAt c (n .first) (natAbs A)) 0 (chordsOf (natAbs A)))
     go true e true f z =
         let l : 5 ≤ natAbs A = omega (arith, ord, abs A, ≤?-true (pos 5) A e) in
         (l, omega (arith, ord, abs A, ≤?-true (pos 5) A e, ≤?-true A (pos 1200) f), circle-ring c (n .first) w (natAbs A) (omega arith))

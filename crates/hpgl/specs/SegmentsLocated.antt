@@ -6,7 +6,6 @@ use mathlib.Core.List.{List, [], _∷_, _++_}
 use Prim.Native.Nat.{ℕ, zero, suc, _+_, _<_}
 use lib.Dec.{eqb}
 use borrow.Author.Tests.{eqb-false}
-use lib.IntN.{ℤ}
 use Rattle.clip.specs.Line.{Exact, nearest}
 use Rattle.clip.specs.Nearness.{nearest-rounds}
 use Rattle.reader.specs.declared.Event.{Event}
@@ -16,7 +15,7 @@ use Rattle.plane.specs.Turn.{turnCount}
 use Rattle.plane.specs.BoxLaws.{turned-rounds}
 use Rattle.hpgl.specs.Cases.{pick}
 use Rattle.hpgl.specs.declared.Core.{Core}
-use Rattle.hpgl.specs.ExactModel.{PolygonPoint, Subpolygon, ExactPolygon, ExactSegment, exactSegment, sidesFrom, sides, allSides, outline, chords, inkedOnly, move, instructed, added}
+use Rattle.hpgl.specs.ExactModel.{PolygonPoint, Subpolygon, ExactPolygon, ExactSegment, exactSegment, sidesFrom, sides, allSides, outline, path, inkedOnly, move, instructed, added}
 use Rattle.hpgl.specs.Related.{Located, AllLocated, none, more}
 use Rattle.hpgl.specs.Steps.{addedBy}
 
@@ -57,10 +56,10 @@ module _ (d : Core) (t : d .settings .turn < turnCount) where
     unfolding outline
     located-outline g = located-append (located-all (g .ended)) (located-sides (g .current))
 
-    located-chords : (r : ℤ) (a i n : ℕ) → All (chords d r a i n)
-    unfolding chords
-    located-chords r a i zero = none
-    located-chords r a i (suc n) = more (located-segment _ _ true) (located-chords r a (i + 1) n)
+    located-path : (v : ℕ → Exact) (i n : ℕ) → All (path d v i n)
+    unfolding path
+    located-path v i zero = none
+    located-path v i (suc n) = more (located-segment _ _ true) (located-path v (i + 1) n)
 
   -- "Pen 0 queues nothing."
   located-inked : {xs : List ExactSegment} → ((d .carriage .pen .number ≡ 0 → ⊥) → All xs) → All (inkedOnly d xs)
@@ -79,7 +78,7 @@ module _ (d : Core) (t : d .settings .turn < turnCount) where
       pick All (d .carriage .polygon .mode) none (pick All (d .carriage .pen .down) (located-inked (λ i. more (located-segment i _ _ true) none)) none)
   located-added c (Ended op n) g =
       pick All (eqb op EP || eqb op EA || eqb op ER) (located-inked (λ i. located-outline i g))
-      (pick All (eqb op CI) (located-inked (λ i. located-chords i _ _ 0 _)) none)
+      (pick All (eqb op CI) (located-inked (λ i. located-path i _ 0 _)) none)
   located-added c (Refused k) g = none
 
   pub located-by : (c : Core) (e : Event) (n : ℕ) (g : ExactPolygon) → All (addedBy c d e n g)

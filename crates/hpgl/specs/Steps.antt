@@ -44,7 +44,7 @@ use Rattle.hpgl.specs.Instruction.{Instruction}
 use Rattle.hpgl.specs.Ends.{by-end}
 use Rattle.hpgl.specs.Rules.{done, refuse, unscaled, noWindow, freshSettings, noPolygon, freshCarriage, letters, nameRule, rebased, inRule, dfRule, goodCorners, setCorners, ipRule, scRule, setTurn, roRule, setWindow, iwRule, setPen, spRule, inked, spent, moveTo, pointCost, longer, edgeTo, storePoint, aimed, goTo, pairRule, begun, pm0, differ, closes, endedWith, ended, pm1In, pm1, leave, pm2In, pm2, pmRule, epRule, rectangular, rectangleTo, firstTwo, eaRule, erRule, circleFits, circle, circleWith, chordAngle, ciRule, endRule, actOn}
 use Rattle.hpgl.specs.Machine.{vertex, rectangleEdges, stored, queued}
-use Rattle.hpgl.specs.ExactModel.{ExactPolygon, ExactSegment, exactSegment, outline, vertexAt, chords, lastOf, rectangle, polygonMode, afterEnd, polygonAfter, inkedOnly, move, instructed, added}
+use Rattle.hpgl.specs.ExactModel.{ExactPolygon, ExactSegment, exactSegment, outline, vertexAt, path, lastOf, rectangle, polygonMode, afterEnd, polygonAfter, inkedOnly, move, instructed, added}
 use Rattle.hpgl.specs.Related.{Sound, Fit, edgesFrom, edgesOf, edgesAfter, allEdges, polygonEdges, some, Linked, turnedEdges, chordsFrom, view, onPage}
 use Rattle.hpgl.specs.PolygonLinked.{location-nearest, grown, ended-closed, ended-open, rectangle-linked, turned-outline}
 
@@ -465,8 +465,8 @@ module _ (c : Core) (es : List Edge) (g : ExactPolygon) (f : Fit (c .settings) (
       (vertex-point-split (axisX s) (axisY s) (p .x) (p .y) (record { u = r; v = pos 0 }) (angleOf a i) (f .sound .x) (f .sound .y)
       ∙ (λ j. point (vertex-nearest (axisX s) (p .x) (w .u) (f .sound .x) j) (vertex-nearest (axisY s) (p .y) (w .v) (f .sound .y) j)))
 
-  same-chords : (r : ℤ) (a i n : ℕ) → chordsFrom (c .settings) (circle c r a) i n ≡ onPage (chords c r a i n)
-  unfolding chordsFrom chords onPage exactSegment
+  same-chords : (r : ℤ) (a i n : ℕ) → chordsFrom (c .settings) (circle c r a) i n ≡ onPage (path c (vertexAt c r a) i n)
+  unfolding chordsFrom path onPage exactSegment
   same-chords r a i zero = refl
   same-chords r a i (suc n) = λ j. record { start = same-vertex r a i j; end = same-vertex r a (i + 1) j; shown = true } ∷ same-chords r a (i + 1) n j
 
@@ -478,7 +478,7 @@ module _ (c : Core) (es : List Edge) (g : ExactPolygon) (f : Fit (c .settings) (
       (both (circleFits c (n .first))
       (record {
         kept = by-ink (λ (x : Action) (gs : List ExactSegment). Matched c c x es g gs) (eqb (c .carriage .pen .number) 0) (Chords (circle c (n .first) (natAbs a)))
-            (chords c (n .first) (natAbs a) 0 (chordsOf (natAbs a)))
+            (path c (vertexAt c (n .first) (natAbs a)) 0 (chordsOf (natAbs a)))
             (record { fit = f; linked = l; queue = same-chords (n .first) (natAbs a) 0 (chordsOf (natAbs a)) })
             (record { fit = f; linked = l; queue = refl });
       })
