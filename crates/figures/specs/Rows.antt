@@ -41,12 +41,12 @@ pub data Row : Type 0 where
   moved : Stroke → ℕ → Moves → Row
 
 -- what a row is compared by
-pub data Told : Type 0 where
-  outs : List Out → Told
-  numbered : ℕ → List Out → Told
-  many : ℕ → Told
-  feedsTold : List Fed → Told
-  movesTold : Moves → Told
+pub data RowAnswer : Type 0 where
+  outs : List Out → RowAnswer
+  numbered : ℕ → List Out → RowAnswer
+  many : ℕ → RowAnswer
+  fedAs : List Fed → RowAnswer
+  movedAs : Moves → RowAnswer
 
 abbrev pub minus : ℕ → ℤ
 minus n = negℤ (pos n)
@@ -93,30 +93,30 @@ moves-given r (travelPaint u v) h = h .0
 moves-given r (oneDot u) h = h .0
 moves-given r (noMove n) h = h
 
-unfoldable pub answered : Row → Told
+unfoldable pub answered : Row → RowAnswer
 answered (taken r s os) = outs (trace r s)
 answered (undrawn s t os) = outs (refusals 0 (freshState wide) (bytes s) ++ drawnThen (after (freshState wide) (bytes s)) (bytes t))
 answered (started r n s os) = numbered (freshNumber r) (trace r s)
 answered (filled s t os) = outs (traceFrom 0 (freshState wide) (bytes s ++ (points 109 ++ bytes t)))
 answered (waits s n) = many (waiting (after (freshState wide) (bytes s) .work))
-answered (feeds calls fs) = feedsTold (fedAll (freshState wide) calls)
-answered (moved s c m) = movesTold (movesOf (answerOf s c))
+answered (feeds calls fs) = fedAs (fedAll (freshState wide) calls)
+answered (moved s c m) = movedAs (movesOf (answerOf s c))
 
-unfoldable pub allAnswered : List Row → List Told
+unfoldable pub allAnswered : List Row → List RowAnswer
 allAnswered [] = []
 allAnswered (r ∷ rs) = answered r ∷ allAnswered rs
 
 -- ---- what the table says
 
-unfoldable pub said : Row → Told
+unfoldable pub said : Row → RowAnswer
 said (taken r s os) = outs os
 said (undrawn s t os) = outs os
 said (started r n s os) = numbered n os
 said (filled s t os) = outs os
 said (waits s n) = many n
-said (feeds calls fs) = feedsTold fs
-said (moved s c m) = movesTold m
+said (feeds calls fs) = fedAs fs
+said (moved s c m) = movedAs m
 
-unfoldable pub allSaid : List Row → List Told
+unfoldable pub allSaid : List Row → List RowAnswer
 allSaid [] = []
 allSaid (r ∷ rs) = said r ∷ allSaid rs

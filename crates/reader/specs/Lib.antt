@@ -5,6 +5,7 @@ pub mod Next
 pub mod Stream
 pub mod Written
 pub mod Sizes
+pub mod NameLaws
 pub mod Laws
 pub mod Examples
 pub mod TextLaws
