@@ -2,9 +2,9 @@
 -- Why: what the turn's calls gave are the parts of `applied`, and a byte that means nothing yet changes the reader alone and leaves no work.
 use mathlib.Core.Path.{_≡_, refl, sym, ap, ap₂, _∙_, subst}
 use mathlib.Core.Bool.{Bool, true, false, true≢false, cond}
-use Prim.Native.Nat.{ℕ, _+_, _≤_}
+use Prim.Native.Nat.{ℕ, _+_, _<_}
 use lib.Dec.{leb}
-use borrow.Author.Tests.{eq-eqb, ne-eqb}
+use borrow.Author.Tests.{eq-eqb, ne-eqb, lt-ltb}
 use Rattle.reader.specs.declared.Coordinates.{Coordinates}
 use Rattle.reader.specs.declared.Numbers.{Numbers}
 use Rattle.reader.specs.declared.Reader.{Reader}
@@ -13,7 +13,8 @@ use Rattle.reader.specs.declared.Event.the-variants as event
 use Rattle.reader.specs.declared.Step.{Step}
 use Rattle.reader.specs.Next.{isNothing}
 use Rattle.reader.specs.Step.{stepOf, passedOver}
-use Rattle.mnemonics.specs.Table.{PU}
+use Rattle.mnemonics.specs.Table.{IN}
+use Rattle.mnemonics.proofs.Laws.{pairs-first}
 use Rattle.hpgl.specs.declared.Settings.{Settings}
 use Rattle.hpgl.specs.declared.Polygon.{Polygon}
 use Rattle.hpgl.specs.declared.Core.{Core}
@@ -104,9 +105,9 @@ module _ (s : Settings) (h : Hand) (g : Polygon) where
   unfolding actOn refuse
   refused-acts k = refl
 
-  pub ended-acts : (op : ℕ) (n : Numbers) → PU ≤ op → acting s h g Keep 0 ≡ actOn (coreOf s h g) (event.Ended op n)
+  pub ended-acts : (op : ℕ) (n : Numbers) → op < IN → acting s h g Keep 0 ≡ actOn (coreOf s h g) (event.Ended op n)
   unfolding actOn done
-  ended-acts op n l = sym (pairs-end (coreOf s h g) op n l)
+  ended-acts op n l = sym (pairs-end (coreOf s h g) op n (pairs-first op ∙ lt-ltb op IN l))
 
   pub settled-acts : {c : Core} {t : Acted} (op : ℕ) (n : Numbers) → c ≡ coreOf s h g → t ≡ endRule c op n → t ≡ actOn (coreOf s h g) (event.Ended op n)
   unfolding actOn

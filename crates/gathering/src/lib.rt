@@ -26,7 +26,7 @@ use hpgl::Stroke;
 use hpgl::Work;
 use instructions::events::end_rule;
 use mnemonics::EP;
-use mnemonics::PU;
+use mnemonics::IN;
 use plane::turn::Rows;
 use queue::drawing::drawn_of;
 use queue::drawing::edge_place;
@@ -330,7 +330,7 @@ pub fn gather(m: State, bytes: &[u8], from: usize, numbers: &mut [i64], on: bool
                 }
             }
             Event::Ended(op, n) => {
-                if PU <= op {
+                if op < IN {
                     work = Work::Nothing;
                     continue;
                 }

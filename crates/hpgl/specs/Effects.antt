@@ -121,23 +121,13 @@ bytes c = c .carriage .polygon .bytes
 
 -- ---- on the second letter of a name: "PU, PD, PA, PR set pen or mode"
 
-abbrev pub atName : {op : ℕ} → Instruction op → Core → Core
-atName PU c = c ▸ penDown false ▸ penChanged (c .carriage .pen .down)
-atName PD c = c ▸ penDown true ▸ penChanged (not (c .carriage .pen .down))
-atName PA c = c ▸ relative false ▸ penChanged false
-atName PR c = c ▸ relative true ▸ penChanged false
-atName IN c = c
-atName DF c = c
-atName EP c = c
-atName IP c = c
-atName SC c = c
-atName IW c = c
-atName RO c = c
-atName SP c = c
-atName PM c = c
-atName CI c = c
-atName EA c = c
-atName ER c = c
+abbrev pub atName : ℕ → Core → Core
+atName op c =
+    cond (eqb op code.PU) (c ▸ penDown false ▸ penChanged (c .carriage .pen .down))
+    (cond (eqb op code.PD) (c ▸ penDown true ▸ penChanged (not (c .carriage .pen .down)))
+    (cond (eqb op code.PA) (c ▸ relative false ▸ penChanged false)
+    (cond (eqb op code.PR) (c ▸ relative true ▸ penChanged false)
+    c)))
 
 -- ---- a pair; in polygon mode it stores a point
 
@@ -190,7 +180,7 @@ atEnd PR c n g = c
 abbrev pub atRefusal : ℕ → Core → Numbers → ℕ → Polygon → Core
 atRefusal op c n k g = cond (eqb op code.PM && eqb k 7 && (asked n ≡? pos 2)) (leaves c 0 g) c
 
--- ---- whatever happens: an event of the sixteen, its number, and how the polygon is kept after it
+-- ---- whatever happens: an event of the instructions, its number, and how the polygon is kept after it
 
 pub data Happens : Event → Type 0 where
   nothing : Happens event.Nothing
@@ -201,7 +191,7 @@ pub data Happens : Event → Type 0 where
 
 abbrev pub changedBy : {e : Event} → Happens e → Core → ℕ → Polygon → Core
 changedBy nothing c k g = c
-changedBy (name i) c k g = cond (eqb k 0) (atName i c) c
+changedBy (name {op} i) c k g = cond (eqb k 0) (atName op c) c
 changedBy (pair n) c k g = cond (eqb k 0) (atPair c n g) c
 changedBy (end {op} i n) c k g = cond (eqb k 0) (atEnd i c n g) (atRefusal op c n k g)
 changedBy (refusal r) c k g = c

@@ -11,6 +11,7 @@ use Rattle.clip.specs.declared.Point.{Point}
 use Rattle.reader.specs.declared.Coordinates.{Coordinates}
 use Rattle.reader.specs.declared.Numbers.{Numbers}
 use Rattle.reader.specs.declared.Event.{Event}
+use Rattle.mnemonics.specs.Table as code
 use Rattle.mnemonics.specs.Table.{knownInPolygon}
 use Rattle.plane.specs.Bounds.{mostAngle}
 use Rattle.plane.specs.Turn.{turnCount, turnedBackOf}
@@ -26,7 +27,7 @@ use Rattle.hpgl.specs.declared.Core.{Core}
 use Rattle.hpgl.specs.declared.Action.the-variants.{Keep, Rectangle}
 use Rattle.hpgl.specs.declared.Acted.{Acted}
 use Rattle.hpgl.specs.Numbers.{unknown, outOfRange, tooFar, polygonFull, polygonBytes, modeBytes, pointBytes, mostPen, quarterAngle, leastAngle}
-use Rattle.hpgl.specs.Place.{point, rounded, location, inRange, restAt, pagePoint}
+use Rattle.hpgl.specs.Place.{rounded, location, inRange, restAt, pagePoint}
 use Rattle.hpgl.specs.Change.{withPosition, withRelative, withPolygon, withCarriage, withCorners, withScale, withWindow}
 use Rattle.hpgl.specs.Rules.{done, refuse, unscaled, noWindow, inked, freshSettings, noPolygon, freshCarriage, letters, nameRule, rebased, inRule, dfRule, goodCorners, setCorners, carried, ipRule, scRule, setTurn, roRule, setWindow, iwRule, setPen, spRule, moveTo, pointCost, longer, edgeTo, storePoint, aimed, goTo, pairRule, begun, pm0, closes, endedWith, ended, pm1In, pm1, leave, pm2In, pm2, pmRule, epRule, rectangular, rectangleTo, eaRule, erRule, circleFits, circleWith, chordAngle, ciRule, endRule, actOn}
 use Rattle.hpgl.specs.Instruction.{Instruction, IN, DF, EP, IP, SC, IW, RO, SP, PM, CI, EA, ER, PU, PD, PA, PR}
@@ -51,28 +52,17 @@ module _ (c : Core) where
 
   -- ---- names
 
-  lettered : {op : ℕ} (i : Instruction op) → withCarriage c (letters (c .carriage) op) ≡ effects.atName i c
+  lettered : (op : ℕ) → withCarriage c (letters (c .carriage) op) ≡ effects.atName op c
   unfolding letters
-  lettered IN = refl
-  lettered DF = refl
-  lettered EP = refl
-  lettered IP = refl
-  lettered SC = refl
-  lettered IW = refl
-  lettered RO = refl
-  lettered SP = refl
-  lettered PM = refl
-  lettered CI = refl
-  lettered EA = refl
-  lettered ER = refl
-  lettered PU = refl
-  lettered PD = refl
-  lettered PA = refl
-  lettered PR = refl
+  lettered op =
+      choose Same (eqb op code.PU) refl (choose Same (eqb op code.PD) refl (choose Same (eqb op code.PA) refl (choose Same (eqb op code.PR) refl refl)))
+    where
+      Same : Carriage → Core → Type 0
+      Same k d = withCarriage c k ≡ d
 
   sets-letters : {op : ℕ} (i : Instruction op) → Obeys (name i) (done (withCarriage c (letters (c .carriage) op)) Keep)
   unfolding done
-  sets-letters i = record { is = lettered i }
+  sets-letters {op} i = record { is = lettered op }
 
   refuses-name : {op : ℕ} (i : Instruction op) → Obeys (name i) (refuse c unknown)
   unfolding refuse

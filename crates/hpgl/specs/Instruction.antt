@@ -1,9 +1,13 @@
--- The sixteen instructions by their codes, for claims that have a line for each of them. A new instruction is a constructor here, and a line there.
+-- The instructions by their codes, for claims that have a line for each of them. A new instruction is a constructor here, and a line there.
 use Prim.Native.Nat.{ℕ, zero, suc, _<_}
 use native.Mathlib.Omega.{arith}
 use Rattle.mnemonics.specs.Table as code
 
 pub data Instruction : ℕ → Type 0 where
+  PU : Instruction code.PU
+  PD : Instruction code.PD
+  PA : Instruction code.PA
+  PR : Instruction code.PR
   IN : Instruction code.IN
   DF : Instruction code.DF
   EP : Instruction code.EP
@@ -16,27 +20,23 @@ pub data Instruction : ℕ → Type 0 where
   CI : Instruction code.CI
   EA : Instruction code.EA
   ER : Instruction code.ER
-  PU : Instruction code.PU
-  PD : Instruction code.PD
-  PA : Instruction code.PA
-  PR : Instruction code.PR
 
 -- every code of the table is one of them
 pub instruction : (op : ℕ) → op < code.rows → Instruction op
-instruction zero h = IN
-instruction (suc zero) h = DF
-instruction (suc (suc zero)) h = EP
-instruction (suc (suc (suc zero))) h = IP
-instruction (suc (suc (suc (suc zero)))) h = SC
-instruction (suc (suc (suc (suc (suc zero))))) h = IW
-instruction (suc (suc (suc (suc (suc (suc zero)))))) h = RO
-instruction (suc (suc (suc (suc (suc (suc (suc zero))))))) h = SP
-instruction (suc (suc (suc (suc (suc (suc (suc (suc zero)))))))) h = PM
-instruction (suc (suc (suc (suc (suc (suc (suc (suc (suc zero))))))))) h = CI
-instruction (suc (suc (suc (suc (suc (suc (suc (suc (suc (suc zero)))))))))) h = EA
-instruction (suc (suc (suc (suc (suc (suc (suc (suc (suc (suc (suc zero))))))))))) h = ER
-instruction (suc (suc (suc (suc (suc (suc (suc (suc (suc (suc (suc (suc zero)))))))))))) h = PU
-instruction (suc (suc (suc (suc (suc (suc (suc (suc (suc (suc (suc (suc (suc zero))))))))))))) h = PD
-instruction (suc (suc (suc (suc (suc (suc (suc (suc (suc (suc (suc (suc (suc (suc zero)))))))))))))) h = PA
-instruction (suc (suc (suc (suc (suc (suc (suc (suc (suc (suc (suc (suc (suc (suc (suc zero))))))))))))))) h = PR
+instruction zero h = PU
+instruction (suc zero) h = PD
+instruction (suc (suc zero)) h = PA
+instruction (suc (suc (suc zero))) h = PR
+instruction (suc (suc (suc (suc zero)))) h = IN
+instruction (suc (suc (suc (suc (suc zero))))) h = DF
+instruction (suc (suc (suc (suc (suc (suc zero)))))) h = EP
+instruction (suc (suc (suc (suc (suc (suc (suc zero))))))) h = IP
+instruction (suc (suc (suc (suc (suc (suc (suc (suc zero)))))))) h = SC
+instruction (suc (suc (suc (suc (suc (suc (suc (suc (suc zero))))))))) h = IW
+instruction (suc (suc (suc (suc (suc (suc (suc (suc (suc (suc zero)))))))))) h = RO
+instruction (suc (suc (suc (suc (suc (suc (suc (suc (suc (suc (suc zero))))))))))) h = SP
+instruction (suc (suc (suc (suc (suc (suc (suc (suc (suc (suc (suc (suc zero)))))))))))) h = PM
+instruction (suc (suc (suc (suc (suc (suc (suc (suc (suc (suc (suc (suc (suc zero))))))))))))) h = CI
+instruction (suc (suc (suc (suc (suc (suc (suc (suc (suc (suc (suc (suc (suc (suc zero)))))))))))))) h = EA
+instruction (suc (suc (suc (suc (suc (suc (suc (suc (suc (suc (suc (suc (suc (suc (suc zero))))))))))))))) h = ER
 instruction (suc (suc (suc (suc (suc (suc (suc (suc (suc (suc (suc (suc (suc (suc (suc (suc op)))))))))))))))) h = absurd (omega arith)

@@ -33,9 +33,8 @@ use Rattle.hpgl.specs.declared.Work.the-variants as work
 use Rattle.hpgl.specs.declared.State.{State}
 use Rattle.hpgl.specs.Numbers.{unknown, outOfRange, tooFar, polygonFull, busy, polygonBytes, modeBytes, pointBytes, mostPen, quarterAngle, leastAngle}
 use Rattle.hpgl.specs.Place.{rounded, location, inRange, absolutePosition, relativePosition}
-use Rattle.hpgl.specs.Instruction as ins
-use Rattle.hpgl.specs.Instruction.{Instruction}
-use Rattle.hpgl.specs.Ends.{by-end}
+use Rattle.hpgl.specs.Ends as ends
+use Rattle.hpgl.specs.Ends.{Works, by-end}
 use Rattle.hpgl.specs.Rules.{done, refuse, nameRule, inRule, dfRule, goodCorners, setCorners, ipRule, scRule, setTurn, roRule, setWindow, iwRule, setPen, spRule, moveTo, pointCost, storePoint, aimed, goTo, pairRule, pm0, closes, ended, pm1In, pm1, leave, pm2In, pm2, pmRule, epRule, rectangleTo, firstTwo, eaRule, erRule, circleFits, circleWith, chordAngle, ciRule, endRule, actOn}
 use Rattle.hpgl.specs.Machine.{waiting, stored, queued, readerAfter, applied, acted, takeState, takeNumber}
 
@@ -203,27 +202,23 @@ module _ (c : Core) (e : Event) where
     pin-ci =
         pick (Pinned c e) ((pos leastAngle ≤? chordAngle n) && (chordAngle n ≤? pos mostAngle)) (pick (Pinned c e) (circleFits c (n .first)) (carries c _ refl) (refuses far)) (refuses range)
 
-  pin-each : (n : Numbers) {op : ℕ} → Instruction op → e ≡ Ended op n → Pinned c e (endRule c op n)
+  pin-each : (n : Numbers) {op : ℕ} → Works op → e ≡ Ended op n → Pinned c e (endRule c op n)
   unfolding endRule changesSettings cellOf epRule eaRule erRule
-  pin-each n ins.IN is = pin-in IN n is refl
-  pin-each n ins.DF is = pin-df DF n is refl
-  pin-each n ins.EP is = pin-ep EP n is
-  pin-each n ins.IP is = pin-ip IP n is refl
-  pin-each n ins.SC is = pin-sc SC n is refl
-  pin-each n ins.IW is = pin-iw IW n is refl
-  pin-each n ins.RO is = pin-ro RO n is refl
-  pin-each n ins.SP is = pin-sp SP n is
-  pin-each n ins.PM is = pin-pm PM n is refl
-  pin-each n ins.CI is = pin-ci CI n is
-  pin-each n ins.EA is = pin-rectangle EA n is (absolutePosition (c .settings) (firstTwo n))
-  pin-each n ins.ER is = pin-rectangle ER n is (relativePosition (c .carriage .position) (firstTwo n))
-  pin-each n ins.PU is = carries c Keep refl
-  pin-each n ins.PD is = carries c Keep refl
-  pin-each n ins.PA is = carries c Keep refl
-  pin-each n ins.PR is = carries c Keep refl
+  pin-each n ends.IN is = pin-in IN n is refl
+  pin-each n ends.DF is = pin-df DF n is refl
+  pin-each n ends.EP is = pin-ep EP n is
+  pin-each n ends.IP is = pin-ip IP n is refl
+  pin-each n ends.SC is = pin-sc SC n is refl
+  pin-each n ends.IW is = pin-iw IW n is refl
+  pin-each n ends.RO is = pin-ro RO n is refl
+  pin-each n ends.SP is = pin-sp SP n is
+  pin-each n ends.PM is = pin-pm PM n is refl
+  pin-each n ends.CI is = pin-ci CI n is
+  pin-each n ends.EA is = pin-rectangle EA n is (absolutePosition (c .settings) (firstTwo n))
+  pin-each n ends.ER is = pin-rectangle ER n is (relativePosition (c .carriage .position) (firstTwo n))
 
   pin-end : (op : ℕ) (n : Numbers) → e ≡ Ended op n → Pinned c e (endRule c op n)
-  pin-end op n = by-end c n (λ (op : ℕ) (t : Acted). e ≡ Ended op n → Pinned c e t) (λ o i. pin-each n i) (λ op h is. carries c Keep refl) op
+  pin-end op n = by-end c n (λ (op : ℕ) (t : Acted). e ≡ Ended op n → Pinned c e t) (λ o i. pin-each n i) (λ op r is. carries c Keep refl) op
 
 pub pinned : (c : Core) (e : Event) → Pinned c e (actOn c e)
 unfolding actOn

@@ -4,7 +4,7 @@
 use mathlib.Core.Path.{_≡_, refl, sym, ap, _∙_, subst}
 use mathlib.Core.Bool.{Bool, true, false, cond, not, _&&_, _||_}
 use mathlib.Core.List.{List, [], _∷_, _++_}
-use Prim.Native.Nat.{ℕ, zero, suc, _+_, _≤_, _<_}
+use Prim.Native.Nat.{ℕ, zero, suc, _+_, _≤_}
 use native.Mathlib.Omega.{arith}
 use borrow.Author.Tests.{ne-eqb, leb-true}
 use lib.Dec.{leb, eqb}
@@ -16,7 +16,7 @@ use Rattle.reader.specs.declared.Coordinates.{Coordinates}
 use Rattle.reader.specs.declared.Numbers.{Numbers}
 use Rattle.reader.specs.declared.Event.{Event}
 use Rattle.reader.specs.declared.Event.the-variants.{Nothing, Named, Pair, Ended, Refused}
-use Rattle.mnemonics.specs.Table.{rows, IN, DF, EP, IP, SC, IW, RO, SP, PM, CI, EA, ER, PU, PD, PA, PR, knownInPolygon}
+use Rattle.mnemonics.specs.Table.{IN, DF, EP, IP, SC, IW, RO, SP, PM, CI, EA, ER, PU, PD, PA, PR, knownInPolygon}
 use Rattle.plane.specs.Bounds.{mostAngle}
 use Rattle.hpgl.specs.Cases.{never, pick, choose, cond-true}
 use Rattle.hpgl.specs.declared.Position.{Position}
@@ -29,9 +29,8 @@ use Rattle.hpgl.specs.declared.Action.the-variants.{Keep}
 use Rattle.hpgl.specs.declared.Acted.{Acted}
 use Rattle.hpgl.specs.Numbers.{outOfRange, polygonFull, polygonBytes, modeBytes, pointBytes, penBytes, mostPen, quarterAngle, leastAngle}
 use Rattle.hpgl.specs.Place.{rounded, location, inRange}
-use Rattle.hpgl.specs.Instruction as ins
-use Rattle.hpgl.specs.Instruction.{Instruction}
-use Rattle.hpgl.specs.Ends.{by-end}
+use Rattle.hpgl.specs.Ends as ends
+use Rattle.hpgl.specs.Ends.{Works, Rests, other, by-end}
 use Rattle.hpgl.specs.Rules.{done, refuse, noPolygon, freshCarriage, freshCore, letters, nameRule, rebased, inRule, dfRule, goodCorners, setCorners, ipRule, scRule, setTurn, roRule, setWindow, iwRule, setPen, spRule, moveTo, pointCost, longer, storePoint, aimed, goTo, pairRule, begun, pm0, closes, endedWith, ended, pm1In, pm1, leave, pm2In, pm2, pmRule, epRule, rectangular, rectangleTo, eaRule, erRule, circleFits, circleWith, chordAngle, ciRule, endRule, actOn}
 use Rattle.hpgl.specs.PinsPosition.{after}
 
@@ -301,33 +300,27 @@ module _ (c : Core) (h : List Stored) (is : bytesOf c ≡ costs h) (fits : bytes
   counts-ci n =
       pick (Counts h) ((pos leastAngle ≤? chordAngle n) && (chordAngle n ≤? pos mostAngle)) (pick (Counts h) (circleFits c (n .first)) (keeps c _ refl) (refuses h _ _ refl)) (refuses h _ _ refl)
 
-  counts-each : (n : Numbers) {op : ℕ} → Instruction op → Counts (storedBy c (Ended op n) h) (endRule c op n)
+  counts-each : (n : Numbers) {op : ℕ} → Works op → Counts (storedBy c (Ended op n) h) (endRule c op n)
   unfolding endRule storedBy dfRule rebased epRule eaRule erRule
-  counts-each n ins.IN = counts-in
-  counts-each n ins.DF = keeps _ _ refl
-  counts-each n ins.EP = keeps _ _ refl
-  counts-each n ins.IP = counts-ip n
-  counts-each n ins.SC = counts-sc n
-  counts-each n ins.IW = counts-iw n
-  counts-each n ins.RO = counts-ro n
-  counts-each n ins.SP = counts-sp n
-  counts-each n ins.PM = counts-pm n
-  counts-each n ins.CI = counts-ci n
-  counts-each n ins.EA = counts-rectangle _
-  counts-each n ins.ER = counts-rectangle _
-  counts-each n ins.PU = keeps _ _ refl
-  counts-each n ins.PD = keeps _ _ refl
-  counts-each n ins.PA = keeps _ _ refl
-  counts-each n ins.PR = keeps _ _ refl
+  counts-each n ends.IN = counts-in
+  counts-each n ends.DF = keeps _ _ refl
+  counts-each n ends.EP = keeps _ _ refl
+  counts-each n ends.IP = counts-ip n
+  counts-each n ends.SC = counts-sc n
+  counts-each n ends.IW = counts-iw n
+  counts-each n ends.RO = counts-ro n
+  counts-each n ends.SP = counts-sp n
+  counts-each n ends.PM = counts-pm n
+  counts-each n ends.CI = counts-ci n
+  counts-each n ends.EA = counts-rectangle _
+  counts-each n ends.ER = counts-rectangle _
 
-  counts-other : (n : Numbers) (op : ℕ) → rows ≤ op → Counts (storedBy c (Ended op n) h) (done c Keep)
+  counts-rest : (n : Numbers) (op : ℕ) → Rests op → Counts (storedBy c (Ended op n) h) (done c Keep)
   unfolding storedBy
-  counts-other n op far =
-      let no : (k : ℕ) → k < rows → eqb op k ≡ false = λ k s. ne-eqb op k (λ e. omega (arith, e, s, far)) in
-      rw (no IN (omega arith), no PM (omega arith), no EA (omega arith), no ER (omega arith)) (keeps _ _ refl)
+  counts-rest n op r = rw (other r IN refl, other r PM refl, other r EA refl, other r ER refl) (keeps _ _ refl)
 
   counts-end : (op : ℕ) (n : Numbers) → Counts (storedBy c (Ended op n) h) (endRule c op n)
-  counts-end op n = by-end c n (λ (op : ℕ) (t : Acted). Counts (storedBy c (Ended op n) h) t) (λ o i. counts-each n i) (counts-other n) op
+  counts-end op n = by-end c n (λ (op : ℕ) (t : Acted). Counts (storedBy c (Ended op n) h) t) (λ o i. counts-each n i) (counts-rest n) op
 
 -- The bytes of the polygon are the cost of what is stored, before and after any event
 pub polygon-bytes : (c : Core) (e : Event) (h : List Stored) → bytesOf c ≡ costs h → bytesOf c ≤ 1024 → Counted c h (storedBy c e h) (actOn c e)

@@ -11,6 +11,7 @@ use Rattle.clip.specs.declared.Point.{Point}
 use Rattle.clip.specs.declared.Rect.{Rect}
 use Rattle.reader.specs.declared.Numbers.{Numbers}
 use Rattle.reader.specs.declared.Event.{Event}
+use Rattle.mnemonics.specs.Table as code
 use Rattle.plane.specs.Circle.{vertexPointOf}
 use Rattle.hpgl.specs.declared.Core.{Core}
 use Rattle.hpgl.specs.Place.{axisX, axisY, location, absolutePosition, relativePosition}
@@ -55,23 +56,13 @@ pub record Angle (n : Numbers) (a : ℤ) : Type 0 where
 -- ---- what instructions need
 
 -- "There only PU, PD, PA, PR, PM, IN are known"
-abbrev pub Known : {op : ℕ} → Instruction op → Type 0
-Known PU = Unit {0}
-Known PD = Unit {0}
-Known PA = Unit {0}
-Known PR = Unit {0}
-Known PM = Unit {0}
-Known IN = Unit {0}
-Known DF = ⊥
-Known EP = ⊥
-Known IP = ⊥
-Known SC = ⊥
-Known IW = ⊥
-Known RO = ⊥
-Known SP = ⊥
-Known CI = ⊥
-Known EA = ⊥
-Known ER = ⊥
+pub data Known : ℕ → Type 0 where
+  up : Known code.PU
+  down : Known code.PD
+  absolute : Known code.PA
+  relative : Known code.PR
+  polygon : Known code.PM
+  initialize : Known code.IN
 
 abbrev pub modeOn : Core → Type 0
 modeOn c = c .carriage .polygon .mode ≡ true
@@ -130,7 +121,7 @@ Judged PR c n t = t ≡ 0
 
 abbrev pub Numbered : {e : Event} → Happens e → Core → ℕ → Type 0
 Numbered nothing c t = t ≡ 0
-Numbered (name i) c t = Needs (modeOn c → Known i) 1 t (t ≡ 0)
+Numbered (name {op} i) c t = Needs (modeOn c → Known op) 1 t (t ≡ 0)
 Numbered (pair n) c t = Needs (InRange (location (c .settings) (target c n))) 6 t (Needs (modeOn c → bytes c + pointBytes c ≤ 1024) 7 t (t ≡ 0))
 Numbered (end i n) c t = Judged i c n t
 Numbered (refusal k) c t = t ≡ k

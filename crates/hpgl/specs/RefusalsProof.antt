@@ -15,7 +15,10 @@ use Rattle.clip.specs.declared.Rect.{Rect}
 use Rattle.reader.specs.declared.Coordinates.{Coordinates}
 use Rattle.reader.specs.declared.Numbers.{Numbers}
 use Rattle.reader.specs.declared.Event.{Event}
-use Rattle.mnemonics.specs.Table.{cellOf, knownInPolygon}
+use Rattle.mnemonics.specs.Table.{knownInPolygon}
+use Rattle.mnemonics.specs.Among.{among, none, _⨾_, listed}
+use Rattle.mnemonics.specs.Said as said
+use Rattle.mnemonics.specs.Said.{known-said}
 use Rattle.plane.specs.declared.position.ExactPosition.{ExactPosition}
 use Rattle.plane.specs.Position.{relativeOf, locationOf, inRangeOf}
 use Rattle.plane.specs.declared.position.Axis.{Axis}
@@ -33,6 +36,7 @@ use Rattle.hpgl.specs.Machine.{rect, goodLimits, hardLimits, freshNumber
 use Rattle.hpgl.specs.Related.{Sound}
 use Rattle.hpgl.specs.Instruction.{Instruction, IN, DF, EP, IP, SC, IW, RO, SP, PM, CI, EA, ER, PU, PD, PA, PR}
 use Rattle.hpgl.specs.Effects.{asked, newP1, newP2, firstCorner, secondCorner, target, pointBytes, closingBytes, bytes, Happens, nothing, name, pair, end, refusal}
+use Rattle.hpgl.specs.Refusals as asked-of
 use Rattle.hpgl.specs.Refusals.{Needs, Between, InRange, IsNearest, Asked, Angle, Known, modeOn, GoodCorners, Allows, begins, ends, leaves, Closing, Fits, pointAt, FourPoints, Judged, Numbered, GoodLimits}
 
 -- ---- tests
@@ -166,24 +170,16 @@ apart i j f e = f (ap natAbs e)
 
 -- ---- names and pairs
 
-known : {op : ℕ} (i : Instruction op) → Tells (knownInPolygon op) (Known i)
-unfolding knownInPolygon cellOf
-known IN = record { yes = λ e. tt; no = λ e k. true≢false e }
-known DF = record { yes = λ e. true≢false (sym e); no = λ e k. k }
-known EP = record { yes = λ e. true≢false (sym e); no = λ e k. k }
-known IP = record { yes = λ e. true≢false (sym e); no = λ e k. k }
-known SC = record { yes = λ e. true≢false (sym e); no = λ e k. k }
-known IW = record { yes = λ e. true≢false (sym e); no = λ e k. k }
-known RO = record { yes = λ e. true≢false (sym e); no = λ e k. k }
-known SP = record { yes = λ e. true≢false (sym e); no = λ e k. k }
-known PM = record { yes = λ e. tt; no = λ e k. true≢false e }
-known CI = record { yes = λ e. true≢false (sym e); no = λ e k. k }
-known EA = record { yes = λ e. true≢false (sym e); no = λ e k. k }
-known ER = record { yes = λ e. true≢false (sym e); no = λ e k. k }
-known PU = record { yes = λ e. tt; no = λ e k. true≢false e }
-known PD = record { yes = λ e. tt; no = λ e k. true≢false e }
-known PA = record { yes = λ e. tt; no = λ e k. true≢false e }
-known PR = record { yes = λ e. tt; no = λ e k. true≢false e }
+known : (op : ℕ) → Tells (knownInPolygon op) (Known op)
+known op = rw (known-said op) (record { yes = listed Known said.known (asked-of.up ⨾ asked-of.down ⨾ asked-of.absolute ⨾ asked-of.relative ⨾ asked-of.polygon ⨾ asked-of.initialize ⨾ none) op; no = λ e k. true≢false (sym (on k) ∙ e) })
+  where
+    on : {k : ℕ} → Known k → among k said.known ≡ true
+    on asked-of.up = refl
+    on asked-of.down = refl
+    on asked-of.absolute = refl
+    on asked-of.relative = refl
+    on asked-of.polygon = refl
+    on asked-of.initialize = refl
 
 -- a need that is asked for in polygon mode alone
 in-mode : {m b : Bool} {P : Type 0} → Tells b P → Tells (not (m && not b)) (m ≡ true → P)
@@ -199,7 +195,7 @@ refuses false k x y w e f = record { met = λ p. f; unmet = λ u. absurd (u (w .
 module _ (c : Core) where
   judged-name : {op : ℕ} (i : Instruction op) → Numbered (name i) c (nameRule c op .number)
   unfolding nameRule done refuse
-  judged-name {op} i = refuses (c .carriage .polygon .mode && not (knownInPolygon op)) 1 _ _ (in-mode (known i)) refl refl
+  judged-name {op} i = refuses (c .carriage .polygon .mode && not (knownInPolygon op)) 1 _ _ (in-mode (known op)) refl refl
 
   judged-store : (n : Coordinates) → c .carriage .polygon .mode ≡ true →
       Needs (modeOn c → bytes c + pointBytes c ≤ 1024) 7 (storePoint c (target c n) .number) (storePoint c (target c n) .number ≡ 0)

@@ -5,7 +5,7 @@ use mathlib.Core.Bool.{Bool, true, false, cond, not, _&&_}
 use mathlib.Core.List.{List, [], _∷_}
 use Prim.Native.Nat.{ℕ, zero, suc, _+_, _*_, _≤_, _<_}
 use native.Mathlib.Omega.{arith}
-use borrow.Author.Tests.{leb-true, ne-eqb}
+use borrow.Author.Tests.{leb-true}
 use lib.Dec.{leb, eqb}
 use lib.IntN.{ℤ, pos, natAbs, _-ℤ_}
 use Rattle.exact.specs.Whole.{_≡?_, _≤?_, is, Z, ≡?-false}
@@ -16,7 +16,7 @@ use Rattle.reader.specs.declared.Coordinates.{Coordinates}
 use Rattle.reader.specs.declared.Numbers.{Numbers}
 use Rattle.reader.specs.declared.Event.{Event}
 use Rattle.reader.specs.declared.Event.the-variants.{Nothing, Named, Pair, Ended, Refused}
-use Rattle.mnemonics.specs.Table.{IN, DF, EP, IP, SC, IW, RO, SP, PM, CI, EA, ER, PU, PD, PA, PR, rows, cellOf, knownInPolygon}
+use Rattle.mnemonics.specs.Table.{IN, DF, EP, IP, SC, IW, RO, SP, PM, CI, EA, ER, PU, PD, PA, PR, cellOf, knownInPolygon}
 use Rattle.plane.specs.Bounds.{mostAngle}
 use Rattle.plane.specs.Position.{axisOf}
 use Rattle.plane.specs.Turn.{turnCount, turnedOf, orderedOf}
@@ -39,9 +39,8 @@ use Rattle.hpgl.specs.declared.Work.the-variants as work
 use Rattle.hpgl.specs.Numbers.{polygonBytes, modeBytes, pointBytes, mostPen, quarterAngle, leastAngle}
 use Rattle.hpgl.specs.Place.{point, rounded, axisX, axisY, exactPosition, location, inRange, absolutePosition, relativePosition, pagePoint}
 use Rattle.hpgl.specs.Change.{withPosition, withPen, withPolygon, withSettings, withCarriage, withCorners, withScale, withTurn, withWindow}
-use Rattle.hpgl.specs.Instruction as ins
-use Rattle.hpgl.specs.Instruction.{Instruction}
-use Rattle.hpgl.specs.Ends.{by-end}
+use Rattle.hpgl.specs.Ends as ends
+use Rattle.hpgl.specs.Ends.{Works, Rests, other, by-end}
 use Rattle.hpgl.specs.Rules.{done, refuse, unscaled, noWindow, freshSettings, noPolygon, freshCarriage, letters, nameRule, rebased, inRule, dfRule, goodCorners, setCorners, ipRule, scRule, setTurn, roRule, setWindow, iwRule, setPen, spRule, inked, spent, moveTo, pointCost, longer, edgeTo, storePoint, aimed, goTo, pairRule, begun, pm0, differ, closes, endedWith, ended, pm1In, pm1, leave, pm2In, pm2, pmRule, epRule, rectangular, rectangleTo, firstTwo, eaRule, erRule, circleFits, circle, circleWith, chordAngle, ciRule, endRule, actOn}
 use Rattle.hpgl.specs.Machine.{vertex, rectangleEdges, stored, queued}
 use Rattle.hpgl.specs.ExactModel.{ExactPolygon, ExactSegment, exactSegment, outline, vertexAt, path, lastOf, rectangle, polygonMode, afterEnd, polygonAfter, inkedOnly, move, instructed, added}
@@ -498,37 +497,32 @@ module _ (c : Core) (es : List Edge) (g : ExactPolygon) (f : Fit (c .settings) (
   Ends : Numbers → ℕ → Acted → Type 0
   Ends n op t = (c .carriage .polygon .mode ≡ true → knownInPolygon op ≡ true) → Keeps c es g (Ended op n) t
 
-  keeps-each : (n : Numbers) {op : ℕ} → Instruction op → Ends n op (endRule c op n)
+  keeps-each : (n : Numbers) {op : ℕ} → Works op → Ends n op (endRule c op n)
   unfolding Ends endRule knownInPolygon cellOf polygonAfter afterEnd added instructed
-  keeps-each n ins.IN known = keeps-in n
-  keeps-each n ins.DF known = keeps-df n (outside known)
-  keeps-each n ins.EP known = keeps-ep n
-  keeps-each n ins.IP known = keeps-ip n (outside known)
-  keeps-each n ins.SC known = keeps-sc n (outside known)
-  keeps-each n ins.IW known = keeps-iw n (outside known)
-  keeps-each n ins.RO known = keeps-ro n (outside known)
-  keeps-each n ins.SP known = keeps-sp n
-  keeps-each n ins.PM known = keeps-pm n
-  keeps-each n ins.CI known = keeps-ci n
-  keeps-each n ins.EA known = keeps-ea n
-  keeps-each n ins.ER known = keeps-er n
-  keeps-each n ins.PU known = calm (Ended PU n) c refl refl f l
-  keeps-each n ins.PD known = calm (Ended PD n) c refl refl f l
-  keeps-each n ins.PA known = calm (Ended PA n) c refl refl f l
-  keeps-each n ins.PR known = calm (Ended PR n) c refl refl f l
+  keeps-each n ends.IN known = keeps-in n
+  keeps-each n ends.DF known = keeps-df n (outside known)
+  keeps-each n ends.EP known = keeps-ep n
+  keeps-each n ends.IP known = keeps-ip n (outside known)
+  keeps-each n ends.SC known = keeps-sc n (outside known)
+  keeps-each n ends.IW known = keeps-iw n (outside known)
+  keeps-each n ends.RO known = keeps-ro n (outside known)
+  keeps-each n ends.SP known = keeps-sp n
+  keeps-each n ends.PM known = keeps-pm n
+  keeps-each n ends.CI known = keeps-ci n
+  keeps-each n ends.EA known = keeps-ea n
+  keeps-each n ends.ER known = keeps-er n
 
-  keeps-other : (n : Numbers) (op : ℕ) → rows ≤ op → Ends n op (done c Keep)
+  keeps-rest : (n : Numbers) (op : ℕ) → Rests op → Ends n op (done c Keep)
   unfolding Ends polygonAfter afterEnd added instructed
-  keeps-other n op h known =
-      let no : (k : ℕ) → k < rows → eqb op k ≡ false = λ k s. ne-eqb op k (λ e. omega (arith, e, s, h)) in
-      calm (Ended op n) c (rw (no IN (omega arith), no PM (omega arith), no EA (omega arith), no ER (omega arith)) refl)
-      (rw (no EP (omega arith), no EA (omega arith), no ER (omega arith), no CI (omega arith)) refl) f l
+  keeps-rest n op r known =
+      calm (Ended op n) c (rw (other r IN refl, other r PM refl, other r EA refl, other r ER refl) refl)
+      (rw (other r EP refl, other r EA refl, other r ER refl, other r CI refl) refl) f l
 
   pub keeps : (e : Event) → ((op : ℕ) (n : Numbers) → e ≡ Ended op n → c .carriage .polygon .mode ≡ true → knownInPolygon op ≡ true) → Keeps c es g e (actOn c e)
   unfolding actOn done refuse polygonAfter added Ends
   keeps Nothing known = calm Nothing c refl refl f l
   keeps (Named op) known = keeps-name op
   keeps (Pair n) known = keeps-pair n
-  keeps (Ended op n) known = by-end c n (Ends n) (λ o i. keeps-each n i) (keeps-other n) op (known op n refl)
+  keeps (Ended op n) known = by-end c n (Ends n) (λ o i. keeps-each n i) (keeps-rest n) op (known op n refl)
   keeps (Refused zero) known = calm (Refused 0) c refl refl f l
   keeps (Refused (suc k)) known = refused (Refused (suc k)) k

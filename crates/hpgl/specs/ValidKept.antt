@@ -26,8 +26,9 @@ use Rattle.hpgl.specs.declared.Work.{Work}
 use Rattle.hpgl.specs.declared.Work.the-variants as work
 use Rattle.hpgl.specs.declared.State.{State}
 use Rattle.hpgl.specs.Place.{point}
-use Rattle.hpgl.specs.Instruction as ins
-use Rattle.hpgl.specs.Instruction.{Instruction, instruction}
+use Rattle.hpgl.specs.declared.Acted.{Acted}
+use Rattle.hpgl.specs.Ends as ends
+use Rattle.hpgl.specs.Ends.{Works, by-end}
 use Rattle.hpgl.specs.Rules.{freshSettings, noPolygon, freshCarriage, freshCore, int16, endRule, actOn}
 use Rattle.hpgl.specs.Machine.{goodLimits, hardLimits, noEdge, freshState, waiting, rectangleEdges, stored, queued, applied, acted, takeState, workAfter, drawState}
 use Rattle.hpgl.specs.Numbers.{mostEdges}
@@ -48,27 +49,23 @@ use Rattle.hpgl.specs.ReaderKept.{step-event, known-after, readable-afte
 outside : {mode : Bool} → (mode ≡ true → false ≡ true) → mode ≡ false
 outside w = unknown-outside refl w
 
-valid-each : {c : Core} {n : Numbers} {op : ℕ} → ValidCore c → Instruction op → ValidEvent c (Ended op n) → ValidActed c (endRule c op n)
+valid-each : {c : Core} {n : Numbers} {op : ℕ} → ValidCore c → Works op → ValidEvent c (Ended op n) → ValidActed c (endRule c op n)
 unfolding endRule knownInPolygon cellOf
-valid-each {c} {n} w ins.IN h = valid-in w
-valid-each {c} {n} w ins.DF h = valid-df w (outside (h .1))
-valid-each {c} {n} w ins.EP h = valid-ep w
-valid-each {c} {n} w ins.IP h = valid-ip w (outside (h .1)) n
-valid-each {c} {n} w ins.SC h = valid-sc w (outside (h .1)) (h .0 .numbers)
-valid-each {c} {n} w ins.IW h = valid-iw w (outside (h .1)) n
-valid-each {c} {n} w ins.RO h = valid-ro w (outside (h .1)) n
-valid-each {c} {n} w ins.SP h = valid-sp n w
-valid-each {c} {n} w ins.PM h = valid-pm n w
-valid-each {c} {n} w ins.CI h = valid-ci w (h .0 .numbers)
-valid-each {c} {n} w ins.EA h = valid-ea w (h .0 .numbers)
-valid-each {c} {n} w ins.ER h = valid-er w (h .0 .numbers)
-valid-each {c} {n} w ins.PU h = keeps c c w
-valid-each {c} {n} w ins.PD h = keeps c c w
-valid-each {c} {n} w ins.PA h = keeps c c w
-valid-each {c} {n} w ins.PR h = keeps c c w
+valid-each {c} {n} w ends.IN h = valid-in w
+valid-each {c} {n} w ends.DF h = valid-df w (outside (h .1))
+valid-each {c} {n} w ends.EP h = valid-ep w
+valid-each {c} {n} w ends.IP h = valid-ip w (outside (h .1)) n
+valid-each {c} {n} w ends.SC h = valid-sc w (outside (h .1)) (h .0 .numbers)
+valid-each {c} {n} w ends.IW h = valid-iw w (outside (h .1)) n
+valid-each {c} {n} w ends.RO h = valid-ro w (outside (h .1)) n
+valid-each {c} {n} w ends.SP h = valid-sp n w
+valid-each {c} {n} w ends.PM h = valid-pm n w
+valid-each {c} {n} w ends.CI h = valid-ci w (h .0 .numbers)
+valid-each {c} {n} w ends.EA h = valid-ea w (h .0 .numbers)
+valid-each {c} {n} w ends.ER h = valid-er w (h .0 .numbers)
 
 pub valid-end : {c : Core} {op : ℕ} {n : Numbers} → ValidCore c → ValidEvent c (Ended op n) → ValidActed c (endRule c op n)
-valid-end {op} w h = valid-each w (instruction op (h .0 .listed)) h
+valid-end {c} {op} {n} w h = by-end c n (λ (op : ℕ) (t : Acted). ValidEvent c (Ended op n) → ValidActed c t) (λ o i. valid-each w i) (λ o r h. keeps c c w) op h
 
 pub valid-event : {c : Core} (e : Event) → ValidCore c → ValidEvent c e → ValidActed c (actOn c e)
 unfolding actOn

@@ -1,14 +1,14 @@
 -- Facts that the functions' proofs cite: the search of the table, and the instructions that take pairs.
 use mathlib.Core.Path.{_≡_, refl, sym, _∙_}
-use mathlib.Core.Bool.{Bool, true, false, not, cond, true≢false}
+use mathlib.Core.Bool.{Bool, true, false, cond, true≢false}
 use Prim.Native.Nat.{ℕ, zero, suc, _+_, _-_, _%_, _≤_, _<_}
 use native.Mathlib.Nat.{sub-zero}
 use native.Mathlib.Omega.{arith}
-use borrow.Author.Tests.{ltb-true, ltb-false, le-leb}
-use lib.Dec.{T, ltb→lt, leb, ltb, eqb}
+use borrow.Author.Tests.{ltb-true, ltb-false, le-ltb, le-leb}
+use lib.Dec.{ltb→lt, leb, ltb, eqb}
 use Rattle.mnemonics.specs.declared.Found.the-variants.{At, Nowhere}
-use Rattle.mnemonics.specs.Table.{PU, PD, PA, PR, rows, firstLetter, step, any, cellOf, namedOf, findFrom, findOf, beginsFrom, beginsName, countFits, hasRoom, takesPairs}
-use Rattle.mnemonics.specs.Every.{every-at}
+use Rattle.mnemonics.specs.Table.{PU, PD, PA, PR, IN, rows, firstLetter, step, any, cellOf, namedOf, findFrom, findOf, beginsFrom, beginsName, countFits, hasRoom, takesPairs}
+use Rattle.mnemonics.specs.Every.{every-at, same, same-equal}
 
 -- The search of n instructions from place i on: it ends at i, or goes on after it.
 pub find-here : (a b i n : ℕ) → 0 < n → namedOf i a b ≡ true → findFrom a b i n ≡ At i
@@ -40,40 +40,24 @@ pub step-above-0 : (op : ℕ) → op < rows → 0 < cellOf op step
 unfolding cellOf
 step-above-0 op h = ltb→lt 0 (cellOf op step) (every-at (λ i. ltb 0 (cellOf i step)) rows tt op h)
 
--- Pairs are taken by the last four of the table, and by no other. What holds of their rows holds of each that takes them.
-fails : (t : Bool) → T (not t) → t ≡ false
-fails false t = refl
-fails true t = absurd t
-
-last-four : (P : ℕ → Type 0) → P PU → P PD → P PA → P PR → (op : ℕ) → PU ≤ op → op < rows → P op
-last-four P u d a r op h k = go (op - PU) (omega arith)
+-- Pairs are taken by the first four of the table, and by no other. What holds of their rows holds of each that takes them.
+pub pairs-first : (op : ℕ) → takesPairs op ≡ ltb op IN
+unfolding takesPairs cellOf same
+pairs-first op = go (ltb op rows) refl
   where
-    go : (i : ℕ) → op ≡ PU + i → P op
-    go zero e = rw e u
-    go (suc zero) e = rw e d
-    go (suc (suc zero)) e = rw e a
-    go (suc (suc (suc zero))) e = rw e r
-    go (suc (suc (suc (suc i)))) e = absurd (omega (arith, e))
-
-pub singles-first : (op : ℕ) → op < PU → takesPairs op ≡ false
-unfolding takesPairs cellOf
-singles-first op h = fails (takesPairs op) (every-at (λ i. not (takesPairs i)) PU tt op h)
-
-pub pairs-last : (op : ℕ) → PU ≤ op → takesPairs op ≡ ltb op rows
-unfolding takesPairs cellOf
-pairs-last op h = go (ltb op rows) refl
-  where
-    go : (t : Bool) → ltb op rows ≡ t → takesPairs op ≡ t
-    go true e = last-four (λ i. takesPairs i ≡ true) refl refl refl refl op h (ltb-true op rows e)
-    go false e = simp e
+    go : (t : Bool) → ltb op rows ≡ t → takesPairs op ≡ ltb op IN
+    go true e = same-equal (takesPairs op) (ltb op IN) (every-at (λ i. same (takesPairs i) (ltb i IN)) rows tt op (ltb-true op rows e))
+    go false e = rw e (sym (le-ltb op IN (omega (arith, ltb-false op rows e))))
 
 of-pairs : (P : ℕ → Type 0) → P PU → P PD → P PA → P PR → (op : ℕ) → takesPairs op ≡ true → P op
-of-pairs P u d a r op e = go (ltb op PU) (ltb op rows) refl refl
+of-pairs P u d a r op e = go op (ltb-true op IN (sym (pairs-first op) ∙ e))
   where
-    go : (x y : Bool) → ltb op PU ≡ x → ltb op rows ≡ y → P op
-    go true y h k = absurd (true≢false (sym e ∙ singles-first op (ltb-true op PU h)))
-    go false true h k = last-four P u d a r op (ltb-false op PU h) (ltb-true op rows k)
-    go false false h k = absurd (true≢false (sym e ∙ pairs-last op (ltb-false op PU h) ∙ k))
+    go : (i : ℕ) → i < IN → P i
+    go zero h = u
+    go (suc zero) h = d
+    go (suc (suc zero)) h = a
+    go (suc (suc (suc zero))) h = r
+    go (suc (suc (suc (suc i)))) h = absurd (omega (arith, h))
 
 -- Their room and their counts: "any even count".
 pub pairs-room : (op n : ℕ) → takesPairs op ≡ true → hasRoom op n ≡ ltb n any

@@ -1,12 +1,12 @@
 -- Two letters as one number, and the letters that names begin with as bits of one.
 use borrow.Author.Tests.{eq-eqb, ne-eqb, eqb-true, eqb-false}
-use mathlib.Core.Path.{_≡_, refl, sym}
-use mathlib.Core.Bool.{Bool, true, false, cond, _&&_}
-use Prim.Native.Nat.{ℕ, _+_, _-_, _*_, _/_, _%_, _^_, _≤_, _<_}
+use mathlib.Core.Path.{_≡_, refl}
+use mathlib.Core.Bool.{Bool, true, false, cond}
+use Prim.Native.Nat.{ℕ, zero, suc, _+_, _-_, _*_, _/_, _%_, _^_, _≤_, _<_}
 use native.Mathlib.Omega.{arith}
-use lib.Dec.{T, eqb}
-use Rattle.mnemonics.specs.Every.{every-at}
-use Rattle.mnemonics.specs.Table.{cellOf, beginsFrom, beginsName}
+use lib.Dec.{leb→le, leb, eqb}
+use Rattle.mnemonics.specs.Every.{every-at, same, same-equal}
+use Rattle.mnemonics.specs.Table.{rows, firstLetter, cellOf, beginsFrom, beginsName}
 
 -- A letter is below 256, so that two of them make one number and no others make the same.
 pub both-same : (a b c d : ℕ) → b < 256 → d < 256 → eqb (a * 256 + b) (c * 256 + d) ≡ cond (eqb a c) (eqb b d) false
@@ -23,42 +23,36 @@ both-same a b c d h k = go (eqb a c) refl (eqb b d) refl
     go true e false f = ne-eqb m n (λ x. eqb-false b d f (omega (arith, x, eqb-true a c e)))
     go false e t f = ne-eqb m n (λ x. eqb-false a c e (omega (arith, x)))
 
--- Bit i of the letters that names begin with.
+-- The letters that names begin with as bits, those of the first n capitals.
+abbrev bits : ℕ → ℕ
+bits zero = 0
+bits (suc n) = cond (beginsName (65 + n)) (2 ^ n) 0 + bits n
+
 abbrev pub bit : ℕ → Bool
-bit i = eqb (426268 / 2 ^ i % 2) 1
-
-same : Bool → Bool → Bool
-same true b = b
-same false true = false
-same false false = true
-
-same-is : (a b : Bool) → T (same a b) → a ≡ b
-unfolding same
-same-is true true t = refl
-same-is false false t = refl
-same-is true false t = absurd t
-same-is false true t = absurd t
+bit i = eqb (bits 26 / 2 ^ i % 2) 1
 
 pub capital : (a : ℕ) → 65 ≤ a → a ≤ 90 → bit (a - 65) ≡ beginsName a
 unfolding same beginsName beginsFrom cellOf
 capital a h k =
     let i : 65 + (a - 65) ≡ a = omega arith in
-    rw i at (same-is (bit (a - 65)) (beginsName (65 + (a - 65))) (every-at (λ j. same (bit j) (beginsName (65 + j))) 26 tt (a - 65) (omega arith)))
+    rw i at (same-equal (bit (a - 65)) (beginsName (65 + (a - 65))) (every-at (λ j. same (bit j) (beginsName (65 + j))) 26 tt (a - 65) (omega arith)))
 
 -- No other byte begins a name.
-other : (l a : ℕ) → 65 ≤ l → l ≤ 90 → (65 ≤ a → a ≤ 90 → ⊥) → eqb l a ≡ false
-other l a h k n = ne-eqb l a (λ e. n (omega (arith, e)) (omega (arith, e)))
+from-A : (i : ℕ) → i < rows → 65 ≤ cellOf i firstLetter
+unfolding cellOf
+from-A i h = leb→le 65 (cellOf i firstLetter) (every-at (λ j. leb 65 (cellOf j firstLetter)) rows tt i h)
+
+to-Z : (i : ℕ) → i < rows → cellOf i firstLetter ≤ 90
+unfolding cellOf
+to-Z i h = leb→le (cellOf i firstLetter) 90 (every-at (λ j. leb (cellOf j firstLetter) 90) rows tt i h)
+
+none-from : (a : ℕ) → (65 ≤ a → a ≤ 90 → ⊥) → (i n : ℕ) → i + n ≤ rows → false ≡ beginsFrom a i n
+unfolding beginsFrom
+none-from a out i zero h = refl
+none-from a out i (suc n) h =
+    let k : i < rows = omega (arith, h) in
+    rw (ne-eqb (cellOf i firstLetter) a (λ e. out (omega (arith, e, from-A i k)) (omega (arith, e, to-Z i k)))) (none-from a out (i + 1) n (omega (arith, h)))
 
 pub no-capital : (a : ℕ) → (65 ≤ a → a ≤ 90 → ⊥) → false ≡ beginsName a
-unfolding beginsName beginsFrom cellOf
-no-capital a n =
-    rw (
-      other 80 a (omega arith) (omega arith) n,
-      other 83 a (omega arith) (omega arith) n,
-      other 73 a (omega arith) (omega arith) n,
-      other 67 a (omega arith) (omega arith) n,
-      other 68 a (omega arith) (omega arith) n,
-      other 69 a (omega arith) (omega arith) n,
-      other 82 a (omega arith) (omega arith) n,
-    )
-    refl
+unfolding beginsName
+no-capital a out = none-from a out 0 rows (omega arith)

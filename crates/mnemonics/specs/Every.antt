@@ -1,6 +1,6 @@
 -- A rule of the table, shown of every instruction by one test that is computed.
 use mathlib.Core.Path.{_≡_, refl}
-use mathlib.Core.Bool.{Bool, true, false, _&&_}
+use mathlib.Core.Bool.{Bool, true, false, not, _&&_}
 use Prim.Native.Nat.{ℕ, zero, suc, _<_}
 use native.Mathlib.Omega.{arith}
 use lib.Dec.{T, eqb}
@@ -29,3 +29,15 @@ every-at p (suc n) t i h = go (eqb i n) refl (every-at p n (and-right (p n) (eve
     go : (x : Bool) → eqb i n ≡ x → (i < n → T (p i)) → T (p i)
     go true e k = rw (eqb-true i n e) (and-left (p n) (every p n) t)
     go false e k = k (omega (arith, eqb-false i n e))
+
+-- Two tests that give the same.
+unfoldable pub same : Bool → Bool → Bool
+same true b = b
+same false b = not b
+
+pub same-equal : (a b : Bool) → T (same a b) → a ≡ b
+unfolding same
+same-equal true true t = refl
+same-equal false false t = refl
+same-equal true false t = absurd t
+same-equal false true t = absurd t

@@ -1,3 +1,4 @@
 pub mod Table
 pub mod Every
-pub mod Sixteen
+pub mod Among
+pub mod Said

@@ -8,54 +8,54 @@ use lib.Dec.{leb, ltb, eqb}
 use Rattle.mnemonics.specs.declared.Found.{Found}
 use Rattle.mnemonics.specs.declared.Found.the-variants.{At, Nowhere}
 
--- An instruction's code is its place in the table.
-abbrev pub IN : ℕ
-IN = 0
-
-abbrev pub DF : ℕ
-DF = 1
-
-abbrev pub EP : ℕ
-EP = 2
-
-abbrev pub IP : ℕ
-IP = 3
-
-abbrev pub SC : ℕ
-SC = 4
-
-abbrev pub IW : ℕ
-IW = 5
-
-abbrev pub RO : ℕ
-RO = 6
-
-abbrev pub SP : ℕ
-SP = 7
-
-abbrev pub PM : ℕ
-PM = 8
-
-abbrev pub CI : ℕ
-CI = 9
-
-abbrev pub EA : ℕ
-EA = 10
-
-abbrev pub ER : ℕ
-ER = 11
-
+-- An instruction's code is its place in the table. The four that take pairs come first; another instruction is another row at the end, so that no code changes.
 abbrev pub PU : ℕ
-PU = 12
+PU = 0
 
 abbrev pub PD : ℕ
-PD = 13
+PD = 1
 
 abbrev pub PA : ℕ
-PA = 14
+PA = 2
 
 abbrev pub PR : ℕ
-PR = 15
+PR = 3
+
+abbrev pub IN : ℕ
+IN = 4
+
+abbrev pub DF : ℕ
+DF = 5
+
+abbrev pub EP : ℕ
+EP = 6
+
+abbrev pub IP : ℕ
+IP = 7
+
+abbrev pub SC : ℕ
+SC = 8
+
+abbrev pub IW : ℕ
+IW = 9
+
+abbrev pub RO : ℕ
+RO = 10
+
+abbrev pub SP : ℕ
+SP = 11
+
+abbrev pub PM : ℕ
+PM = 12
+
+abbrev pub CI : ℕ
+CI = 13
+
+abbrev pub EA : ℕ
+EA = 14
+
+abbrev pub ER : ℕ
+ER = 15
 
 abbrev pub rows : ℕ
 rows = 16
@@ -93,7 +93,11 @@ row a b l m s p c = code a ∷ code b ∷ l ∷ m ∷ s ∷ p ∷ c ∷ []
 -- in polygon mode ("only PU, PD, PA, PR, PM, IN"); 1 if it changes settings.
 abbrev pub table : List (List ℕ)
 table =
-    row "I" "N" 0 0 1 1 1
+    row "P" "U" 0 any 2 1 0
+    ∷ row "P" "D" 0 any 2 1 0
+    ∷ row "P" "A" 0 any 2 1 0
+    ∷ row "P" "R" 0 any 2 1 0
+    ∷ row "I" "N" 0 0 1 1 1
     ∷ row "D" "F" 0 0 1 0 1
     ∷ row "E" "P" 0 0 1 0 0
     ∷ row "I" "P" 0 4 2 0 1
@@ -105,10 +109,6 @@ table =
     ∷ row "C" "I" 1 2 1 0 0
     ∷ row "E" "A" 2 2 1 0 0
     ∷ row "E" "R" 2 2 1 0 0
-    ∷ row "P" "U" 0 any 2 1 0
-    ∷ row "P" "D" 0 any 2 1 0
-    ∷ row "P" "A" 0 any 2 1 0
-    ∷ row "P" "R" 0 any 2 1 0
     ∷ []
 
 -- The row of an instruction, and what stands in its column.
@@ -157,7 +157,7 @@ countFits op n =
 unfoldable pub hasRoom : ℕ → ℕ → Bool
 hasRoom op n = cond (ltb op rows) (ltb n (cellOf op most)) false
 
--- "A pair of the last four is carried out on the byte that ends its second number."
+-- "A pair of the last four is carried out on the byte that ends its second number": of 01's list PU, PD, PA, PR, which have no most.
 unfoldable pub takesPairs : ℕ → Bool
 takesPairs op = cond (ltb op rows) (eqb (cellOf op most) any) false
 

@@ -3,38 +3,38 @@ ghost use mathlib.Core.Path.{_≡_};
 ghost use Prim.Native.Nat.{_+_, _*_, _<_};
 ghost use Rattle.mnemonics.specs.Table.{rows, rowOf, namesOf, findOf, beginsName, isLabel, countFits, takesPairs, hasRoom, knownInPolygon, changesSettings};
 
-// An instruction's code is its place in the table.
-pub const IN: usize = 0;
+// An instruction's code is its place in the table. The four that take pairs come first; another instruction is another row at the end, so that no code changes.
+pub const PU: usize = 0;
 
-pub const DF: usize = 1;
+pub const PD: usize = 1;
 
-pub const EP: usize = 2;
+pub const PA: usize = 2;
 
-pub const IP: usize = 3;
+pub const PR: usize = 3;
 
-pub const SC: usize = 4;
+pub const IN: usize = 4;
 
-pub const IW: usize = 5;
+pub const DF: usize = 5;
 
-pub const RO: usize = 6;
+pub const EP: usize = 6;
 
-pub const SP: usize = 7;
+pub const IP: usize = 7;
 
-pub const PM: usize = 8;
+pub const SC: usize = 8;
 
-pub const CI: usize = 9;
+pub const IW: usize = 9;
 
-pub const EA: usize = 10;
+pub const RO: usize = 10;
 
-pub const ER: usize = 11;
+pub const SP: usize = 11;
 
-pub const PU: usize = 12;
+pub const PM: usize = 12;
 
-pub const PD: usize = 13;
+pub const CI: usize = 13;
 
-pub const PA: usize = 14;
+pub const EA: usize = 14;
 
-pub const PR: usize = 15;
+pub const ER: usize = 15;
 
 const ROWS: usize = 16;
 
@@ -60,6 +60,10 @@ const COLUMNS: usize = 7;
 const ANY: u8 = 255;
 
 const TABLE: [[u8; COLUMNS]; ROWS] = [
+    [b'P', b'U', 0, ANY, 2, 1, 0],
+    [b'P', b'D', 0, ANY, 2, 1, 0],
+    [b'P', b'A', 0, ANY, 2, 1, 0],
+    [b'P', b'R', 0, ANY, 2, 1, 0],
     [b'I', b'N', 0, 0, 1, 1, 1],
     [b'D', b'F', 0, 0, 1, 0, 1],
     [b'E', b'P', 0, 0, 1, 0, 0],
@@ -72,10 +76,6 @@ const TABLE: [[u8; COLUMNS]; ROWS] = [
     [b'C', b'I', 1, 2, 1, 0, 0],
     [b'E', b'A', 2, 2, 1, 0, 0],
     [b'E', b'R', 2, 2, 1, 0, 0],
-    [b'P', b'U', 0, ANY, 2, 1, 0],
-    [b'P', b'D', 0, ANY, 2, 1, 0],
-    [b'P', b'A', 0, ANY, 2, 1, 0],
-    [b'P', b'R', 0, ANY, 2, 1, 0],
 ];
 
 pub enum Found {
@@ -181,15 +181,12 @@ pub fn has_room(op: usize, n: u8) -> bool
     false
 }
 
-// Whether an instruction takes pairs: the last four do. Asked for every number, so the table is not laid out; nor is it for
+// Whether an instruction takes pairs: the first four do. Asked for every number, so the table is not laid out; nor is it for
 // their counts, above.
 pub fn takes_pairs(op: usize) -> bool
     ensures { λ r. ⌜ r ≡ takesPairs op ⌝ }
 {
-    if op < PU {
-        return false;
-    }
-    op < ROWS
+    op < IN
 }
 
 // Whether an instruction is known in polygon mode.

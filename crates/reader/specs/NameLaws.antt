@@ -1,5 +1,5 @@
 -- "Two letters, the second directly after the first, name an instruction; a first letter followed by anything else is refused with 1 on that byte, an unknown name with 1
--- on its second letter." Which letters name one is computed in the crate mnemonics (Sixteen.antt).
+-- on its second letter." Which letters name one is computed in the crate mnemonics (Said.antt).
 use mathlib.Core.Path.{_≡_, refl, ap, _∙_}
 use mathlib.Core.Bool.{Bool, true, false, cond}
 use Prim.Native.Nat.{ℕ}

@@ -1,6 +1,7 @@
 -- The proof of `begins_name`: a capital by its bit, and no other byte.
 use native.Mathlib.Omega.{arith}
 use borrow.Author.Needs.{needs}
+use Rattle.mnemonics.specs.Table.{cellOf, beginsFrom, beginsName}
 use Rattle.mnemonics.proofs.Letters.{capital, no-capital}
 use Rattle.mnemonics.proofs.begins_name.Statement.{statement}
 use Rattle.mnemonics.proofs.begins_name.Tie as tie
@@ -18,6 +19,7 @@ shr-result : tie.Need-shr-result
 shr-result c = search needs
 
 returns-3 : tie.Need-returns-3
+unfolding beginsName beginsFrom cellOf
 returns-3 c = capital _ (c .before .if1 .left) (c .if2 .left)
 
 pub begins-name-spec : {M : Type 1} → statement M

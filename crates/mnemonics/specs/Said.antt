@@ -1,7 +1,7 @@
--- Document 01's own sentences on the sixteen instructions, written out a second time beside the table: what is looked up in it is what they say, for every
+-- Document 01's own sentences on the instructions, written out a second time beside the table: what is looked up in it is what they say, for every
 -- instruction and every count that a byte holds, by computation.
-use mathlib.Core.Path.{_≡_, refl}
-use mathlib.Core.Bool.{Bool, true, false, not, _&&_, _||_}
+use mathlib.Core.Path.{_≡_, refl, sym}
+use mathlib.Core.Bool.{Bool, true, false, cond, _&&_, _||_}
 use mathlib.Core.List.{List, [], _∷_}
 use Prim.Native.Nat.{ℕ, zero, suc, _+_, _%_, _<_}
 use Prim.Native.Char.{code}
@@ -9,14 +9,12 @@ use Prim.Native.String.{String, charAt}
 use lib.Dec.{T, ltb, eqb}
 use Rattle.mnemonics.specs.declared.Found.{Found}
 use Rattle.mnemonics.specs.declared.Found.the-variants.{At, Nowhere}
-use Rattle.mnemonics.specs.Table.{IN, DF, EP, IP, SC, IW, RO, SP, PM, CI, EA, ER, PU, PD, PA, PR, rows, cellOf, namedOf, findFrom, findOf, isLabel, countFits, hasRoom, takesPairs, knownInPolygon, changesSettings}
-use Rattle.mnemonics.specs.Every.{every, every-at}
+use Rattle.mnemonics.specs.Table.{IN, DF, EP, IP, SC, IW, RO, SP, PM, CI, EA, ER, PU, PD, PA, PR, rows, most, polygon, settings, any, cellOf, namedOf, findFrom, findOf, isLabel, countFits, hasRoom, takesPairs, knownInPolygon, changesSettings}
+use borrow.Author.Tests.{ltb-true, ltb-false}
+use Rattle.mnemonics.specs.Every.{every, every-at, same, same-equal}
+use Rattle.mnemonics.specs.Among.{among, below, beyond}
 
 -- ---- what 01 says
-
-abbrev among : ℕ → List ℕ → Bool
-among n [] = false
-among n (m ∷ ms) = eqb n m || among n ms
 
 -- "IN, DF, EP 0; IP 0, 2 or 4; SC, IW 0 or 4; RO, SP, PM 0 or 1; CI 1 or 2; EA, ER 2; PU, PD, PA, PR any even count"
 abbrev pub allowed : ℕ → ℕ → Bool
@@ -37,30 +35,19 @@ room op n =
     || among op (IP ∷ SC ∷ IW ∷ []) && ltb n 4
     || among op (PU ∷ PD ∷ PA ∷ PR ∷ []) && ltb n 255
 
--- "A pair of the last four"
-abbrev pub pairs : ℕ → Bool
-pairs op = among op (PU ∷ PD ∷ PA ∷ PR ∷ [])
+-- "A pair of the last four", of 01's list: PU, PD, PA, PR
+abbrev pub pairs : List ℕ
+pairs = PU ∷ PD ∷ PA ∷ PR ∷ []
 
 -- "There only PU, PD, PA, PR, PM, IN are known"
-abbrev pub known : ℕ → Bool
-known op = among op (PU ∷ PD ∷ PA ∷ PR ∷ PM ∷ IN ∷ [])
+abbrev pub known : List ℕ
+known = PU ∷ PD ∷ PA ∷ PR ∷ PM ∷ IN ∷ []
 
 -- the instructions that "Position" has under the settings of the sheet
-abbrev pub sets : ℕ → Bool
-sets op = among op (IN ∷ DF ∷ IP ∷ SC ∷ RO ∷ IW ∷ [])
+abbrev pub sets : List ℕ
+sets = IN ∷ DF ∷ IP ∷ SC ∷ RO ∷ IW ∷ []
 
 -- ---- what is looked up
-
-same : Bool → Bool → Bool
-same true b = b
-same false b = not b
-
-same-equal : (a b : Bool) → T (same a b) → a ≡ b
-unfolding same
-same-equal true true t = refl
-same-equal false false t = refl
-same-equal true false t = absurd t
-same-equal false true t = absurd t
 
 -- two tests that agree on every instruction and every count of a byte
 agree : (ℕ → ℕ → Bool) → (ℕ → ℕ → Bool) → Bool
@@ -79,21 +66,25 @@ pub room-said : (op n : ℕ) → op < rows → n < 256 → hasRoom op n ≡ room
 unfolding agree same hasRoom cellOf
 room-said = agree-at hasRoom room tt
 
--- and of an instruction alone
-agree-one : (f g : ℕ → Bool) → T (every (λ op. same (f op) (g op)) rows) → (op : ℕ) → op < rows → f op ≡ g op
-agree-one f g t op h = same-equal (f op) (g op) (every-at (λ o. same (f o) (g o)) rows t op h)
+-- and of an instruction alone, by its column: the listed ones, and no code beyond the table
+agree-one : (f : ℕ → Bool) (ks : List ℕ) → T (every (λ op. same (f op) (among op ks)) rows) → T (below rows ks) → (op : ℕ) → cond (ltb op rows) (f op) false ≡ among op ks
+agree-one f ks t b op = go (ltb op rows) refl
+  where
+    go : (x : Bool) → ltb op rows ≡ x → cond x (f op) false ≡ among op ks
+    go true e = same-equal (f op) (among op ks) (every-at (λ o. same (f o) (among o ks)) rows t op (ltb-true op rows e))
+    go false e = sym (beyond rows ks b op (ltb-false op rows e))
 
-pub pairs-said : (op : ℕ) → op < rows → takesPairs op ≡ pairs op
+pub pairs-said : (op : ℕ) → takesPairs op ≡ among op pairs
 unfolding same takesPairs cellOf
-pairs-said = agree-one takesPairs pairs tt
+pairs-said = agree-one (λ op. eqb (cellOf op most) any) pairs tt tt
 
-pub known-said : (op : ℕ) → op < rows → knownInPolygon op ≡ known op
+pub known-said : (op : ℕ) → knownInPolygon op ≡ among op known
 unfolding same knownInPolygon cellOf
-known-said = agree-one knownInPolygon known tt
+known-said = agree-one (λ op. eqb (cellOf op polygon) 1) known tt tt
 
-pub sets-said : (op : ℕ) → op < rows → changesSettings op ≡ sets op
+pub sets-said : (op : ℕ) → changesSettings op ≡ among op sets
 unfolding same changesSettings cellOf
-sets-said = agree-one changesSettings sets tt
+sets-said = agree-one (λ op. eqb (cellOf op settings) 1) sets tt tt
 
 -- ---- names: each is found at its code, and of all pairs of capitals no more than sixteen name an instruction; LB alone is a label
 
