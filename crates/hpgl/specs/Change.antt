@@ -1,4 +1,4 @@
--- A core with one part changed. Nothing here decides anything.
+-- A state with one part changed. Nothing here decides anything.
 use mathlib.Core.Bool.{Bool}
 use Prim.Native.Nat.{ℕ}
 use Rattle.clip.specs.declared.Point.{Point}
@@ -10,6 +10,13 @@ use Rattle.hpgl.specs.declared.Pen.{Pen}
 use Rattle.hpgl.specs.declared.Polygon.{Polygon}
 use Rattle.hpgl.specs.declared.Carriage.{Carriage}
 use Rattle.hpgl.specs.declared.Core.{Core}
+use Rattle.hpgl.specs.declared.Work.{Work}
+use Rattle.hpgl.specs.declared.State.{State}
+
+-- ---- the state
+
+abbrev pub withWork : State → Work → State
+withWork m w = record { reader = m .reader; core = m .core; store = m .store; work = w }
 
 -- ---- the carriage
 

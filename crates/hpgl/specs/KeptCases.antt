@@ -4,7 +4,6 @@ use mathlib.Core.Path.{_≡_, refl}
 use mathlib.Core.Bool.{Bool, true, false, cond}
 use Prim.Native.Nat.{ℕ, _≤_, _<_}
 use native.Mathlib.Omega.{arith}
-use Rattle.hpgl.specs.declared.Position.{Position}
 use Rattle.hpgl.specs.declared.Settings.{Settings}
 use Rattle.hpgl.specs.declared.Polygon.{Polygon}
 use Rattle.hpgl.specs.declared.Core.{Core}
@@ -21,9 +20,8 @@ when P true g h = g refl
 when P false g h = h refl
 
 -- a core, by the parts of which something is asked
-pub valid-core : {s : Settings} {p : Position} {number : ℕ} {down changed relative : Bool} {g : Polygon} →
-    ValidSettings s → Placed s p → number ≤ mostPen → ValidPolygon s g →
-    ValidCore (record { settings = s; carriage = record { position = p; pen = record { number = number; down = down; changed = changed }; relative = relative; polygon = g } })
+pub valid-core : {d : Core} → ValidSettings (d .settings) → Placed (d .settings) (d .carriage .position) → d .carriage .pen .number ≤ mostPen →
+    ValidPolygon (d .settings) (d .carriage .polygon) → ValidCore d
 valid-core s p n g = record { settings = s; position = p; pen = n; polygon = g }
 
 -- outside polygon mode nothing is asked of the stored positions

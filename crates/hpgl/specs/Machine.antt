@@ -34,6 +34,7 @@ use Rattle.hpgl.specs.declared.Drawn.the-variants as drawn
 use Rattle.hpgl.specs.declared.Look.{Look}
 use Rattle.hpgl.specs.Numbers.{badLimits, busy, mostEdges}
 use Rattle.hpgl.specs.Place.{point, location, limits}
+use Rattle.hpgl.specs.Change.{withWork}
 use Rattle.hpgl.specs.Rules.{origin, int16, freshCore, actOn}
 
 -- ---- Fresh
@@ -162,7 +163,7 @@ drawWork m (Edges i zero) = drawn.Idle
 drawWork m (Edges i (suc n)) = edgeShown (m .core) (getD (m .store .edges) i noEdge)
 
 unfoldable pub drawState : State → State
-drawState m = record { reader = m .reader; core = m .core; store = m .store; work = workAfter (m .work) }
+drawState m = withWork m (workAfter (m .work))
 
 unfoldable pub drawAnswer : State → Drawn
 drawAnswer m = drawWork m (m .work)

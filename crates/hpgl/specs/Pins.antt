@@ -35,6 +35,7 @@ use Rattle.hpgl.specs.Numbers.{unknown, outOfRange, tooFar, polygonFull,
 use Rattle.hpgl.specs.Place.{rounded, location, inRange, absolutePosition, relativePosition}
 use Rattle.hpgl.specs.Ends as ends
 use Rattle.hpgl.specs.Ends.{Works, by-end}
+use Rattle.hpgl.specs.Change.{withWork}
 use Rattle.hpgl.specs.Rules.{done, refuse, nameRule, inRule, dfRule, goodCorners, setCorners, ipRule, scRule, setTurn, roRule, setWindow, iwRule, setPen, spRule, moveTo, pointCost, storePoint, aimed, goTo, pairRule, pm0, closes, ended, pm1In, pm1, leave, pm2In, pm2, pmRule, epRule, rectangleTo, firstTwo, eaRule, erRule, circleFits, circleWith, chordAngle, ciRule, endRule, actOn}
 use Rattle.hpgl.specs.Machine.{waiting, stored, queued, readerAfter, applied, acted, takeState, takeNumber}
 
@@ -239,7 +240,7 @@ label-step r b l n =
 
 -- "its text up to byte 3 is passed over": where no segment waits, a byte of it changes nothing
 pub label-passes : (m : State) (b : ℕ) → m .reader .mode ≡ Label → waiting (m .work) ≡ 0 → (b ≡ labelEnd → ⊥) →
-    (takeState m b ≡ record { reader = m .reader; core = m .core; store = m .store; work = work.Nothing }) × (takeNumber m b ≡ 0)
+    (takeState m b ≡ withWork m work.Nothing) × (takeNumber m b ≡ 0)
 unfolding takeState takeNumber acted actOn done applied readerAfter stored queued
 label-passes m b l w n =
     let s : stepOf (m .reader) b ≡ record { reader = m .reader; event = Nothing } = label-step (m .reader) b l n in
@@ -253,7 +254,7 @@ pub label-stays : (m : State) (b : ℕ) → m .reader .mode ≡ Label → m .wor
 unfolding waiting
 label-stays m b l w n =
     let p = label-passes m b l (ap waiting w) n in
-    (p .0 ∙ (λ i. record { reader = m .reader; core = m .core; store = m .store; work = sym w i }), p .1)
+    (p .0 ∙ (λ i. withWork m (sym w i)), p .1)
 
 -- ---- a take
 
