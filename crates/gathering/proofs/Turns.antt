@@ -1,11 +1,12 @@
 -- A turn of the loop of `gather` that takes a byte: the loop keeps the parts of the machine apart.
 -- Why: what the turn's calls gave are the parts of `applied`, and a byte that means nothing yet changes the reader alone and leaves no work.
 use mathlib.Core.Path.{_≡_, refl, sym, ap, ap₂, _∙_, subst}
-use mathlib.Core.Bool.{Bool, true, false, true≢false}
+use mathlib.Core.Bool.{Bool, true, false, true≢false, cond}
 use mathlib.Core.List.{List, [], _∷_}
 use mathlib.Core.Logic.{⊎-elim}
-use Prim.Native.Nat.{ℕ, _≤_}
+use Prim.Native.Nat.{ℕ, _+_, _≤_}
 use native.Mathlib.Omega.{arith}
+use lib.Dec.{leb}
 use borrow.Author.Tests.{eq-eqb, ne-eqb}
 use types.Run.{OneOf}
 use denote.Enum.Declared.{tagOf}
@@ -29,7 +30,9 @@ use Rattle.hpgl.specs.declared.Acted.{Acted}
 use Rattle.hpgl.specs.declared.Work.the-variants.{Nothing}
 use Rattle.hpgl.specs.declared.State.{State}
 use Rattle.hpgl.specs.Cases.{never}
-use Rattle.hpgl.specs.Rules.{done, letters, pairRule, actOn}
+use Rattle.hpgl.specs.Numbers.{tooFar, polygonFull, polygonBytes}
+use Rattle.hpgl.specs.Place.{location, inRange}
+use Rattle.hpgl.specs.Rules.{done, refuse, letters, moveTo, pointCost, storePoint, aimed, goTo, pairRule, endRule, actOn}
 use Rattle.hpgl.specs.Machine.{waiting, stored, queued, readerAfter, applied, acted, takeState, takeNumber}
 use Rattle.hpgl.specs.Valid.{Valid}
 use Rattle.hpgl.specs.ValidKept.{valid-take}
@@ -105,9 +108,17 @@ module _ (s : Settings) (h : Hand) (g : Polygon) where
   unfolding actOn done
   none-acts = refl
 
+  pub refused-acts : (k : ℕ) → acting s h g Keep k ≡ actOn (coreOf s h g) (event.Refused k)
+  unfolding actOn refuse
+  refused-acts k = refl
+
   pub ended-acts : (op : ℕ) (n : Numbers) → PU ≤ op → acting s h g Keep 0 ≡ actOn (coreOf s h g) (event.Ended op n)
   unfolding actOn done
   ended-acts op n l = sym (pairs-end (coreOf s h g) op n l)
+
+  pub settled-acts : {c : Core} {t : Acted} (op : ℕ) (n : Numbers) → c ≡ coreOf s h g → t ≡ endRule c op n → t ≡ actOn (coreOf s h g) (event.Ended op n)
+  unfolding actOn
+  settled-acts op n e d = d ∙ ap (λ (c : Core). endRule c op n) e
 
   pub pair-acts : {t : Acted} (n : Coordinates) → t ≡ pairRule (coreOf s h g) n → t ≡ actOn (coreOf s h g) (event.Pair n)
   unfolding actOn
@@ -119,6 +130,25 @@ module _ (s : Settings) (h : Hand) (g : Polygon) where
     named-acts to z e =
         (λ i. record { core = record { settings = s; carriage = e i }; action = Keep; number = z i })
         ∙ sym (name-parts s h g op ∙ rw (eq-eqb (nameNumber (g .mode) op) 0 (sym number ∙ z)) refl)
+
+    pub unknown-acts : (k ≡ 0 → ⊥) → acting s h g Keep k ≡ actOn (coreOf s h g) (event.Named op)
+    unfolding actOn refuse
+    unknown-acts f =
+        ap (λ (n : ℕ). acting s h g Keep n) number
+        ∙ sym (name-parts s h g op ∙ rw (ne-eqb (nameNumber (g .mode) op) 0 (λ e. f (number ∙ e))) refl)
+
+-- a pair that is refused changes nothing
+pub pair-refused : (c : Core) (n : Coordinates) → (pairRule c n .number ≡ 0 → ⊥) → pairRule c n ≡ refuse c (pairRule c n .number)
+unfolding pairRule goTo storePoint moveTo done refuse
+pair-refused c n f = go (inRange (location (c .settings) (aimed c n))) (c .carriage .polygon .mode) (leb (c .carriage .polygon .bytes + pointCost (c .carriage .pen)) polygonBytes) _ _ _ _ f
+  where
+    go : (near mode fits : Bool) (i j : Core) (x y : Action) →
+        let t = cond near (cond mode (cond fits (done i x) (refuse c polygonFull)) (done j y)) (refuse c tooFar) in
+        (t .number ≡ 0 → ⊥) → t ≡ refuse c (t .number)
+    go true true true i j x y f = absurd (f refl)
+    go true true false i j x y f = refl
+    go true false fits i j x y f = absurd (f refl)
+    go false mode fits i j x y f = refl
 
 -- ---- an action that leaves the store, by its tag
 

@@ -27,7 +27,7 @@ use hpgl::State;
 use hpgl::Store;
 use hpgl::Stroke;
 use hpgl::Work;
-use instructions::events::act_on;
+use instructions::events::end_rule;
 use mnemonics::EP;
 use mnemonics::PU;
 use queue::drawing::drawn_of;
@@ -41,6 +41,7 @@ use queue::storing::waiting;
 use reader::Event;
 use reader::Reader;
 use shapes::moves::letters;
+use shapes::moves::line_of;
 use shapes::moves::longer;
 use shapes::moves::name_number;
 use shapes::moves::point;
@@ -342,14 +343,15 @@ pub fn gather(m: State, bytes: &[u8], from: usize, numbers: &mut [i64], on: bool
         reader = q.reader;
         let event = q.event;
         let edges = polygon.edges;
-        // the most of a drawing is done at once
+        let mut number: u8 = 0;
         match event {
             Event::Nothing => {
                 work = Work::Nothing;
                 continue;
             }
             Event::Named(op) => {
-                if name_number(polygon.mode, op) == 0 {
+                number = name_number(polygon.mode, op);
+                if number == 0 {
                     hand = letters(hand, op);
                     work = Work::Nothing;
                     continue;
@@ -358,12 +360,12 @@ pub fn gather(m: State, bytes: &[u8], from: usize, numbers: &mut [i64], on: bool
             Event::Pair(n) => {
                 if polygon.mode {
                     let t = point(frame, hand, here, polygon.bytes, n);
-                    if t.number == 0 {
+                    number = t.number;
+                    if number == 0 {
                         hand = t.hand;
                         here = t.here;
-                        let there = hand.position;
                         if polygon.empty {
-                            polygon = longer(polygon, t.cost, there);
+                            polygon = longer(polygon, t.cost, hand.position);
                             work = Work::Nothing;
                             continue;
                         }
@@ -371,17 +373,22 @@ pub fn gather(m: State, bytes: &[u8], from: usize, numbers: &mut [i64], on: bool
                         let e = t.edge;
                         let k = edges as usize;
                         store.edges[k] = e;
-                        polygon = longer(polygon, t.cost, there);
+                        polygon = longer(polygon, t.cost, hand.position);
                         work = Work::Nothing;
                         continue;
                     }
-                } else if count < room {
+                } else {
                     let t = shift(frame, hand, here, n);
-                    if t.number == 0 {
+                    number = t.number;
+                    if number == 0 {
                         hand = t.hand;
                         here = t.here;
-                        let pen = hand.pen;
                         let line = t.segment;
+                        if count == room {
+                            work = queued(edges, line_of(line));
+                            continue;
+                        }
+                        let pen = hand.pen;
                         let drawn = drawn_of(frame.limits, pen.number, line);
                         count = put(numbers, count, drawn);
                         work = Work::Nothing;
@@ -389,60 +396,65 @@ pub fn gather(m: State, bytes: &[u8], from: usize, numbers: &mut [i64], on: bool
                     }
                 }
             }
-            Event::Ended(op, _) => {
+            Event::Ended(op, n) => {
                 if PU <= op {
                     work = Work::Nothing;
                     continue;
                 }
                 if op == EP {
+                    // once for each polygon: no core is put together for it
                     let pen = hand.pen;
                     work = outline(pen, edges);
                     continue;
                 }
-            }
-            Event::Refused(k) => {
-                if on {
+                let t = end_rule(core_of(settings, hand, polygon), op, n);
+                let core = t.core;
+                let carriage = core.carriage;
+                let position = carriage.position;
+                settings = core.settings;
+                frame = frame_of(settings);
+                hand = hand_of(carriage);
+                here = located_in(frame, position);
+                polygon = carriage.polygon;
+                if t.number > 0 {
+                    // it may leave polygon mode all the same
                     reader = reader.passed_over();
-                    count = put_record(numbers, count, refusal_record(k, at));
+                    work = Work::Nothing;
+                    if on {
+                        count = put_record(numbers, count, refusal_record(t.number, at));
+                        continue;
+                    }
+                    return gathered(reader, core, store, work, at, count, t.number);
+                }
+                let action = t.action;
+                if let Action::Join(e) = action {
+                    let k = edges as usize;
+                    store.edges[k] = e;
                     work = Work::Nothing;
                     continue;
                 }
-            }
-        }
-        // the rest by the rules, with the whole core
-        let rest = q.event;
-        let t = act_on(core_of(settings, hand, polygon), rest);
-        let core = t.core;
-        let carriage = core.carriage;
-        let position = carriage.position;
-        settings = core.settings;
-        frame = frame_of(settings);
-        hand = hand_of(carriage);
-        here = located_in(frame, position);
-        polygon = carriage.polygon;
-        let number = t.number;
-        if number > 0 {
-            work = Work::Nothing;
-            reader = reader.passed_over();
-            if on {
-                count = put_record(numbers, count, refusal_record(number, at));
+                if heavy(action) {
+                    let c = carried(store, edges, polygon.edges, action);
+                    store = c.store;
+                    work = c.work;
+                    continue;
+                }
+                work = queued(polygon.edges, action);
                 continue;
             }
-            return gathered(reader, core, store, work, at, count, number);
+            Event::Refused(k) => {
+                number = k;
+            }
         }
-        let action = t.action;
-        if heavy(action) {
-            let c = carried(store, edges, polygon.edges, action);
-            store = c.store;
-            work = c.work;
+        // what is left is a refusal, and leaves all else as it was
+        reader = reader.passed_over();
+        work = Work::Nothing;
+        if on {
+            count = put_record(numbers, count, refusal_record(number, at));
             continue;
         }
-        work = queued(polygon.edges, action);
-        if let Action::Join(e) = action {
-            let k = edges as usize;
-            store.edges[k] = e;
-            continue;
-        }
+        let core = core_of(settings, hand, polygon);
+        return gathered(reader, core, store, work, at, count, number);
     }
     let core = core_of(settings, hand, polygon);
     gathered(reader, core, store, work, at, count, 0)

@@ -1,10 +1,9 @@
-// What an event does to the core.
+// What an instruction that ends does to the core. Names and pairs have done their work before: the crate shapes.
 ghost use mathlib.Core.Path.{_≡_};
 ghost use Rattle.reader.specs.Sizes.{Small};
 ghost use Rattle.hpgl.specs.Rules as R;
-ghost use Rattle.hpgl.specs.Valid.{ValidCore, ValidEvent};
+ghost use Rattle.hpgl.specs.Valid.{ValidCore};
 use basics::acts::done;
-use basics::acts::refuse;
 use hpgl::Acted;
 use hpgl::Action;
 use hpgl::Core;
@@ -20,7 +19,6 @@ use mnemonics::PM;
 use mnemonics::RO;
 use mnemonics::SC;
 use mnemonics::SP;
-use reader::Event;
 use reader::Numbers;
 use settings::df_rule;
 use settings::in_rule;
@@ -30,8 +28,6 @@ use settings::ro_rule;
 use settings::sc_rule;
 use settings::sp_rule;
 use shapes::circles::ci_rule;
-use shapes::moves::name_rule;
-use shapes::moves::pair_rule;
 use shapes::polygons::ea_rule;
 use shapes::polygons::ep_rule;
 use shapes::polygons::er_rule;
@@ -56,18 +52,5 @@ pub fn end_rule(c: Core, op: usize, n: Numbers) -> Acted
         EA => ea_rule(c, n),
         ER => er_rule(c, n),
         _ => done(c, Action::Keep),
-    }
-}
-
-pub fn act_on(c: Core, e: Event) -> Acted
-    requires { ⌜ ValidCore c × ValidEvent c e ⌝ }
-    ensures { λ r. ⌜ r ≡ R.actOn c e ⌝ }
-{
-    match e {
-        Event::Nothing => done(c, Action::Keep),
-        Event::Named(op) => name_rule(c, op),
-        Event::Pair(n) => pair_rule(c, n),
-        Event::Ended(op, n) => end_rule(c, op, n),
-        Event::Refused(k) => refuse(c, k),
     }
 }

@@ -12,14 +12,10 @@ ghost use Rattle.hpgl.specs.Numbers.{polygonBytes, mostEdges};
 ghost use Rattle.hpgl.specs.Place as P;
 ghost use Rattle.hpgl.specs.Rules as R;
 ghost use Rattle.hpgl.specs.Valid.{LocatablePosition, ValidCore};
-ghost use Rattle.basics.specs.Hand.{frameOf, handOf, carriageOf, coreOf, shiftedOf, pointedOf, lineOf, locationIn, ValidHand, nameNumber};
-use basics::acts::done;
-use basics::acts::refuse;
+ghost use Rattle.basics.specs.Hand.{frameOf, carriageOf, coreOf, shiftedOf, pointedOf, lineOf, locationIn, ValidHand, nameNumber};
 use basics::hand::Hand;
 use basics::hand::Pointed;
 use basics::hand::Shifted;
-use basics::hand::core_of;
-use basics::hand::hand_of;
 use basics::numbers::PEN_BYTES;
 use basics::numbers::POINT_BYTES;
 use basics::numbers::POLYGON_BYTES;
@@ -28,13 +24,11 @@ use basics::numbers::TOO_FAR;
 use basics::numbers::UNKNOWN;
 use basics::places::Frame;
 use basics::places::absolute_on;
-use basics::places::frame_of;
 use basics::places::located;
 use basics::places::located_in;
 use basics::places::reachable;
 use basics::places::relative_position;
 use clip::Point;
-use hpgl::Acted;
 use hpgl::Action;
 use hpgl::Core;
 use hpgl::Edge;
@@ -340,66 +334,5 @@ pub fn point(f: Frame, h: Hand, here: Point, bytes: u16, n: Coordinates) -> Poin
         },
         cost: 0,
         number: TOO_FAR,
-    }
-}
-
-// ---- of a whole core
-
-pub fn name_rule(c: Core, op: usize) -> Acted
-    ensures { λ r. ⌜ r ≡ R.nameRule c op ⌝ }
-{
-    let settings = c.settings;
-    let carriage = c.carriage;
-    let polygon = carriage.polygon;
-    let number = name_number(polygon.mode, op);
-    if number == 0 {
-        let hand = letters(hand_of(carriage), op);
-        return done(core_of(settings, hand, polygon), Action::Keep);
-    }
-    refuse(c, number)
-}
-
-// What a point does.
-fn pointed(c: Core, t: Pointed) -> Acted
-    requires { ⌜ (t .number ≡ 0 → c .carriage .polygon .bytes + t .cost ≤ polygonBytes) × (c .carriage .polygon .edges ≤ mostEdges) ⌝ }
-    ensures { λ r. ⌜ r ≡ pointedOf (c .settings) (handOf (c .carriage)) (c .carriage .polygon) t ⌝ }
-{
-    if t.number == 0 {
-        let settings = c.settings;
-        let carriage = c.carriage;
-        let polygon = carriage.polygon;
-        let hand = t.hand;
-        let position = hand.position;
-        let core = core_of(settings, hand, longer(polygon, t.cost, position));
-        if polygon.empty {
-            return done(core, Action::Keep);
-        }
-        let edge = t.edge;
-        return done(core, Action::Join(edge));
-    }
-    refuse(c, t.number)
-}
-
-pub fn pair_rule(c: Core, n: Coordinates) -> Acted
-    requires { ⌜ ValidCore c × SmallPair n ⌝ }
-    ensures { λ r. ⌜ r ≡ R.pairRule c n ⌝ }
-{
-    let settings = c.settings;
-    let carriage = c.carriage;
-    let position = carriage.position;
-    let polygon = carriage.polygon;
-    let frame = frame_of(settings);
-    let hand = hand_of(carriage);
-    let here = located_in(frame, position);
-    if polygon.mode {
-        return pointed(c, point(frame, hand, here, polygon.bytes, n));
-    }
-    let t = shift(frame, hand, here, n);
-    let there = t.hand;
-    let line = t.segment;
-    Acted {
-        core: core_of(settings, there, polygon),
-        action: line_of(line),
-        number: t.number,
     }
 }

@@ -1,13 +1,15 @@
 -- The proof of `gather`. The invariant is `Far` (Gathers.antt): the marks so far stand in the list, and what is left of feed or plot follows them; with it the
--- frame is that of the settings, and `here` the location of the hand. A turn draws, or does what one event asks: at once (Moving.antt), or by the rules, with
--- the whole core. No way that goes on after a test changes a local before the ways meet, so that nothing is told of a place where they meet.
+-- frame is that of the settings, and `here` the location of the hand. A turn draws, or does what one event asks (Moving.antt), and ends. What is left where the
+-- ways meet is a refusal that changed nothing (`declines`), of which its number alone is told there.
 -- The measure: what waits, and for each byte left one more than can wait after it, which is at most the 720 chords of a circle.
 use borrow.Author.Needs.{needs}
 use mathlib.Core.Path.{_≡_, refl, sym, ap, subst, _∙_}
 use mathlib.Core.Bool.{Bool, true, false, cond}
 use mathlib.Core.List.{List}
-use Prim.Native.Nat.{ℕ, _+_, _*_, _-_, _/_, _≤_, _<_}
+use mathlib.Core.Logic.{⊎-elim}
+use Prim.Native.Nat.{ℕ, _+_, _*_, _-_, _/_, _^_, _≤_, _<_}
 use native.Mathlib.Omega.{arith}
+use borrow.Author.Tests.{ne-eqb}
 use lib.IntN.{ℤ}
 use lib.ListN.{length, getD, set, drop}
 use Rattle.clip.specs.Reach.{SmallRect}
@@ -38,7 +40,7 @@ use Rattle.hpgl.specs.Numbers.{mostEdges, polygonBytes}
 use Rattle.hpgl.specs.Pins.{pinned}
 use Rattle.hpgl.specs.Plot.{Plot, refusal}
 use Rattle.hpgl.specs.Place.{limits}
-use Rattle.hpgl.specs.Rules.{longer, actOn}
+use Rattle.hpgl.specs.Rules.{longer, refuse, actOn}
 use Rattle.hpgl.specs.Machine.{noEdge, waiting, stored, queued, readerAfter, drawAnswer}
 use Rattle.hpgl.specs.Segment.{segmentOf, drawnOf, segment-drawn, SmallSegment, segment-small}
 use Rattle.hpgl.specs.Valid.{Valid, ValidCore, ValidActed, ValidEvent, ValidAction}
@@ -54,9 +56,9 @@ use Rattle.basics.specs.Hand.{frameOf, handOf, carriageOf, coreOf, lineOf, poin
 use Rattle.basics.specs.Locating.{hand-locatable}
 use Rattle.gathering.specs.Gather.{whole, stoppedAs, gatherFrom, withStroke, recordOf}
 use Rattle.gathering.specs.Far.{Far, Reached, Batching}
-use Rattle.gathering.proofs.Turns.{Turn, reader-on, reader-off, acting, none-acts, ended-acts, pair-acts, named-acts, unstored}
-use Rattle.gathering.proofs.Gathers.{waits-most, waits-less, byte-remains, none-remains, far-start, far-free, far-fits, far-halted, far-end, far-draw, far-refusal, far-refused, far-next}
-use Rattle.gathering.proofs.Moving.{letters-position, doing, next-turned, next-kept, next-small, next-drawn, next-first, next-edge, next-outline, next-refusal}
+use Rattle.gathering.proofs.Turns.{Turn, reader-on, reader-off, acting, none-acts, refused-acts, ended-acts, settled-acts, pair-acts, pair-refused, named-acts, unknown-acts, unstored}
+use Rattle.gathering.proofs.Gathers.{waits-most, waits-less, byte-remains, none-remains, far-start, far-free, far-fits, far-halted, far-end, far-draw, far-next}
+use Rattle.gathering.proofs.Moving.{letters-position, doing, next-turned, next-waits, next-kept, next-small, next-drawn, next-first, next-edge, next-outline, refusal-some, next-refusal, next-refused}
 use Rattle.gathering.proofs.Chording.{alone-waits}
 use Rattle.gathering.proofs.gather.Statement.{statement}
 use Rattle.gathering.proofs.gather.Tie as tie
@@ -109,29 +111,45 @@ abbrev Shifted : Type 0
 Shifted = tie.After-shift Inv-loop μ-loop
 
 abbrev Moved : Type 0
-Moved = tie.Then10 Inv-loop μ-loop
+Moved = tie.Then9 Inv-loop μ-loop
+
+abbrev Full : Type 0
+Full = tie.Then10 Inv-loop μ-loop
+
+abbrev Free : Type 0
+Free = tie.Else10 Inv-loop μ-loop
 
 abbrev Outlined : Type 0
 Outlined = tie.Then12 Inv-loop μ-loop
 
-abbrev Marked : Type 0
-Marked = tie.Then13 Inv-loop μ-loop
+abbrev Ended : Type 0
+Ended = tie.After-end-rule Inv-loop μ-loop
 
-abbrev Acts : Type 0
-Acts = tie.After-act-on Inv-loop μ-loop
-
--- the core that the rules left is taken apart
+-- the core that the rule left is taken apart
 abbrev Ruled : Type 0
 Ruled = tie.After-polygon2 Inv-loop μ-loop
 
 abbrev Refused : Type 0
-Refused = tie.Then14 Inv-loop μ-loop
+Refused = tie.Then13 Inv-loop μ-loop
 
 abbrev Passed : Type 0
-Passed = tie.After-passed-over2 Inv-loop μ-loop
+Passed = tie.After-passed-over Inv-loop μ-loop
 
 abbrev Accepted : Type 0
-Accepted = tie.Else14 Inv-loop μ-loop
+Accepted = tie.Else13 Inv-loop μ-loop
+
+abbrev Unjoined : Type 0
+Unjoined = tie.At-match2-keys2 Inv-loop μ-loop
+
+abbrev Light : Type 0
+Light = tie.Else15 Inv-loop μ-loop
+
+-- where what is left is a refusal
+abbrev Met : Type 0
+Met = tie.At-match-came Inv-loop μ-loop
+
+abbrev Declined : Type 0
+Declined = tie.After-passed-over2 Inv-loop μ-loop
 
 abbrev handed : tie.After-store Inv-loop μ-loop → tie.After-hand-of Inv-loop μ-loop
 handed c = c .before .before .before
@@ -169,20 +187,35 @@ pointing p = search
 abbrev shifts : Shifted → Read
 shifts t = search
 
-abbrev asked : Acts → Read
-asked a = a .before .before .before .before
+abbrev full : Full → Moved
+full f = search
 
-abbrev acting-of : tie.After-hand-of2 Inv-loop μ-loop → Acts
-acting-of h = search
+abbrev unfilled : Free → Moved
+unfilled f = search
+
+abbrev ending : Ended → Read
+ending a = search
+
+abbrev ended-of : tie.After-hand-of2 Inv-loop μ-loop → Ended
+ended-of h = search
 
 abbrev hand-now : Ruled → tie.After-hand-of2 Inv-loop μ-loop
 hand-now r = r .before .before
 
-abbrev acted : Ruled → Acts
-acted r = acting-of (hand-now r)
+abbrev ended : Ruled → Ended
+ended r = ended-of (hand-now r)
 
 abbrev read : Ruled → Read
-read r = asked (acted r)
+read r = ending (ended r)
+
+abbrev refusing : Refused → Ruled
+refusing c = search
+
+abbrev accepting : Accepted → Ruled
+accepting c = search
+
+abbrev met : Met → Read
+met j = j .before .before
 
 -- the machine that the parts make
 abbrev here : Loop → State
@@ -317,18 +350,22 @@ acts-valid : (q : Read) {t : Acted} → t ≡ actOn (held q) (told q) → ValidA
 acts-valid q e = subst (ValidActed (held q)) (sym e) (valid-event (told q) (far (loop q) .valid .core) (event-valid q))
 
 -- a turn that leaves work which may wait
-less : (q : Read) (w : Work) → waiting w ≤ 720 →
+abbrev less-by : Read → Work → Type 0
+less-by q w =
     let l = loop q in
     let n = length (entry l .args .bytes .now) in
     (n - q .next .result .at) * 721 + waiting w < (n - l .loop .at) * 721 + waiting (l .loop .work)
+
+less : (q : Read) (w : Work) → waiting w ≤ 720 → less-by q w
 less q w h = let k = reached q in omega (arith, h, k .further, k .within, k .ends)
 
-none-less : (q : Read) →
-    let l = loop q in
-    let n = length (entry l .args .bytes .now) in
-    (n - q .next .result .at) * 721 + waiting Nothing < (n - l .loop .at) * 721 + waiting (l .loop .work)
+none-less : (q : Read) → less-by q Nothing
 unfolding waiting
 none-less q = less q Nothing (omega arith)
+
+-- the place of a byte is a number that a record holds
+place-small : (q : Read) → q .next .result .at < 2 ^ 63
+place-small q = let k = reached q in omega (arith, entry (loop q) .good .1 .0 .1, k .within, k .ends)
 
 -- nothing is drawn
 quiet : (q : Read) {h : Hand} {e : Event} → told q ≡ e →
@@ -349,6 +386,12 @@ point-acts p =
     let l = loop q .loop in
     pair-acts (l .settings) (l .hand) (l .polygon) _ (p .point .ensures .0 (l .settings) (l .polygon) (l .inv .1) (p .before .if6 .taken) refl)
     ∙ ap (actOn (held q)) (sym (e .event2 .given .1))
+
+point-refused : (p : Pointed) → (p .point .result .number ≡ 0 → ⊥) → let q = pointing p in
+    let l = loop q .loop in
+    acting (l .settings) (l .hand) (l .polygon) Keep (p .point .result .number) ≡ actOn (held q) (told q)
+unfolding pointedOf refuse
+point-refused p f = sym (rw (ne-eqb (p .point .result .number) 0 f) refl) ∙ point-acts p
 
 -- where it is the first of a subpolygon, and where it ends an edge
 abbrev Longer : Pointed → Store → Type 0
@@ -391,32 +434,80 @@ edge-fits p z e =
     omega (arith, h, k)
 
 -- a pair outside polygon mode
-shift-acts : (m : Moved) → let t : Shifted = search in
+shift-is : (t : Shifted) → let q = shifts t in
+    let l = loop q .loop in
+    let r = t .shift .result in
+    acting (l .settings) (r .hand) (l .polygon) (lineOf (r .segment)) (r .number) ≡ actOn (held q) (told q)
+shift-is t =
+    let q = shifts t in
+    let l = loop q .loop in
+    let e : tie.After-event2 Inv-loop μ-loop = search in
+    pair-acts (l .settings) (l .hand) (l .polygon) _ (t .shift .ensures .0 (l .settings) (l .polygon) (l .inv .1) (t .before .if6 .left))
+    ∙ ap (actOn (held q)) (sym (e .event2 .given .1))
+
+shift-acts : (m : Moved) → let t = m .before in
     let q = shifts t in
     let l = loop q .loop in
     let r = t .shift .result in
     doing (coreOf (l .settings) (r .hand) (l .polygon)) (r .segment) ≡ actOn (held q) (told q)
 shift-acts m =
-    let t : Shifted = search in
+    let t = m .before in
+    let l = loop (shifts t) .loop in
+    let r = t .shift .result in
+    ap (λ (n : ℕ). acting (l .settings) (r .hand) (l .polygon) (lineOf (r .segment)) n) (sym (m .if9 .taken)) ∙ shift-is t
+
+shift-refused : (t : Shifted) → (t .shift .result .number ≡ 0 → ⊥) → let q = shifts t in
+    let l = loop q .loop in
+    acting (l .settings) (l .hand) (l .polygon) Keep (t .shift .result .number) ≡ actOn (held q) (told q)
+unfolding refuse
+shift-refused t f =
     let q = shifts t in
     let l = loop q .loop in
-    let r = t .shift .result in
     let e : tie.After-event2 Inv-loop μ-loop = search in
-    let o : tie.Else6 Inv-loop μ-loop = search in
-    ap (λ (n : ℕ). acting (l .settings) (r .hand) (l .polygon) (lineOf (r .segment)) n) (sym (m .if10 .taken))
-    ∙ pair-acts (l .settings) (l .hand) (l .polygon) _ (t .shift .ensures .0 (l .settings) (l .polygon) (l .inv .1) (o .if6 .left))
+    let same = t .shift .ensures .0 (l .settings) (l .polygon) (l .inv .1) (t .before .if6 .left) in
+    let number = ap (λ (x : Acted). x .number) same in
+    pair-acts (l .settings) (l .hand) (l .polygon) _ (ap (refuse (held q)) number ∙ sym (pair-refused (held q) _ (λ z. f (number ∙ z))))
     ∙ ap (actOn (held q)) (sym (e .event2 .given .1))
 
--- ---- the rest, by the rules
+-- a record is free, where not all are used
+room-left : (f : Free) → let l = loop (shifts (unfilled f .before)) in l .loop .count < length (entry l .args .numbers .now) / 5
+room-left f = let l = loop (shifts (unfilled f .before)) in omega (arith, far l .room, f .if10 .left)
+
+-- its line waits where none is
+abbrev line-waits : Full → Work
+line-waits f = let t = full f .before in let l = loop (shifts t) .loop in queued (l .polygon .edges) (lineOf (t .shift .result .segment))
+
+stays : (f : Full) → let t = full f .before in
+    let q = shifts t in
+    let l = loop q in
+    Goes l (All l) (l .loop .numbers) (whole (q .next .result .reader) (coreOf (l .loop .settings) (t .shift .result .hand) (l .loop .polygon)) (l .loop .store) (line-waits f)) (q .next .result .at) (l .loop .count)
+stays f =
+    let t = full f .before in
+    let q = shifts t in
+    let l = loop q .loop in
+    next-waits (reached q) (coreOf (l .settings) (t .shift .result .hand) (l .polygon)) (t .shift .result .segment) (shift-acts (full f)) (free-taken (q .before))
+
+line-left : (k : tie.After-queued Inv-loop μ-loop) → let f : Full = search in k .queued .result ≡ line-waits f
+line-left k =
+    let f : Full = search in
+    let n : tie.After-line-of Inv-loop μ-loop = search in
+    let l = loop (shifts (full f .before)) .loop in
+    k .queued .ensures ∙ ap (queued (l .polygon .edges)) (n .line-of .ensures)
+
+-- ---- an instruction that ends
 
 abbrev did : Ruled → Acted
-did r = acted r .act-on .result
+did r = ended r .end-rule .result
 
-acts : (a : Acts) → a .act-on .result ≡ actOn (held (asked a)) (told (asked a))
-acts a = a .act-on .ensures ∙ ap (λ (c : Core). actOn c (told (asked a))) (a .before .core-of2 .ensures)
+acts : (a : Ended) → a .end-rule .result ≡ actOn (held (ending a)) (told (ending a))
+acts a =
+    let q = ending a in
+    let e : tie.After-event3 Inv-loop μ-loop = search in
+    let l = loop q .loop in
+    settled-acts (l .settings) (l .hand) (l .polygon) _ _ (a .before .core-of2 .ensures) (a .end-rule .ensures) ∙ ap (actOn (held q)) (sym (e .event3 .given .1))
 
-act-valid : (a : Acts) → ValidActed (held (asked a)) (a .act-on .result)
-act-valid a = acts-valid (asked a) (acts a)
+act-valid : (a : Ended) → ValidActed (held (ending a)) (a .end-rule .result)
+act-valid a = acts-valid (ending a) (acts a)
 
 -- the parts of the core
 abbrev core-now : Ruled → Core
@@ -438,71 +529,46 @@ Waiting r w = w ≡ queued (did r .core .carriage .polygon .edges) (did r .actio
 turn : (r : Ruled) {x : Reader} {k : Core} {st : Store} {w : Work} → let q = read r in
     x ≡ readerAfter (q .next .result .reader) (did r .number) → k ≡ did r .core → Edges r st → Waiting r w →
     Turn (last q) (byte q) (q .next .result .reader telling told q) (did r) (whole x k st w)
-turn r e k s w = record { step = reached (read r) .step; act = acts (acted r); reader = e; core = k; edges = s; work = w }
+turn r e k s w = record { step = reached (read r) .step; act = acts (ended r); reader = e; core = k; edges = s; work = w }
 
 -- carried out
-taken : (c : Accepted) {st : Store} {w : Work} → let r = c .before in
+taken : (c : Accepted) {st : Store} {w : Work} → let r = accepting c in
     let q = read r in
     let l = loop q in
     Edges r st → Waiting r w → Goes l (All l) (l .loop .numbers) (whole (q .next .result .reader) (core-now r) st w) (q .next .result .at) (l .loop .count)
 taken c s w =
-    let r = c .before in
+    let r = accepting c in
     let q = read r in
-    let z : did r .number ≡ 0 = omega (arith, c .if14 .left) in
+    let z : did r .number ≡ 0 = omega (arith, c .if13 .left) in
     next-turned (reached q) (turn r (reader-on (q .next .result .reader) z) (core-is r) s w) z (free-taken (q .before))
 
-taken-less : (c : Accepted) {st : Store} {w : Work} → let r = c .before in
-    let l = loop (read r) in
-    let n = length (entry l .args .bytes .now) in
-    Edges r st → Waiting r w → (n - read r .next .result .at) * 721 + waiting w < (n - l .loop .at) * 721 + waiting (l .loop .work)
-taken-less c {st} {w} e f = less (read (c .before)) w (waits-most w (taken c {st = st} {w = w} e f .valid .work))
+taken-less : (c : Accepted) {st : Store} {w : Work} → let r = accepting c in Edges r st → Waiting r w → less-by (read r) w
+taken-less c {st} {w} e f = less (read (accepting c)) w (waits-most w (taken c {st = st} {w = w} e f .valid .work))
 
 -- refused: nothing is stored or queued
-refused : (c : Refused) → did (c .before) .number ≡ 0 → ⊥
-refused c e = omega (arith, e, c .if14 .taken)
+refused : (c : Refused) → did (refusing c) .number ≡ 0 → ⊥
+refused c e = omega (arith, e, c .if13 .taken)
 
-kept : (c : Refused) → did (c .before) .action ≡ Keep
+kept : (c : Refused) → did (refusing c) .action ≡ Keep
 kept c =
-    let a = acted (c .before) in
-    subst (λ (t : Acted). (t .number ≡ 0 → ⊥) → t .action ≡ Keep) (sym (acts a)) (λ f. pinned (held (asked a)) (told (asked a)) .refused f .0) (refused c)
+    let a = ended (refusing c) in
+    subst (λ (t : Acted). (t .number ≡ 0 → ⊥) → t .action ≡ Keep) (sym (acts a)) (λ f. pinned (held (ending a)) (told (ending a)) .refused f .0) (refused c)
 
-passed : (p : Passed) {k : Core} → let r = p .before .before in
+passed : (p : Passed) {k : Core} → let r = refusing (p .before) in
     let q = read r in
-    k ≡ did r .core → Turn (last q) (byte q) (q .next .result .reader telling told q) (did r) (whole (p .passed-over2 .result) k (loop q .loop .store) Nothing)
+    k ≡ did r .core → Turn (last q) (byte q) (q .next .result .reader telling told q) (did r) (whole (p .passed-over .result) k (loop q .loop .store) Nothing)
 unfolding stored queued
 passed p e =
     let c = p .before in
-    let r = c .before in
+    let r = refusing c in
     let l = loop (read r) .loop in
-    turn r (p .passed-over2 .ensures ∙ reader-off _ (refused c)) e (ap (stored (l .store .edges) (l .polygon .edges)) (sym (kept c))) (ap (queued (did r .core .carriage .polygon .edges)) (sym (kept c)))
-
--- and stored
-abbrev putting : tie.After-put-record2 Inv-loop μ-loop → Passed
-putting c = search
-
-stored-on : (c : tie.After-put-record2 Inv-loop μ-loop) → let p = putting c in
-    let r = p .before .before in
-    let q = read r in
-    let l = loop q in
-    Goes l (All l) (c .put-record2 .last .0) (whole (p .passed-over2 .result) (core-now r) (l .loop .store) Nothing) (q .next .result .at) (c .put-record2 .result)
-stored-on c =
-    let p = putting c in
-    let t : tie.Then15 Inv-loop μ-loop = search in
-    let k : tie.After-refusal-record2 Inv-loop μ-loop = search in
-    let r = p .before .before in
-    let q = read r in
-    let l = loop q in
-    let m = reached q in
-    let e = k .refusal-record2 .ensures ∙ ap (λ (t : ℕ). recordOf (refusal (did r .number) t)) (m .ends) in
-    subst (λ (t : ℕ). Goes l (All l) (c .put-record2 .last .0) (whole (p .passed-over2 .result) (core-now r) (l .loop .store) Nothing) t (c .put-record2 .result)) (sym (m .ends))
-    (far-refusal (m .far) (passed p (core-is r)) (m .idle) (m .within) (refused (p .before)) (t .if15 .taken) (free-taken (q .before) (t .if15 .taken))
-    (c .put-record2 .ensures .1 ∙ ap (λ (x : Stroke). withStroke x (l .loop .count * 5) (l .loop .numbers)) e) (c .put-record2 .ensures .0))
+    turn r (p .passed-over .ensures ∙ reader-off _ (refused c)) e (ap (stored (l .store .edges) (l .polygon .edges)) (sym (kept c))) (ap (queued (did r .core .carriage .polygon .edges)) (sym (kept c)))
 
 -- an edge that is joined finds its place
 joins-edge : (a : tie.After-action Inv-loop μ-loop) → let r : Ruled = search in loop (read r) .loop .polygon .edges < mostEdges
 joins-edge a =
     let r : Ruled = search in
-    subst (ValidAction (loop (read r) .loop .polygon .edges)) (a .action .given .1) (act-valid (acted r) .action) .1
+    subst (ValidAction (loop (read r) .loop .polygon .edges)) (a .action .given .1) (act-valid (ended r) .action) .1
 
 abbrev with-joined : tie.After-action Inv-loop μ-loop → Store
 with-joined a = let r : Ruled = search in let l = loop (read r) .loop in record { edges = set (l .store .edges) (l .polygon .edges) (a .action .given .0 .0) }
@@ -511,13 +577,67 @@ joined-edges : (a : tie.After-action Inv-loop μ-loop) → let r : Ruled = searc
 unfolding stored
 joined-edges a = let r : Ruled = search in let l = loop (read r) .loop in ap (stored (l .store .edges) (l .polygon .edges)) (sym (a .action .given .1))
 
+joined-waits : (a : tie.After-action Inv-loop μ-loop) → let r : Ruled = search in Waiting r Nothing
+unfolding queued
+joined-waits a = let r : Ruled = search in ap (queued (did r .core .carriage .polygon .edges)) (sym (a .action .given .1))
+
 -- other actions leave the store
-same-edges : (c : tie.At-match2-keys2 Inv-loop μ-loop) → let r : Ruled = search in Edges r (loop (read r) .loop .store)
-same-edges c =
+same-edges : (h : Light) → let r : Ruled = search in Edges r (loop (read r) .loop .store)
+same-edges h =
     let r : Ruled = search in
-    let h : tie.Else16 Inv-loop μ-loop = search in
+    let c : Unjoined = search in
     let l = loop (read r) .loop in
-    unstored (l .store .edges) (l .polygon .edges) (did r .action) (sym (h .before .heavy .ensures) ∙ h .if16 .left) (c .match2 .keys2)
+    unstored (l .store .edges) (l .polygon .edges) (did r .action) (sym (h .before .heavy .ensures) ∙ h .if15 .left) (c .match2 .keys2)
+
+-- ---- a refusal of a name, a pair or a byte
+
+abbrev declined : Met → Acted
+declined j = let l = loop (met j) .loop in acting (l .settings) (l .hand) (l .polygon) Keep (j .match .number)
+
+record Declines (j : Met) : Type 0 where
+  does : declined j ≡ actOn (held (met j)) (told (met j))
+  some : j .match .number ≡ 0 → ⊥
+
+by : (j : Met) {n : ℕ} → let q = met j in
+    let l = loop q .loop in
+    j .match .number ≡ n → (n ≡ 0 → ⊥) → acting (l .settings) (l .hand) (l .polygon) Keep n ≡ actOn (held q) (told q) → Declines j
+by j e some does =
+    let l = loop (met j) .loop in
+    record { does = ap (λ (n : ℕ). acting (l .settings) (l .hand) (l .polygon) Keep n) e ∙ does; some = λ z. some (sym e ∙ z) }
+
+declines : (j : Met) → Declines j
+declines j =
+    let q = met j in
+    let l = loop q .loop in
+    ⊎-elim
+    (λ (arm, event, known, name, left, same).
+    by j same (left .left) (unknown-acts (l .settings) (l .hand) (l .polygon) _ (name .ensures) (left .left) ∙ ap (actOn (held q)) (sym (event .given .1))))
+    (⊎-elim
+    (λ (arm, event, known, mode, point, left, same).
+    let p : Pointed = record { before = record { before = record { before = record { before = record { before = j .before; match = arm }; event2 = event }; known-told2 = known }; if6 = mode }; point = point } in
+    by j same (left .left) (point-refused p (left .left)))
+    (⊎-elim
+    (λ (arm, event, known, mode, shift, left, same).
+    let t : Shifted = record { before = record { before = record { before = record { before = record { before = j .before; match = arm }; event2 = event }; known-told2 = known }; if6 = mode }; shift = shift } in
+    by j same (left .left) (shift-refused t (left .left)))
+    (λ (arm, event, known, same).
+    by j same (refusal-some (reached q) (event .given .1)) (refused-acts (l .settings) (l .hand) (l .polygon) _ ∙ ap (actOn (held q)) (sym (event .given .1))))))
+    (j .match .came)
+
+declining : (p : Declined) {k : Core} → let j = p .before in
+    let q = met j in
+    k ≡ held q → Turn (last q) (byte q) (q .next .result .reader telling told q) (declined j) (whole (p .passed-over2 .result) k (loop q .loop .store) Nothing)
+unfolding stored queued
+declining p e =
+    let j = p .before in
+    record {
+      step = reached (met j) .step;
+      act = declines j .does;
+      reader = p .passed-over2 .ensures ∙ reader-off _ (declines j .some);
+      core = e;
+      edges = refl;
+      work = refl;
+    }
 
 -- ---- the needs
 
@@ -719,43 +839,71 @@ shift-requires c κs =
       l .loop .inv .2,
     )
 
-drawn-of-requires-2 : tie.Need-drawn-of-requires-2 Inv-loop μ-loop
-drawn-of-requires-2 c κs =
-    let t : Shifted = search in
-    let z : Moved = search in
+queued-requires : tie.Need-queued-requires Inv-loop μ-loop
+queued-requires c κs =
+    let f : Full = search in
+    let t = full f .before in
     let q = shifts t in
-    let l = loop q in
-    (limits-fit l, next-small (reached q) (coreOf (l .loop .settings) (t .shift .result .hand) (l .loop .polygon)) (t .shift .result .segment) (shift-acts z))
+    let l = loop q .loop in
+    rw (c .line-of .ensures) (action-alone (l .polygon .edges) (lineOf (t .shift .result .segment)) (acts-valid q (shift-acts (full f)) .action))
 
-put-requires-2 : tie.Need-put-requires-2 Inv-loop μ-loop
-put-requires-2 c κs = let t : Shifted = search in far-fits (far (loop (shifts t))) (t .before .if9 .taken)
+loop-less-7 : tie.Need-loop-less-7 Inv-loop μ-loop
+loop-less-7 c =
+    let f : Full = search in
+    let k : tie.After-queued Inv-loop μ-loop = search in
+    subst (λ (w : Work). less-by (shifts (full f .before)) w) (sym (line-left k)) (less (shifts (full f .before)) (line-waits f) (waits-most (line-waits f) (stays f .valid .work)))
 
 loop-again-7 : tie.Need-loop-again-7 Inv-loop μ-loop
 loop-again-7 c =
-    let t : Shifted = search in
-    let z : Moved = search in
+    let f : Full = search in
+    let k : tie.After-queued Inv-loop μ-loop = search in
+    let t = full f .before in
+    let q = shifts t in
+    let l = loop q in (
+      again l
+          (subst (λ (w : Work). Goes l (All l) (l .loop .numbers) (whole (q .next .result .reader) (coreOf (l .loop .settings) (t .shift .result .hand) (l .loop .polygon)) (l .loop .store) w) (q .next .result .at) (l .loop .count)) (sym (line-left k)) (stays f)),
+      l .loop .inv .1,
+      t .shift .ensures .1,
+    )
+
+drawn-of-requires-2 : tie.Need-drawn-of-requires-2 Inv-loop μ-loop
+drawn-of-requires-2 c κs =
+    let m : Moved = search in
+    let t = m .before in
+    let q = shifts t in
+    let l = loop q in
+    (limits-fit l, next-small (reached q) (coreOf (l .loop .settings) (t .shift .result .hand) (l .loop .polygon)) (t .shift .result .segment) (shift-acts m))
+
+put-requires-2 : tie.Need-put-requires-2 Inv-loop μ-loop
+put-requires-2 c κs = let f : Free = search in far-fits (far (loop (shifts (unfilled f .before)))) (room-left f)
+
+loop-again-8 : tie.Need-loop-again-8 Inv-loop μ-loop
+loop-again-8 c =
+    let f : Free = search in
     let d : tie.After-drawn-of2 Inv-loop μ-loop = search in
     let u : tie.After-put2 Inv-loop μ-loop = search in
+    let m = unfilled f in
+    let t = m .before in
     let q = shifts t in
     let l = loop q in
     let r = t .shift .result in (
       again l
-          (next-drawn (reached q) (coreOf (l .loop .settings) (r .hand) (l .loop .polygon)) (t .before .if9 .taken) (r .segment) (shift-acts z)
+          (next-drawn (reached q) (coreOf (l .loop .settings) (r .hand) (l .loop .polygon)) (room-left f) (r .segment) (shift-acts m)
           (d .drawn-of2 .ensures ∙ ap (λ (b : Rect). drawnOf b (r .hand .pen .number) (r .segment)) (limited l)) (u .put2 .ensures .1) (u .put2 .ensures .0)),
       l .loop .inv .1,
       t .shift .ensures .1,
     )
 
-loop-again-8 : tie.Need-loop-again-8 Inv-loop μ-loop
+loop-again-9 : tie.Need-loop-again-9 Inv-loop μ-loop
 unfolding lineOf
-loop-again-8 c =
+loop-again-9 c =
     let q : Read = search in
     let e : tie.After-event3 Inv-loop μ-loop = search in
     let l = loop q in
     (again l (quiet q (e .event3 .given .1) (ended-acts (l .loop .settings) (l .loop .hand) (l .loop .polygon) _ _ (c .if11 .taken))), l .loop .inv .1, l .loop .inv .2)
 
-loop-less-9 : tie.Need-loop-less-9 Inv-loop μ-loop
-loop-less-9 c =
+loop-less-10 : tie.Need-loop-less-10 Inv-loop μ-loop
+loop-less-10 c =
     let q : Read = search in
     let e : tie.After-event3 Inv-loop μ-loop = search in
     let n : Outlined = search in
@@ -763,109 +911,67 @@ loop-less-9 c =
     let f = next-outline (reached q) (e .event3 .given .1) (n .if12 .taken) (c .outline .ensures) (free-taken (q .before)) in
     less q (c .outline .result) (waits-most (c .outline .result) (f .valid .work))
 
-loop-again-9 : tie.Need-loop-again-9 Inv-loop μ-loop
-loop-again-9 c =
+loop-again-10 : tie.Need-loop-again-10 Inv-loop μ-loop
+loop-again-10 c =
     let q : Read = search in
     let e : tie.After-event3 Inv-loop μ-loop = search in
     let n : Outlined = search in
     let l = loop q in
     (again l (next-outline (reached q) (e .event3 .given .1) (n .if12 .taken) (c .outline .ensures) (free-taken (q .before))), l .loop .inv .1, l .loop .inv .2)
 
-refusal-record-requires : tie.Need-refusal-record-requires Inv-loop μ-loop
-refusal-record-requires c κs =
+end-rule-requires : tie.Need-end-rule-requires Inv-loop μ-loop
+end-rule-requires c κs =
     let q : Read = search in
-    let k = reached q in
-    let g = entry (loop q) .good .1 .0 .1 in
-    omega (arith, g, k .within, k .ends)
-
-put-record-requires : tie.Need-put-record-requires Inv-loop μ-loop
-put-record-requires c κs =
-    let q : Read = search in
-    let t : Marked = search in
-    far-fits (far (loop q)) (free-taken (q .before) (t .if13 .taken))
-
-loop-again-10 : tie.Need-loop-again-10 Inv-loop μ-loop
-loop-again-10 c =
-    let q : Read = search in
-    let e : tie.After-event4 Inv-loop μ-loop = search in
-    let t : Marked = search in
-    let p : tie.After-passed-over Inv-loop μ-loop = search in
-    let x : tie.After-refusal-record Inv-loop μ-loop = search in
-    let u : tie.After-put-record Inv-loop μ-loop = search in
-    let l = loop q in (
-      again l
-          (next-refusal (reached q) (e .event4 .given .1) (t .if13 .taken) (free-taken (q .before) (t .if13 .taken)) (x .refusal-record .ensures) (u .put-record .ensures .1) (u .put-record .ensures .0)
-          (p .passed-over .ensures)),
-      l .loop .inv .1,
-      l .loop .inv .2,
-    )
-
-act-on-requires : tie.Need-act-on-requires Inv-loop μ-loop
-act-on-requires c κs = let q : Read = search in rw (c .core-of2 .ensures) (far (loop q) .valid .core, event-valid q)
+    let e : tie.After-event3 Inv-loop μ-loop = search in
+    rw (c .core-of2 .ensures) (far (loop q) .valid .core, subst (ValidEvent (held q)) (e .event3 .given .1) (event-valid q) .0 .numbers)
 
 frame-of-requires-2 : tie.Need-frame-of-requires-2 Inv-loop μ-loop
-frame-of-requires-2 c κs = let a : Acts = search in act-valid a .core .settings
+frame-of-requires-2 c κs = let a : Ended = search in act-valid a .core .settings
 
 located-in-requires-2 : tie.Need-located-in-requires-2 Inv-loop μ-loop
 located-in-requires-2 c κs =
-    let a : Acts = search in
+    let a : Ended = search in
     let f : tie.After-frame-of2 Inv-loop μ-loop = search in
-    let k = a .act-on .result .core in
+    let k = a .end-rule .result .core in
     hand-locatable {h = handOf (k .carriage)} {g = k .carriage .polygon} (record { settings = k .settings; frame = f .frame-of2 .ensures; core = act-valid a .core })
 
-refusal-record-requires-2 : tie.Need-refusal-record-requires-2 Inv-loop μ-loop
-refusal-record-requires-2 c κs =
-    let t : tie.Then15 Inv-loop μ-loop = search in
-    let q = read (t .before .before .before) in
-    let g = entry (loop q) .good .1 .0 .1 in
-    omega (arith, g, reached q .within, reached q .ends)
+refusal-record-requires : tie.Need-refusal-record-requires Inv-loop μ-loop
+refusal-record-requires c κs = let r : Ruled = search in place-small (read r)
 
-put-record-requires-2 : tie.Need-put-record-requires-2 Inv-loop μ-loop
-put-record-requires-2 c κs =
-    let t : tie.Then15 Inv-loop μ-loop = search in
-    let q = read (t .before .before .before) in
-    far-fits (far (loop q)) (free-taken (q .before) (t .if15 .taken))
+put-record-requires : tie.Need-put-record-requires Inv-loop μ-loop
+put-record-requires c κs =
+    let t : tie.Then14 Inv-loop μ-loop = search in
+    let q = read (refusing (t .before .before)) in
+    far-fits (far (loop q)) (free-taken (q .before) (t .if14 .taken))
 
 loop-less-11 : tie.Need-loop-less-11 Inv-loop μ-loop
-loop-less-11 c = none-less (read (putting (c .before) .before .before))
+loop-less-11 c = let r : Ruled = search in none-less (read r)
 
 loop-again-11 : tie.Need-loop-again-11 Inv-loop μ-loop
 loop-again-11 c =
-    let r = putting (c .before) .before .before in
-    (again (loop (read r)) (stored-on (c .before)), hand-now r .before .frame-of2 .ensures, located-now r)
+    let t : tie.Then14 Inv-loop μ-loop = search in
+    let x : tie.After-refusal-record Inv-loop μ-loop = search in
+    let u : tie.After-put-record Inv-loop μ-loop = search in
+    let p = t .before in
+    let r = refusing (p .before) in
+    let q = read r in
+    let o = t .if14 .taken in (
+      again (loop q)
+          (next-refusal (reached q) (passed p (core-is r)) (refused (p .before)) o (free-taken (q .before) o) (x .refusal-record .ensures) (u .put-record .ensures .1) (u .put-record .ensures .0)),
+      hand-now r .before .frame-of2 .ensures,
+      located-now r,
+    )
 
 same-length-2 : tie.Need-same-length-2 Inv-loop μ-loop
 same-length-2 c = let r : Ruled = search in far (loop (read r)) .long
 
 returns-2 : tie.Need-returns-2 Inv-loop μ-loop
 returns-2 c =
-    let e : tie.Else15 Inv-loop μ-loop = search in
+    let e : tie.Else14 Inv-loop μ-loop = search in
     let p = e .before in
-    let q = read (p .before .before) in
-    let m = reached q in
-    let f = far-refused (m .far) (passed p refl) (m .idle) (m .within) (refused (p .before)) (e .if15 .left) in (
-      c .gathered2 .ensures ∙ ap (λ (t : ℕ). stoppedAs (whole (p .passed-over2 .result) (did (p .before .before) .core) (loop q .loop .store) Nothing) t (loop q .loop .count) (did (p .before .before) .number)) (m .ends) ∙ f .0,
-      f .1,
-    )
-
-carried-requires : tie.Need-carried-requires Inv-loop μ-loop
-carried-requires c κs = let r : Ruled = search in act-valid (acted r) .action
-
-loop-less-12 : tie.Need-loop-less-12 Inv-loop μ-loop
-loop-less-12 c =
-    let a : Accepted = search in
-    let k : tie.After-carried Inv-loop μ-loop = search in
-    taken-less a {st = k .carried .result .store} (k .carried .ensures .0) (k .carried .ensures .1)
-
-loop-again-12 : tie.Need-loop-again-12 Inv-loop μ-loop
-loop-again-12 c =
-    let a : Accepted = search in
-    let k : tie.After-carried Inv-loop μ-loop = search in
-    let r = a .before in
-    (again (loop (read r)) (taken a (k .carried .ensures .0) (k .carried .ensures .1)), hand-now r .before .frame-of2 .ensures, located-now r)
-
-queued-requires : tie.Need-queued-requires Inv-loop μ-loop
-queued-requires c κs = let r : Ruled = search in action-alone (loop (read r) .loop .polygon .edges) (did r .action) (act-valid (acted r) .action)
+    let q = read (refusing (p .before)) in
+    let f = next-refused (reached q) (passed p refl) (refused (p .before)) (e .if14 .left) in
+    (c .gathered2 .ensures ∙ f .0, f .1)
 
 cast-k-2 : tie.Need-cast-k-2 Inv-loop μ-loop
 cast-k-2 c = let r : Ruled = search in omega (arith, far (loop (read r)) .valid .core .polygon .edges)
@@ -876,46 +982,98 @@ mul-e-3 c = let a : tie.After-action Inv-loop μ-loop = search in record { fits 
 element-set-from-e-2 : tie.Need-element-set-from-e-2 Inv-loop μ-loop
 element-set-from-e-2 c = let a : tie.After-action Inv-loop μ-loop = search in omega (arith, joins-edge a)
 
+loop-again-12 : tie.Need-loop-again-12 Inv-loop μ-loop
+loop-again-12 c =
+    let a : Accepted = search in
+    let e : tie.After-action Inv-loop μ-loop = search in
+    let r = accepting a in
+    (again (loop (read r)) (taken a (joined-edges e) (joined-waits e)), hand-now r .before .frame-of2 .ensures, located-now r)
+
+carried-requires : tie.Need-carried-requires Inv-loop μ-loop
+carried-requires c κs = let r : Ruled = search in act-valid (ended r) .action
+
 loop-less-13 : tie.Need-loop-less-13 Inv-loop μ-loop
 loop-less-13 c =
     let a : Accepted = search in
-    let k : tie.After-queued Inv-loop μ-loop = search in
-    let e : tie.After-action Inv-loop μ-loop = search in
-    taken-less a {st = with-joined e} (joined-edges e) (k .queued .ensures)
+    let k : tie.After-carried Inv-loop μ-loop = search in
+    taken-less a {st = k .carried .result .store} (k .carried .ensures .0) (k .carried .ensures .1)
 
 loop-again-13 : tie.Need-loop-again-13 Inv-loop μ-loop
 loop-again-13 c =
     let a : Accepted = search in
-    let k : tie.After-queued Inv-loop μ-loop = search in
-    let e : tie.After-action Inv-loop μ-loop = search in
-    let r = a .before in
-    (again (loop (read r)) (taken a (joined-edges e) (k .queued .ensures)), hand-now r .before .frame-of2 .ensures, located-now r)
+    let k : tie.After-carried Inv-loop μ-loop = search in
+    let r = accepting a in
+    (again (loop (read r)) (taken a (k .carried .ensures .0) (k .carried .ensures .1)), hand-now r .before .frame-of2 .ensures, located-now r)
+
+queued-requires-2 : tie.Need-queued-requires-2 Inv-loop μ-loop
+queued-requires-2 c κs = let r : Ruled = search in action-alone (loop (read r) .loop .polygon .edges) (did r .action) (act-valid (ended r) .action)
 
 loop-less-14 : tie.Need-loop-less-14 Inv-loop μ-loop
 loop-less-14 c =
     let a : Accepted = search in
-    let k : tie.After-queued Inv-loop μ-loop = search in
-    taken-less a (same-edges c) (k .queued .ensures)
+    let h : Light = search in
+    let k : tie.After-queued2 Inv-loop μ-loop = search in
+    taken-less a (same-edges h) (k .queued2 .ensures)
 
 loop-again-14 : tie.Need-loop-again-14 Inv-loop μ-loop
 loop-again-14 c =
     let a : Accepted = search in
-    let k : tie.After-queued Inv-loop μ-loop = search in
-    let r = a .before in
-    (again (loop (read r)) (taken a (same-edges c) (k .queued .ensures)), hand-now r .before .frame-of2 .ensures, located-now r)
+    let h : Light = search in
+    let k : tie.After-queued2 Inv-loop μ-loop = search in
+    let r = accepting a in
+    (again (loop (read r)) (taken a (same-edges h) (k .queued2 .ensures)), hand-now r .before .frame-of2 .ensures, located-now r)
+
+refusal-record-requires-2 : tie.Need-refusal-record-requires-2 Inv-loop μ-loop
+refusal-record-requires-2 c κs = let j : Met = search in place-small (met j)
+
+put-record-requires-2 : tie.Need-put-record-requires-2 Inv-loop μ-loop
+put-record-requires-2 c κs =
+    let t : tie.Then16 Inv-loop μ-loop = search in
+    let q = met (t .before .before) in
+    far-fits (far (loop q)) (free-taken (q .before) (t .if16 .taken))
+
+loop-less-15 : tie.Need-loop-less-15 Inv-loop μ-loop
+loop-less-15 c = let j : Met = search in none-less (met j)
+
+loop-again-15 : tie.Need-loop-again-15 Inv-loop μ-loop
+loop-again-15 c =
+    let t : tie.Then16 Inv-loop μ-loop = search in
+    let x : tie.After-refusal-record2 Inv-loop μ-loop = search in
+    let u : tie.After-put-record2 Inv-loop μ-loop = search in
+    let p = t .before in
+    let q = met (p .before) in
+    let l = loop q in
+    let o = t .if16 .taken in (
+      again l
+          (next-refusal (reached q) (declining p refl) (declines (p .before) .some) o (free-taken (q .before) o) (x .refusal-record2 .ensures) (u .put-record2 .ensures .1) (u .put-record2 .ensures .0)),
+      l .loop .inv .1,
+      l .loop .inv .2,
+    )
 
 same-length-3 : tie.Need-same-length-3 Inv-loop μ-loop
-same-length-3 c = let l : Loop = search in far l .long
+same-length-3 c = let j : Met = search in far (loop (met j)) .long
 
 returns-3 : tie.Need-returns-3 Inv-loop μ-loop
 returns-3 c =
+    let e : tie.Else16 Inv-loop μ-loop = search in
+    let k : tie.After-core-of3 Inv-loop μ-loop = search in
+    let p = e .before in
+    let q = met (p .before) in
+    let f = next-refused (reached q) (declining p (k .core-of3 .ensures)) (declines (p .before) .some) (e .if16 .left) in
+    (c .gathered3 .ensures ∙ f .0, f .1)
+
+same-length-4 : tie.Need-same-length-4 Inv-loop μ-loop
+same-length-4 c = let l : Loop = search in far l .long
+
+returns-4 : tie.Need-returns-4 Inv-loop μ-loop
+returns-4 c =
     let l : Loop = search in
     let e : tie.Else1 Inv-loop μ-loop = search in
-    let p : tie.After-core-of3 Inv-loop μ-loop = search in
+    let p : tie.After-core-of4 Inv-loop μ-loop = search in
     let n = none-remains (l .loop .work) _ _ (sym (e .before .remains .ensures) ∙ e .if1 .left) in
     let f = far-end (far l) (n .0) (n .1) in
-    let k = ap (λ (k : Core). stoppedAs (whole (l .loop .reader) k (l .loop .store) (l .loop .work)) (l .loop .at) (l .loop .count) 0) (p .core-of3 .ensures) in
-    (c .gathered3 .ensures ∙ k ∙ f .0, f .1)
+    let k = ap (λ (k : Core). stoppedAs (whole (l .loop .reader) k (l .loop .store) (l .loop .work)) (l .loop .at) (l .loop .count) 0) (p .core-of4 .ensures) in
+    (c .gathered4 .ensures ∙ k ∙ f .0, f .1)
 
 pub gather-spec : {M : Type 1} → statement M
 gather-spec =
@@ -970,49 +1128,57 @@ gather-spec =
     (λ c. let q : Read = search in none-less q)
     loop-again-6
     shift-requires
+    (λ c κs. search needs)
+    queued-requires
+    loop-less-7
+    loop-again-7
     drawn-of-requires-2
     put-requires-2
     (λ c. let q : Read = search in none-less q)
-    loop-again-7
-    (λ c. search needs)
-    (λ c. let q : Read = search in none-less q)
     loop-again-8
-    (λ c κs. search needs)
-    loop-less-9
-    loop-again-9
     (λ c. search needs)
-    (λ c κs. search needs)
-    refusal-record-requires
-    put-record-requires
     (λ c. let q : Read = search in none-less q)
+    loop-again-9
+    (λ c κs. search needs)
+    loop-less-10
     loop-again-10
     (λ c κs. search needs)
-    act-on-requires
+    end-rule-requires
     frame-of-requires-2
     (λ c κs. search needs)
     located-in-requires-2
     (λ c κs. search needs)
-    refusal-record-requires-2
-    put-record-requires-2
+    refusal-record-requires
+    put-record-requires
     loop-less-11
     loop-again-11
     (λ c κs. search needs)
     same-length-2
     returns-2
-    (λ c κs. search needs)
-    carried-requires
-    loop-less-12
-    loop-again-12
-    queued-requires
     (λ c. search needs)
     cast-k-2
     mul-e-3
     element-set-from-e-2
+    (λ c. let r : Ruled = search in none-less (read r))
+    loop-again-12
+    (λ c κs. search needs)
+    carried-requires
     loop-less-13
     loop-again-13
+    queued-requires-2
     loop-less-14
     loop-again-14
+    (λ c. search needs)
+    (λ c κs. search needs)
+    refusal-record-requires-2
+    put-record-requires-2
+    loop-less-15
+    loop-again-15
     (λ c κs. search needs)
     (λ c κs. search needs)
     same-length-3
-    returns-3)
+    returns-3
+    (λ c κs. search needs)
+    (λ c κs. search needs)
+    same-length-4
+    returns-4)
