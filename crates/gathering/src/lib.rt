@@ -341,19 +341,18 @@ pub fn gather(m: State, bytes: &[u8], from: usize, numbers: &mut [i64], on: bool
         let q = reader.next(bytes, at);
         at = q.at;
         reader = q.reader;
+        work = Work::Nothing;
         let event = q.event;
         let edges = polygon.edges;
         let mut number: u8 = 0;
         match event {
             Event::Nothing => {
-                work = Work::Nothing;
                 continue;
             }
             Event::Named(op) => {
                 number = name_number(polygon.mode, op);
                 if number == 0 {
                     hand = letters(hand, op);
-                    work = Work::Nothing;
                     continue;
                 }
             }
@@ -366,7 +365,6 @@ pub fn gather(m: State, bytes: &[u8], from: usize, numbers: &mut [i64], on: bool
                         here = t.here;
                         if polygon.empty {
                             polygon = longer(polygon, t.cost, hand.position);
-                            work = Work::Nothing;
                             continue;
                         }
                         // in its place: the store is large
@@ -374,7 +372,6 @@ pub fn gather(m: State, bytes: &[u8], from: usize, numbers: &mut [i64], on: bool
                         let k = edges as usize;
                         store.edges[k] = e;
                         polygon = longer(polygon, t.cost, hand.position);
-                        work = Work::Nothing;
                         continue;
                     }
                 } else {
@@ -391,20 +388,17 @@ pub fn gather(m: State, bytes: &[u8], from: usize, numbers: &mut [i64], on: bool
                         let pen = hand.pen;
                         let drawn = drawn_of(frame.limits, pen.number, line);
                         count = put(numbers, count, drawn);
-                        work = Work::Nothing;
                         continue;
                     }
                 }
             }
             Event::Ended(op, n) => {
                 if PU <= op {
-                    work = Work::Nothing;
                     continue;
                 }
                 if op == EP {
                     // once for each polygon: no core is put together for it
-                    let pen = hand.pen;
-                    work = outline(pen, edges);
+                    work = outline(hand.pen, edges);
                     continue;
                 }
                 let t = end_rule(core_of(settings, hand, polygon), op, n);
@@ -419,7 +413,6 @@ pub fn gather(m: State, bytes: &[u8], from: usize, numbers: &mut [i64], on: bool
                 if t.number > 0 {
                     // it may leave polygon mode all the same
                     reader = reader.passed_over();
-                    work = Work::Nothing;
                     if on {
                         count = put_record(numbers, count, refusal_record(t.number, at));
                         continue;
@@ -430,7 +423,6 @@ pub fn gather(m: State, bytes: &[u8], from: usize, numbers: &mut [i64], on: bool
                 if let Action::Join(e) = action {
                     let k = edges as usize;
                     store.edges[k] = e;
-                    work = Work::Nothing;
                     continue;
                 }
                 if heavy(action) {
@@ -448,7 +440,6 @@ pub fn gather(m: State, bytes: &[u8], from: usize, numbers: &mut [i64], on: bool
         }
         // what is left is a refusal, and leaves all else as it was
         reader = reader.passed_over();
-        work = Work::Nothing;
         if on {
             count = put_record(numbers, count, refusal_record(number, at));
             continue;
