@@ -1,15 +1,12 @@
 -- A chord that is drawn from one vertex to the next, and other segments, which need none.
 use mathlib.Core.Path.{_≡_, refl, sym, ap, subst, _∙_}
-use mathlib.Core.Bool.{Bool}
-use mathlib.Core.List.{List, [], _∷_}
-use mathlib.Core.Logic.{⊎-elim}
+use mathlib.Core.Bool.{Bool, false}
+use mathlib.Core.List.{List}
 use Prim.Native.Nat.{ℕ, zero, suc, _+_, _*_, _-_, _/_, _<_}
 use native.Mathlib.Omega.{arith}
 use lib.IntN.{ℤ}
 use lib.ListN.{length, getD}
 use borrow.Author.Tests.{ne-eqb}
-use types.Run.{OneOf}
-use denote.Enum.Declared.{tagOf}
 use Rattle.clip.specs.declared.Rect.{Rect}
 use Rattle.plane.specs.declared.turn.Rows.{Rows}
 use Rattle.plane.specs.Turn.{rowsOf}
@@ -21,7 +18,6 @@ use Rattle.hpgl.specs.declared.Core.{Core}
 use Rattle.hpgl.specs.declared.Store.{Store}
 use Rattle.hpgl.specs.declared.Work.{Work}
 use Rattle.hpgl.specs.declared.Work.the-variants.{Nothing, Line, Chords, Edges}
-use Rattle.hpgl.proofs.Work.{the-type}
 use Rattle.hpgl.specs.declared.State.{State}
 use Rattle.hpgl.specs.declared.Drawn.{Drawn}
 use Rattle.hpgl.specs.declared.Segment.{Segment}
@@ -30,10 +26,13 @@ use Rattle.hpgl.specs.Place.{limits}
 use Rattle.hpgl.specs.Machine.{noEdge, waiting, workAfter}
 use Rattle.hpgl.specs.Segment.{segmentOf, drawnOf, segment-drawn}
 use Rattle.hpgl.specs.Plot.{Plot}
+use Rattle.hpgl.specs.Cases.{never}
+use Rattle.basics.specs.declared.places.Frame.{Frame}
+use Rattle.basics.specs.Hand.{frameOf}
 use Rattle.queue.specs.First.{edgePlace}
 use Rattle.queue.specs.Corners.{vertexAt, nextCornerOf, segmentIn, BeginsAt, segment-waits}
-use Rattle.gathering.specs.Gather.{whole, countAfter, putOf, chordsLeft}
-use Rattle.gathering.specs.Far.{Far}
+use Rattle.gathering.specs.Gather.{whole, countAfter, putOf, batchedOf, chordsLeft}
+use Rattle.gathering.specs.Far.{Far, Batching}
 use Rattle.gathering.proofs.Gathers.{far-draw}
 
 pub chords-some : (o : Circle) (i n : ℕ) → 0 < n → chordsLeft o i n ≡ Chords o i n
@@ -70,28 +69,38 @@ module _ (reader : Reader) (core : Core) (store : Store) {r : Rows} (turned : r 
         (e ∙ (λ j. drawnOf (limited j) (held j) (chord-waits o i n h j)) ∙ sym (segment-drawn m))
         g k (chords-after o i n h)
 
--- ---- other work than chords, by its tag
+-- ---- what is told of work that is drawn by a loop of its own
 
-abbrev pub Unchorded : Work → Type 0
-Unchorded w = OneOf (0 ∷ 1 ∷ 3 ∷ []) (tagOf the-type w)
+module _ {now : List ℤ} {f : Frame} {pen : ℕ} {w : Work} {count : ℕ} (d : Batching now f pen w count) where
+  pub turned : f .rows ≡ rowsOf (d .core .settings .turn)
+  unfolding frameOf
+  turned = ap (λ (f : Frame). f .rows) (d .framed)
 
-no-chords : (o : Circle) (i n : ℕ) → Unchorded (Chords o i n) → ⊥
-no-chords o i n h = ⊎-elim (λ e. omega (arith, e)) (⊎-elim (λ e. omega (arith, e)) (λ e. omega (arith, e))) h
+  pub limited : f .limits ≡ limits (d .core .settings)
+  unfolding frameOf
+  limited = ap (λ (f : Frame). f .limits) (d .framed)
 
-alone : (r : Rows) (e : Edge) (w : Work) (p : Point) → Unchorded w → segmentIn r e w p p ≡ segmentIn r e w p (nextCornerOf r w)
-unfolding segmentIn
+pub batched-chords : {now : List ℤ} {f : Frame} {pen : ℕ} {o : Circle} {i n count : ℕ} → Batching now f pen (Chords o i n) count → 0 < n
+unfolding waiting
+batched-chords d = d .some
+
+-- ---- work that is drawn segment by segment
+
+alone : (r : Rows) (e : Edge) (w : Work) (p : Point) → batchedOf w ≡ false → segmentIn r e w p p ≡ segmentIn r e w p (nextCornerOf r w)
+unfolding segmentIn batchedOf
 alone r e Nothing p h = refl
 alone r e (Line a b) p h = refl
-alone r e (Chords o i n) p h = absurd (no-chords o i n h)
+alone r e (Chords o i n) p h = never h refl
 alone r e (Edges i zero) p h = refl
 alone r e (Edges i (suc n)) p h = refl
 
-begins : (r : Rows) (w : Work) (p : Point) → Unchorded w → BeginsAt r w p
+begins : (r : Rows) (w : Work) (p : Point) → batchedOf w ≡ false → BeginsAt r w p
+unfolding batchedOf
 begins r Nothing p h = tt
 begins r (Line a b) p h = tt
-begins r (Chords o i n) p h = absurd (no-chords o i n h)
+begins r (Chords o i n) p h = never h refl
 begins r (Edges i n) p h = tt
 
-pub alone-waits : (m : State) {r : Rows} (p : Point) → r ≡ rowsOf (m .core .settings .turn) → Unchorded (m .work) →
+pub alone-waits : (m : State) {r : Rows} (p : Point) → r ≡ rowsOf (m .core .settings .turn) → batchedOf (m .work) ≡ false →
     segmentIn r (getD (m .store .edges) (edgePlace (m .work)) noEdge) (m .work) p p ≡ segmentOf m
 alone-waits m {r} p e h = alone r _ (m .work) p h ∙ segment-waits m p e (begins r (m .work) p h)

@@ -35,7 +35,7 @@ use Rattle.hpgl.specs.FeedLaws.{draw-less}
 use Rattle.hpgl.specs.Valid.{mostChords, ValidWork, Valid}
 use Rattle.hpgl.specs.Cases.{never}
 use Rattle.hpgl.specs.ValidKept.{valid-draw}
-use Rattle.gathering.specs.Gather.{whole, stoppedAs, stoppedOf, gatherFrom, Gathers, remainsOf, stuckOf, countAfter, withStroke, recordOf, putOf}
+use Rattle.gathering.specs.Gather.{whole, stoppedAs, stoppedOf, gatherFrom, Gathers, remainsOf, stuckOf, haltedOf, countAfter, withStroke, recordOf, putOf}
 use Rattle.gathering.specs.Far.{before, Far, Reached}
 use Rattle.gathering.specs.GatherLaws.{at-end, at-stuck, at-byte, at-refusal, at-refused, at-full, at-draw}
 use Rattle.gathering.proofs.Turns.{Turn, nothing-is, quiet-turn, turn-number, turn-taken, turn-valid}
@@ -73,7 +73,7 @@ none-remains w at end = go (ltb at end) refl
 -- ---- whether a record is free
 
 module _ (w : Work) (k room : ℕ) where
-  pub used-all : (on : Bool) → stuckOf on w k room ≡ true → k ≡ room
+  used-all : (on : Bool) → stuckOf on w k room ≡ true → k ≡ room
   unfolding stuckOf
   used-all on = go (eqb k room) refl
     where
@@ -81,15 +81,31 @@ module _ (w : Work) (k room : ℕ) where
       go true e h = eqb-true k room e
       go false e h = never refl h
 
-  pub stuck-on : (on : Bool) → stuckOf on w k room ≡ true → waiting w ≡ 0 → on ≡ true
+  stuck-on : (on : Bool) → stuckOf on w k room ≡ true → waiting w ≡ 0 → on ≡ true
   unfolding stuckOf
   stuck-on true h z = refl
   stuck-on false h z = let l = rw (eq-eqb k room (used-all false h)) at h in absurd (omega (arith, z, ltb-true 0 (waiting w) l))
 
-  pub one-free : (on : Bool) → stuckOf on w k room ≡ false → (waiting w ≡ 0 → on ≡ true) → k ≡ room → ⊥
+  one-free : (on : Bool) → stuckOf on w k room ≡ false → (waiting w ≡ 0 → on ≡ true) → k ≡ room → ⊥
   unfolding stuckOf
   one-free true h f e = let l = rw (eq-eqb k room e) at h in never l refl
   one-free false h f e = let l = rw (eq-eqb k room e) at h in never refl (f (omega (arith, ltb-false 0 (waiting w) l)))
+
+  halt-stuck : (on : Bool) {n : ℕ} → n ≡ haltedOf on w k room → 0 < n → (stuckOf on w k room ≡ true) × (n ≡ listFull)
+  unfolding haltedOf
+  halt-stuck on = go (stuckOf on w k room)
+    where
+      go : (b : Bool) {n : ℕ} → n ≡ cond b listFull 0 → 0 < n → (b ≡ true) × (n ≡ listFull)
+      go true e h = (refl, e)
+      go false e h = absurd (omega (arith, e, h))
+
+  not-halted : (on : Bool) {n : ℕ} → n ≡ haltedOf on w k room → n ≤ 0 → stuckOf on w k room ≡ false
+  unfolding haltedOf
+  not-halted on = go (stuckOf on w k room)
+    where
+      go : (b : Bool) {n : ℕ} → n ≡ cond b listFull 0 → n ≤ 0 → b ≡ false
+      go true e h = absurd (omega (arith, e, h))
+      go false e h = refl
 
 -- ---- a mark is stored after others
 
@@ -142,8 +158,8 @@ far-start on m s entry at v = record {
 
 module _ {on : Bool} {all : Plot} {s : List ℕ} {entry now : List ℤ} {m : State} {at count : ℕ} (far : Far on all s entry now m at count) where
   -- there is room for a further mark, and for its numbers
-  pub far-free : stuckOf on (m .work) count (length entry / 5) ≡ false → (waiting (m .work) ≡ 0 → on ≡ true) → count < length entry / 5
-  far-free h f = omega (arith, one-free (m .work) count (length entry / 5) on h f, far .room)
+  pub far-free : {n : ℕ} → n ≡ haltedOf on (m .work) count (length entry / 5) → n ≤ 0 → (waiting (m .work) ≡ 0 → on ≡ true) → count < length entry / 5
+  far-free e h f = omega (arith, one-free (m .work) count (length entry / 5) on (not-halted (m .work) count (length entry / 5) on e h) f, far .room)
 
   pub far-fits : count < length entry / 5 → count * 5 + 5 ≤ length now
   far-fits h = omega (arith, mul-div-le (length entry) 5, far .long)
@@ -161,7 +177,7 @@ module _ {on : Bool} {all : Plot} {s : List ℕ} {entry now : List ℤ} {m : Sta
         far .laid ∙ sym (ap (λ (f : Plot). laidMarks (f .marks) entry) w ∙ ap (λ (ks : List Mark). laidMarks ks entry) z),
       )
 
-  pub far-full : remainsOf (m .work) at (length s) ≡ true → stuckOf on (m .work) count (length entry / 5) ≡ true → Gathers all entry now (stoppedAs m at count listFull)
+  far-full : remainsOf (m .work) at (length s) ≡ true → stuckOf on (m .work) count (length entry / 5) ≡ true → Gathers all entry now (stoppedAs m at count listFull)
   far-full h k =
       let z : length entry / 5 - count ≡ 0 = omega (arith, used-all (m .work) count (length entry / 5) on k) in
       far-stop m at listFull (ap (λ (r : ℕ). gatherFrom on m (drop at s) at r) z ∙ full (waiting (m .work)) refl)
@@ -171,6 +187,9 @@ module _ {on : Bool} {all : Plot} {s : List ℕ} {entry now : List ℤ} {m : Sta
           ap (λ (bs : List ℕ). gatherFrom on m bs at 0) (bytes-left (byte-remains (m .work) at (length s) h z))
           ∙ at-stuck m at z (getD s at 0) (drop (at + 1) s) (stuck-on (m .work) count (length entry / 5) on k z)
       full (suc n) z = at-full m (drop at s) at (omega (arith, z)) on
+
+  pub far-halted : remainsOf (m .work) at (length s) ≡ true → {n : ℕ} → n ≡ haltedOf on (m .work) count (length entry / 5) → 0 < n → Gathers all entry now (stoppedAs m at count n)
+  far-halted h e l = let k = halt-stuck (m .work) count (length entry / 5) on e l in subst (λ (n : ℕ). Gathers all entry now (stoppedAs m at count n)) (sym (k .1)) (far-full h (k .0))
 
   pub far-end : waiting (m .work) ≡ 0 → length s ≤ at → Gathers all entry now (stoppedAs m at count 0)
   far-end h k = far-stop m at 0 (rw (drop-of-length-le s k) (at-end m at h on (length entry / 5 - count)))

@@ -1,5 +1,5 @@
--- The turns of the loop of `gather` that end at once: a name, a pair with its stroke or its edge, EP, or a refusal that is stored.
--- Why: each is a turn that takes a byte (Gathers.antt), and a line is worked off at once.
+-- The turns of the loop of `gather`: a name, a pair with its stroke or its edge, EP, and a refusal, by whatever it was given.
+-- Why: each is a turn that takes a byte (Gathers.antt), and a line is worked off at once where there is a record for it.
 use mathlib.Core.Path.{_≡_, refl, sym, ap, subst, _∙_}
 use mathlib.Core.Bool.{Bool, true, false, true≢false, cond, not}
 use mathlib.Core.List.{List}
@@ -9,12 +9,10 @@ use lib.Dec.{T, eqb}
 use lib.IntN.{ℤ}
 use lib.ListN.{length, getD}
 use lib.ListN as list
-use Rattle.reader.specs.declared.Reader.{Reader}
 use Rattle.reader.specs.declared.Event.{Event}
 use Rattle.reader.specs.declared.Event.the-variants as event
 use Rattle.reader.specs.declared.Step.{Step}
 use Rattle.reader.specs.declared.Next.{Next}
-use Rattle.reader.specs.Step.{passedOver}
 use Rattle.reader.specs.Stream.{_telling_}
 use Rattle.mnemonics.specs.Table.{EP, PU, PD, PA, PR}
 use Rattle.reader.specs.Sizes.{isCause, Caused}
@@ -37,17 +35,17 @@ use Rattle.hpgl.specs.declared.Segment.{Segment}
 use Rattle.hpgl.specs.declared.Segment.the-variants as segment
 use Rattle.hpgl.specs.Cases.{pick}
 use Rattle.hpgl.specs.Place.{limits}
-use Rattle.hpgl.specs.Rules.{done, refuse, letters, inked, longer, epRule, endRule, actOn}
+use Rattle.hpgl.specs.Rules.{done, letters, inked, longer, epRule, endRule, actOn}
 use Rattle.hpgl.specs.Machine.{waiting, stored, queued, readerAfter, workAfter, drawAnswer}
 use Rattle.hpgl.specs.Segment.{workSegment, segmentOf, drawnOf, segment-drawn, SmallSegment, segment-small}
 use Rattle.hpgl.specs.Plot.{Plot, refusal}
 use Rattle.basics.specs.declared.hand.Hand.{Hand}
 use Rattle.basics.specs.declared.hand.Pointed.{Pointed}
 use Rattle.basics.specs.Hand.{coreOf, lineOf, pointedOf}
-use Rattle.gathering.specs.Gather.{whole, countAfter, withStroke, recordOf, putOf, outlineOf}
+use Rattle.gathering.specs.Gather.{whole, stoppedAs, Gathers, countAfter, withStroke, recordOf, putOf, outlineOf}
 use Rattle.gathering.specs.Far.{Far, Reached}
-use Rattle.gathering.proofs.Turns.{Turn, reader-off, turn-valid}
-use Rattle.gathering.proofs.Gathers.{far-draw, far-turn, far-refusal}
+use Rattle.gathering.proofs.Turns.{Turn, turn-valid}
+use Rattle.gathering.proofs.Gathers.{far-draw, far-turn, far-refusal, far-refused}
 
 -- a name leaves the carriage where it is
 pub letters-position : (k : Carriage) (op : ℕ) → letters k op .position ≡ k .position
@@ -90,7 +88,7 @@ module _ {on : Bool} {all : Plot} {s : List ℕ} {entry now : List ℤ} {m : Sta
   next-turned turn z free = at-next (far-turn (r .far) turn (r .idle) (r .within) free z)
 
   module _ (c : Core) where
-    abbrev next : Segment → State
+    abbrev pub next : Segment → State
     next g = whole (q .reader) c (m .store) (queued (c .carriage .polygon .edges) (lineOf g))
 
     moved-turn : (g : Segment) → doing c g ≡ actOn (m .core) (q .event) → Turn last byte (q .reader telling q .event) (doing c g) (next g)
@@ -99,10 +97,14 @@ module _ {on : Bool} {all : Plot} {s : List ℕ} {entry now : List ℤ} {m : Sta
     moved-turn segment.PenUp e = record { step = r .step; act = e; reader = refl; core = refl; edges = refl; work = refl }
     moved-turn (segment.Line a b) e = record { step = r .step; act = e; reader = refl; core = refl; edges = refl; work = refl }
 
+    -- what it leaves waits
+    pub next-waits : (g : Segment) → doing c g ≡ actOn (m .core) (q .event) → (on ≡ true → count < length entry / 5) → Far on all s entry now (next g) (q .at) count
+    next-waits g e free = at-next (far-turn (r .far) (moved-turn g e) (r .idle) (r .within) free refl)
+
     -- nothing is drawn
     pub next-kept : doing c segment.Nothing ≡ actOn (m .core) (q .event) → (on ≡ true → count < length entry / 5) → Far on all s entry now (whole (q .reader) c (m .store) Nothing) (q .at) count
     unfolding queued lineOf
-    next-kept e free = at-next (far-turn (r .far) (moved-turn segment.Nothing e) (r .idle) (r .within) free refl)
+    next-kept e free = next-waits segment.Nothing e free
 
     -- a segment may be clipped
     pub next-small : (g : Segment) → doing c g ≡ actOn (m .core) (q .event) → SmallSegment g
@@ -163,25 +165,20 @@ module _ {on : Bool} {all : Plot} {s : List ℕ} {entry now : List ℤ} {m : Sta
       let b = inked (m .core) in
       next-turned (record { step = r .step; act = sym acts; reader = refl; core = refl; edges = outline-kept (m .store .edges) _ b; work = f ∙ outline-waits (m .core) }) refl free
 
-  -- a refusal is stored
-  pub next-refusal : {k : ℕ} → q .event ≡ event.Refused k → on ≡ true → count < length entry / 5 → {numbers : List ℤ} {x : Stroke} {n : ℕ} {z : Reader} →
-      x ≡ recordOf (refusal k (q .at)) → numbers ≡ withStroke x (count * 5) now → n ≡ count + 1 → z ≡ passedOver (q .reader) →
-      Far on all s entry numbers (whole z (m .core) (m .store) Nothing) (q .at) n
-  unfolding stored queued actOn refuse
-  next-refusal {k} told o free e f h z =
-      at-next
-      (far-refusal (r .far)
-      (record {
-        step = r .step;
-        act = ap (actOn (m .core)) (sym told);
-        reader = z ∙ reader-off (q .reader) some;
-        core = refl;
-        edges = refl;
-        work = refl;
-      })
-      (r .idle) (r .within) some o free (f ∙ (λ i. withStroke ((e ∙ ap (λ (t : ℕ). recordOf (refusal k t)) (r .ends)) i) (count * 5) now)) h)
-    where
-      some : k ≡ 0 → ⊥
-      some l =
-          let caused = subst Caused (sym (ap (λ (x : Step). x .event) (r .step)) ∙ told) (cause-law (r .reader) byte) in
-          subst (λ (n : ℕ). T (isCause n)) l caused
+  -- a refusal of the reader's own has a number
+  pub refusal-some : {k : ℕ} → q .event ≡ event.Refused k → k ≡ 0 → ⊥
+  refusal-some told l =
+      let caused = subst Caused (sym (ap (λ (x : Step). x .event) (r .step)) ∙ told) (cause-law (r .reader) byte) in
+      subst (λ (n : ℕ). T (isCause n)) l caused
+
+  module _ {t : Acted} {next : State} (turn : Turn last byte (q .reader telling q .event) t next) (some : t .number ≡ 0 → ⊥) where
+    -- a refusal is stored
+    pub next-refusal : on ≡ true → count < length entry / 5 → {numbers : List ℤ} {x : Stroke} {n : ℕ} →
+        x ≡ recordOf (refusal (t .number) (q .at)) → numbers ≡ withStroke x (count * 5) now → n ≡ count + 1 → Far on all s entry numbers next (q .at) n
+    next-refusal o free e f h =
+        at-next
+        (far-refusal (r .far) turn (r .idle) (r .within) some o free (f ∙ (λ i. withStroke ((e ∙ ap (λ (k : ℕ). recordOf (refusal (t .number) k)) (r .ends)) i) (count * 5) now)) h)
+
+    -- or ends the feed
+    pub next-refused : on ≡ false → Gathers all entry now (stoppedAs next (q .at) count (t .number))
+    next-refused o = subst (λ (k : ℕ). Gathers all entry now (stoppedAs next k count (t .number))) (sym (r .ends)) (far-refused (r .far) turn (r .idle) (r .within) some o)

@@ -2,9 +2,14 @@
 -- Why: what the turn's calls gave are the parts of `applied`, and a byte that means nothing yet changes the reader alone and leaves no work.
 use mathlib.Core.Path.{_≡_, refl, sym, ap, ap₂, _∙_, subst}
 use mathlib.Core.Bool.{Bool, true, false, true≢false, cond}
-use Prim.Native.Nat.{ℕ, _+_, _<_}
+use mathlib.Core.List.{List, [], _∷_}
+use mathlib.Core.Logic.{⊎-elim}
+use Prim.Native.Nat.{ℕ, _+_, _≤_}
+use native.Mathlib.Omega.{arith}
 use lib.Dec.{leb}
-use borrow.Author.Tests.{eq-eqb, ne-eqb, lt-ltb}
+use borrow.Author.Tests.{eq-eqb, ne-eqb}
+use types.Run.{OneOf}
+use denote.Enum.Declared.{tagOf}
 use Rattle.reader.specs.declared.Coordinates.{Coordinates}
 use Rattle.reader.specs.declared.Numbers.{Numbers}
 use Rattle.reader.specs.declared.Reader.{Reader}
@@ -13,16 +18,18 @@ use Rattle.reader.specs.declared.Event.the-variants as event
 use Rattle.reader.specs.declared.Step.{Step}
 use Rattle.reader.specs.Next.{isNothing}
 use Rattle.reader.specs.Step.{stepOf, passedOver}
-use Rattle.mnemonics.specs.Table.{IN}
-use Rattle.mnemonics.proofs.Laws.{pairs-first}
+use Rattle.mnemonics.specs.Table.{takesPairs}
 use Rattle.hpgl.specs.declared.Settings.{Settings}
 use Rattle.hpgl.specs.declared.Polygon.{Polygon}
 use Rattle.hpgl.specs.declared.Core.{Core}
 use Rattle.hpgl.specs.declared.Action.{Action}
-use Rattle.hpgl.specs.declared.Action.the-variants.{Keep}
+use Rattle.hpgl.specs.declared.Action.the-variants.{Keep, Line, Chords, Join, Outline, Rectangle}
+use Rattle.hpgl.proofs.Action.{the-type}
+use Rattle.hpgl.specs.declared.Edge.{Edge}
 use Rattle.hpgl.specs.declared.Acted.{Acted}
 use Rattle.hpgl.specs.declared.Work.the-variants.{Nothing}
 use Rattle.hpgl.specs.declared.State.{State}
+use Rattle.hpgl.specs.Cases.{never}
 use Rattle.hpgl.specs.Numbers.{tooFar, polygonFull, polygonBytes}
 use Rattle.hpgl.specs.Place.{location, inRange}
 use Rattle.hpgl.specs.Rules.{done, refuse, letters, moveTo, pointCost, storePoint, aimed, goTo, pairRule, endRule, actOn}
@@ -32,7 +39,7 @@ use Rattle.hpgl.specs.ValidKept.{valid-take}
 use Rattle.basics.specs.declared.hand.Hand.{Hand}
 use Rattle.hpgl.specs.Ends.{pairs-end}
 use Rattle.basics.specs.Hand.{carriageOf, coreOf, nameNumber, name-parts}
-use Rattle.gathering.specs.Gather.{whole}
+use Rattle.gathering.specs.Gather.{whole, heavyOf}
 
 -- what the calls of one turn gave: the step of the reader, what the core did, and the parts of the next machine
 pub record Turn (m : State) (b : ℕ) (q : Step) (t : Acted) (next : State) : Type 0 where
@@ -105,9 +112,9 @@ module _ (s : Settings) (h : Hand) (g : Polygon) where
   unfolding actOn refuse
   refused-acts k = refl
 
-  pub ended-acts : (op : ℕ) (n : Numbers) → op < IN → acting s h g Keep 0 ≡ actOn (coreOf s h g) (event.Ended op n)
+  pub ended-acts : (op : ℕ) (n : Numbers) → takesPairs op ≡ true → acting s h g Keep 0 ≡ actOn (coreOf s h g) (event.Ended op n)
   unfolding actOn done
-  ended-acts op n l = sym (pairs-end (coreOf s h g) op n (pairs-first op ∙ lt-ltb op IN l))
+  ended-acts op n l = sym (pairs-end (coreOf s h g) op n l)
 
   pub settled-acts : {c : Core} {t : Acted} (op : ℕ) (n : Numbers) → c ≡ coreOf s h g → t ≡ endRule c op n → t ≡ actOn (coreOf s h g) (event.Ended op n)
   unfolding actOn
@@ -142,3 +149,20 @@ pair-refused c n f = go (inRange (location (c .settings) (aimed c n))) (c .carri
     go true true false i j x y f = refl
     go true false fits i j x y f = absurd (f refl)
     go false mode fits i j x y f = refl
+
+-- ---- an action that leaves the store, by its tag
+
+abbrev pub Unjoined : Action → Type 0
+Unjoined a = OneOf (0 ∷ 1 ∷ 2 ∷ 4 ∷ 5 ∷ []) (tagOf the-type a)
+
+no-join : (e : Edge) → Unjoined (Join e) → ⊥
+no-join e h = ⊎-elim (λ e. omega (arith, e)) (⊎-elim (λ e. omega (arith, e)) (⊎-elim (λ e. omega (arith, e)) (⊎-elim (λ e. omega (arith, e)) (λ e. omega (arith, e))))) h
+
+pub unstored : (es : List Edge) (k : ℕ) (a : Action) → heavyOf a ≡ false → Unjoined a → es ≡ stored es k a
+unfolding stored heavyOf
+unstored es k Keep h j = refl
+unstored es k (Line a b) h j = refl
+unstored es k (Chords o) h j = refl
+unstored es k (Join e) h j = absurd (no-join e j)
+unstored es k Outline h j = refl
+unstored es k (Rectangle p q b) h j = never h refl

@@ -9,19 +9,15 @@ use Rattle.reader.specs.declared.Reader.{Reader}
 use Rattle.reader.specs.declared.Next.{Next}
 use Rattle.reader.specs.Step.{stepOf}
 use Rattle.reader.specs.Stream.{_telling_}
-use Rattle.clip.specs.declared.Rect.{Rect}
-use Rattle.plane.specs.declared.turn.Rows.{Rows}
-use Rattle.plane.specs.Turn.{rowsOf}
-use Rattle.hpgl.specs.declared.Circle.{Circle}
 use Rattle.hpgl.specs.declared.Core.{Core}
 use Rattle.hpgl.specs.declared.Store.{Store}
 use Rattle.hpgl.specs.declared.Work.{Work}
-use Rattle.hpgl.specs.declared.Work.the-variants.{Chords}
 use Rattle.hpgl.specs.declared.State.{State}
-use Rattle.hpgl.specs.Place.{limits}
 use Rattle.hpgl.specs.Machine.{waiting}
 use Rattle.hpgl.specs.Plot.{Mark, Plot, laidMarks}
 use Rattle.hpgl.specs.Valid.{Valid}
+use Rattle.basics.specs.declared.places.Frame.{Frame}
+use Rattle.basics.specs.Hand.{frameOf}
 use Rattle.gathering.specs.Gather.{whole, gatherFrom}
 
 -- marks that were stored before what f stores
@@ -50,10 +46,10 @@ pub record Reached (on : Bool) (all : Plot) (s : List ℕ) (entry now : List ℤ
   pub idle : waiting work ≡ 0
   pub far : Far on all s entry now (whole reader (m .core) (m .store) work) place count
 
--- ---- chords
+-- ---- work that is drawn by a loop of its own
 
--- some feed or plot is so far, and these chords wait; it has this turn, these limits and this pen
-pub record Chording (now : List ℤ) (r : Rows) (l : Rect) (pen : ℕ) (o : Circle) (i n count : ℕ) : Type 0 where
+-- some feed or plot is so far, and this work waits; it has this frame and this pen
+pub record Batching (now : List ℤ) (f : Frame) (pen : ℕ) (w : Work) (count : ℕ) : Type 0 where
   pub on : Bool
   pub all : Plot
   pub bytes : List ℕ
@@ -62,12 +58,11 @@ pub record Chording (now : List ℤ) (r : Rows) (l : Rect) (pen : ℕ) (o : Circ
   pub core : Core
   pub store : Store
   pub at : ℕ
-  pub turned : r ≡ rowsOf (core .settings .turn)
-  pub limited : l ≡ limits (core .settings)
+  pub framed : f ≡ frameOf (core .settings)
   pub held : pen ≡ core .carriage .pen .number
-  pub some : 0 < n
-  pub far : Far on all bytes entry now (whole reader core store (Chords o i n)) at count
+  pub some : 0 < waiting w
+  pub far : Far on all bytes entry now (whole reader core store w) at count
 
 -- how far it is once this work is left
-abbrev pub Drew : {now : List ℤ} {r : Rows} {l : Rect} {pen : ℕ} {o : Circle} {i n count : ℕ} → Chording now r l pen o i n count → List ℤ → Work → ℕ → Type 0
+abbrev pub Drew : {now : List ℤ} {f : Frame} {pen : ℕ} {w : Work} {count : ℕ} → Batching now f pen w count → List ℤ → Work → ℕ → Type 0
 Drew d exit w k = Far (d .on) (d .all) (d .bytes) (d .entry) exit (whole (d .reader) (d .core) (d .store) w) (d .at) k

@@ -12,11 +12,14 @@ use Rattle.hpgl.specs.declared.Store.{Store}
 use Rattle.hpgl.specs.declared.Pen.{Pen}
 use Rattle.hpgl.specs.declared.Circle.{Circle}
 use Rattle.hpgl.specs.declared.Work.{Work}
-use Rattle.hpgl.specs.declared.Work.the-variants.{Nothing, Chords, Edges}
+use Rattle.hpgl.specs.declared.Work.the-variants.{Nothing, Line, Chords, Edges}
+use Rattle.hpgl.specs.declared.Action.{Action}
+use Rattle.hpgl.specs.declared.Action.the-variants as action
 use Rattle.hpgl.specs.declared.State.{State}
 use Rattle.hpgl.specs.declared.Stroke.{Stroke}
 use Rattle.hpgl.specs.declared.Drawn.{Drawn}
 use Rattle.hpgl.specs.declared.Drawn.the-variants as drawn
+use Rattle.hpgl.specs.Numbers.{listFull}
 use Rattle.hpgl.specs.Machine.{waiting}
 use Rattle.hpgl.specs.Feed.{Feed, feedFrom}
 use Rattle.hpgl.specs.Plot.{Mark, stroke, refusal, Plot, plotFrom, laidMarks}
@@ -55,6 +58,26 @@ remainsOf w at end = cond (ltb at end) true (ltb 0 (waiting w))
 -- what comes next may need a record, of which all are used: a segment does, and where refusals are stored any byte
 unfoldable pub stuckOf : Bool → Work → ℕ → ℕ → Bool
 stuckOf on w k room = cond (eqb k room) (cond on true (ltb 0 (waiting w))) false
+
+-- the number that ends it there, or 0
+unfoldable pub haltedOf : Bool → Work → ℕ → ℕ → ℕ
+haltedOf on w k room = cond (stuckOf on w k room) listFull 0
+
+-- work that is drawn by a loop of its own
+unfoldable pub batchedOf : Work → Bool
+batchedOf Nothing = false
+batchedOf (Line a b) = false
+batchedOf (Chords o i n) = true
+batchedOf (Edges i n) = false
+
+-- an action that changes the store by more than one edge
+unfoldable pub heavyOf : Action → Bool
+heavyOf action.Keep = false
+heavyOf (action.Line a b) = false
+heavyOf (action.Chords o) = false
+heavyOf (action.Join e) = false
+heavyOf action.Outline = false
+heavyOf (action.Rectangle p q shown) = true
 
 -- the marks after a draw, of k before it
 unfoldable pub countAfter : Drawn → ℕ → ℕ

@@ -1,19 +1,22 @@
 // Feed and plot of document 01's machine into a list of plain numbers: its state is taken apart once, and a part is touched by the events that change it alone.
 ghost use mathlib.Core.Path.{_≡_};
+ghost use mathlib.Core.Bool.{true};
 ghost use Prim.Native.Nat.{_/_, _*_, _+_, _^_, _<_, _≤_};
 ghost use lib.ListN.{length, drop};
 ghost use Rattle.sines.specs.Table as T;
+ghost use Rattle.hpgl.specs.declared.Work.the-variants.{Chords};
 ghost use Rattle.hpgl.specs.Machine.{waiting};
+ghost use Rattle.hpgl.specs.Machine as M;
 ghost use Rattle.hpgl.specs.Plot.{refusal};
-ghost use Rattle.hpgl.specs.Valid.{Valid};
+ghost use Rattle.hpgl.specs.Valid.{Valid, ValidAction};
 ghost use Rattle.gathering.specs.Gather as S;
 ghost use Rattle.gathering.specs.Far as F;
 use basics::hand::core_of;
 use basics::hand::hand_of;
 use basics::numbers::LIST_FULL;
+use basics::places::Frame;
 use basics::places::frame_of;
 use basics::places::located_in;
-use clip::Rect;
 use hpgl::Action;
 use hpgl::Circle;
 use hpgl::Core;
@@ -26,8 +29,7 @@ use hpgl::Stroke;
 use hpgl::Work;
 use instructions::events::end_rule;
 use mnemonics::EP;
-use mnemonics::IN;
-use plane::turn::Rows;
+use mnemonics::takes_pairs;
 use queue::drawing::drawn_of;
 use queue::drawing::edge_place;
 use queue::drawing::segment;
@@ -139,17 +141,20 @@ fn remains(w: Work, at: usize, end: usize) -> bool
     0 < waiting(w)
 }
 
-// Whether what comes next may need a record, of which all are used: a segment does, and where refusals are stored any byte.
-fn stuck(on: bool, w: Work, count: usize, room: usize) -> bool
-    ensures { λ r. ⌜ r ≡ S.stuckOf on w count room ⌝ }
+// The number that ends it before what comes next, or 0: all records are used, and a segment needs one, or, where refusals are stored, any byte.
+fn halted(on: bool, w: Work, count: usize, room: usize) -> u8
+    ensures { λ r. ⌜ r ≡ S.haltedOf on w count room ⌝ }
 {
     if count == room {
         if on {
-            return true;
+            return LIST_FULL;
         }
-        return 0 < waiting(w);
+        if 0 < waiting(w) {
+            return LIST_FULL;
+        }
+        return 0;
     }
-    false
+    0
 }
 
 // What EP leaves waiting: the stored edges, if the pen has paint.
@@ -172,16 +177,15 @@ fn chords_left(circle: Circle, next: u16, left: u16) -> Work
     Work::Chords(circle, next, left)
 }
 
-// How far chords were drawn: what still waits, and the count.
-struct Chorded {
+// How far work was drawn: what still waits, and the count.
+struct Progress {
     work: Work,
     count: usize,
 }
 
 // Draws chords that wait, up to the last, or one with no record left. A vertex at which two of them meet is found once.
 fn chords(
-    rows: Rows,
-    limits: Rect,
+    frame: Frame,
     pen: u8,
     circle: Circle,
     from: u16,
@@ -189,33 +193,105 @@ fn chords(
     sines: &[u32],
     numbers: &mut [i64],
     before: usize,
-) -> Chorded
-    requires { ⌜ F.Chording (now numbers) rows limits pen circle from many before × (before < length (now numbers) / 5) × (now sines ≡ T.sines) ⌝ }
+) -> Progress
+    requires { ⌜ F.Batching (now numbers) frame pen (Chords circle from many) before × (before < length (now numbers) / 5) × (now sines ≡ T.sines) ⌝ }
     ensures { λ r. ⌜ waiting (r .work) < many ⌝ }
-    ensures { λ r. ⌜ ((d : F.Chording (now (numbers .entry)) rows limits pen circle from many before) → F.Drew d (now (numbers .exit)) (r .work) (r .count)) ⌝ }
+    ensures { λ r. ⌜ ((d : F.Batching (now (numbers .entry)) frame pen (Chords circle from many) before) → F.Drew d (now (numbers .exit)) (r .work) (r .count)) ⌝ }
 {
     let room = numbers.len() / NUMBERS;
     let mut next = from;
     let mut left = many;
     let mut count = before;
-    let mut corner = vertex(rows, circle, next, sines);
+    let mut corner = vertex(frame.rows, circle, next, sines);
     while left > 0 {
         if count == room {
-            return Chorded {
+            return Progress {
                 work: chords_left(circle, next, left),
                 count: count,
             };
         }
         next += 1;
         left -= 1;
-        let end = vertex(rows, circle, next, sines);
-        let drawn = drawn_of(limits, pen, Segment::Line(corner, end));
+        let end = vertex(frame.rows, circle, next, sines);
+        let drawn = drawn_of(frame.limits, pen, Segment::Line(corner, end));
         count = put(numbers, count, drawn);
         corner = end;
     }
-    Chorded {
+    Progress {
         work: chords_left(circle, next, left),
         count: count,
+    }
+}
+
+// Whether work is drawn by a loop of its own.
+fn batched(w: Work) -> bool
+    ensures { λ r. ⌜ r ≡ S.batchedOf w ⌝ }
+{
+    match w {
+        Work::Nothing => false,
+        Work::Line(_, _) => false,
+        Work::Chords(_, _, _) => true,
+        Work::Edges(_, _) => false,
+    }
+}
+
+// Draws such work, up to its last segment, or one with no record left.
+fn batch(
+    frame: Frame,
+    pen: u8,
+    w: Work,
+    sines: &[u32],
+    numbers: &mut [i64],
+    before: usize,
+) -> Progress
+    requires { ⌜ F.Batching (now numbers) frame pen w before × (before < length (now numbers) / 5) × (now sines ≡ T.sines) × (S.batchedOf w ≡ true) ⌝ }
+    ensures { λ r. ⌜ waiting (r .work) < waiting w ⌝ }
+    ensures { λ r. ⌜ ((d : F.Batching (now (numbers .entry)) frame pen w before) → F.Drew d (now (numbers .exit)) (r .work) (r .count)) ⌝ }
+{
+    match w {
+        Work::Nothing => Progress {
+            work: w,
+            count: before,
+        },
+        Work::Line(_, _) => Progress {
+            work: w,
+            count: before,
+        },
+        Work::Chords(circle, i, n) => chords(frame, pen, circle, i, n, sines, numbers, before),
+        Work::Edges(_, _) => Progress {
+            work: w,
+            count: before,
+        },
+    }
+}
+
+// Whether an action changes the store by more than one edge.
+fn heavy(a: Action) -> bool
+    ensures { λ r. ⌜ r ≡ S.heavyOf a ⌝ }
+{
+    match a {
+        Action::Keep => false,
+        Action::Line(_, _) => false,
+        Action::Chords(_) => false,
+        Action::Join(_) => false,
+        Action::Outline => false,
+        Action::Rectangle(_, _, _) => true,
+    }
+}
+
+// The store after an action of a polygon that had `edges` edges, and what waits where it has `count`.
+struct Remade {
+    store: Store,
+    work: Work,
+}
+
+fn carried(store: Store, edges: u8, count: u8, a: Action) -> Remade
+    requires { ⌜ ValidAction edges a ⌝ }
+    ensures { λ r. ⌜ (r .store .edges ≡ M.stored (store .edges) edges a) × (r .work ≡ M.queued count a) ⌝ }
+{
+    Remade {
+        store: stored(store, edges, a),
+        work: queued(count, a),
     }
 }
 
@@ -242,26 +318,17 @@ pub fn gather(m: State, bytes: &[u8], from: usize, numbers: &mut [i64], on: bool
     let mut count = 0;
     let room = numbers.len() / NUMBERS;
     while remains(work, at, bytes.len()) {
-        if stuck(on, work, count, room) {
+        let halt = halted(on, work, count, room);
+        if halt > 0 {
             let core = core_of(settings, hand, polygon);
-            return gathered(reader, core, store, work, at, count, LIST_FULL);
+            return gathered(reader, core, store, work, at, count, halt);
         }
         if 0 < waiting(work) {
             let pen = hand.pen;
-            if let Work::Chords(circle, i, n) = work {
-                let c = chords(
-                    frame.rows,
-                    frame.limits,
-                    pen.number,
-                    circle,
-                    i,
-                    n,
-                    &sines,
-                    numbers,
-                    count,
-                );
-                count = c.count;
-                work = c.work;
+            if batched(work) {
+                let b = batch(frame, pen.number, work, &sines, numbers, count);
+                count = b.count;
+                work = b.work;
                 continue;
             }
             let e = store.edges[edge_place(work)];
@@ -274,20 +341,18 @@ pub fn gather(m: State, bytes: &[u8], from: usize, numbers: &mut [i64], on: bool
         let q = reader.next(bytes, at);
         at = q.at;
         reader = q.reader;
+        work = Work::Nothing;
         let event = q.event;
         let edges = polygon.edges;
-        let mut action = Action::Keep;
         let mut number: u8 = 0;
         match event {
             Event::Nothing => {
-                work = Work::Nothing;
                 continue;
             }
             Event::Named(op) => {
                 number = name_number(polygon.mode, op);
                 if number == 0 {
                     hand = letters(hand, op);
-                    work = Work::Nothing;
                     continue;
                 }
             }
@@ -298,17 +363,15 @@ pub fn gather(m: State, bytes: &[u8], from: usize, numbers: &mut [i64], on: bool
                     if number == 0 {
                         hand = t.hand;
                         here = t.here;
-                        work = Work::Nothing;
-                        let there = hand.position;
                         if polygon.empty {
-                            polygon = longer(polygon, t.cost, there);
+                            polygon = longer(polygon, t.cost, hand.position);
                             continue;
                         }
                         // in its place: the store is large
                         let e = t.edge;
                         let k = edges as usize;
                         store.edges[k] = e;
-                        polygon = longer(polygon, t.cost, there);
+                        polygon = longer(polygon, t.cost, hand.position);
                         continue;
                     }
                 } else {
@@ -318,73 +381,71 @@ pub fn gather(m: State, bytes: &[u8], from: usize, numbers: &mut [i64], on: bool
                         hand = t.hand;
                         here = t.here;
                         let line = t.segment;
-                        if count < room {
-                            let pen = hand.pen;
-                            let drawn = drawn_of(frame.limits, pen.number, line);
-                            count = put(numbers, count, drawn);
-                            work = Work::Nothing;
+                        if count == room {
+                            work = queued(edges, line_of(line));
                             continue;
                         }
-                        action = line_of(line);
+                        let pen = hand.pen;
+                        let drawn = drawn_of(frame.limits, pen.number, line);
+                        count = put(numbers, count, drawn);
+                        continue;
                     }
                 }
             }
             Event::Ended(op, n) => {
-                if op < IN {
-                    work = Work::Nothing;
+                if takes_pairs(op) {
                     continue;
                 }
                 if op == EP {
                     // once for each polygon: no core is put together for it
-                    let pen = hand.pen;
-                    work = outline(pen, edges);
+                    work = outline(hand.pen, edges);
                     continue;
                 }
                 let t = end_rule(core_of(settings, hand, polygon), op, n);
-                let c = t.core;
-                let k = c.carriage;
-                let position = k.position;
-                settings = c.settings;
+                let core = t.core;
+                let carriage = core.carriage;
+                let position = carriage.position;
+                settings = core.settings;
                 frame = frame_of(settings);
-                hand = hand_of(k);
+                hand = hand_of(carriage);
                 here = located_in(frame, position);
-                polygon = k.polygon;
-                action = t.action;
-                number = t.number;
-            }
-            Event::Refused(k) => {
-                if on {
+                polygon = carriage.polygon;
+                if t.number > 0 {
+                    // it may leave polygon mode all the same
                     reader = reader.passed_over();
-                    count = put_record(numbers, count, refusal_record(k, at));
-                    work = Work::Nothing;
+                    if on {
+                        count = put_record(numbers, count, refusal_record(t.number, at));
+                        continue;
+                    }
+                    return gathered(reader, core, store, work, at, count, t.number);
+                }
+                let action = t.action;
+                if let Action::Join(e) = action {
+                    let k = edges as usize;
+                    store.edges[k] = e;
                     continue;
                 }
+                if heavy(action) {
+                    let c = carried(store, edges, polygon.edges, action);
+                    store = c.store;
+                    work = c.work;
+                    continue;
+                }
+                work = queued(polygon.edges, action);
+                continue;
+            }
+            Event::Refused(k) => {
                 number = k;
             }
         }
-        match action {
-            Action::Keep => {}
-            Action::Line(_, _) => {}
-            Action::Chords(_) => {}
-            Action::Join(e) => {
-                let k = edges as usize;
-                store.edges[k] = e;
-            }
-            Action::Outline => {}
-            Action::Rectangle(_, _, _) => {
-                store = stored(store, edges, action);
-            }
+        // what is left is a refusal, and leaves all else as it was
+        reader = reader.passed_over();
+        if on {
+            count = put_record(numbers, count, refusal_record(number, at));
+            continue;
         }
-        work = queued(polygon.edges, action);
-        if number > 0 {
-            reader = reader.passed_over();
-            if on {
-                count = put_record(numbers, count, refusal_record(number, at));
-                continue;
-            }
-            let core = core_of(settings, hand, polygon);
-            return gathered(reader, core, store, work, at, count, number);
-        }
+        let core = core_of(settings, hand, polygon);
+        return gathered(reader, core, store, work, at, count, number);
     }
     let core = core_of(settings, hand, polygon);
     gathered(reader, core, store, work, at, count, 0)

@@ -10,6 +10,7 @@ use Rattle.clip.specs.Reach.{SmallRect}
 use Rattle.plane.specs.Bounds.{UnitRows}
 use Rattle.plane.specs.TurnLaws.{rows-unit}
 use Rattle.hpgl.specs.declared.Work.{Work}
+use Rattle.hpgl.specs.declared.Work.the-variants.{Chords}
 use Rattle.hpgl.specs.declared.Segment.the-variants as segment
 use Rattle.hpgl.specs.Machine.{waiting}
 use Rattle.hpgl.specs.Segment.{drawnOf, SmallSegment, segment-small}
@@ -17,22 +18,22 @@ use Rattle.hpgl.specs.Valid.{mostChords, Valid}
 use Rattle.hpgl.specs.ValidFacts.{limits-small}
 use Rattle.queue.specs.Corners.{vertexAt}
 use Rattle.gathering.specs.Gather.{whole, chordsLeft}
-use Rattle.gathering.specs.Far.{Chording, Drew}
+use Rattle.gathering.specs.Far.{Batching, Drew}
 use Rattle.gathering.proofs.Gathers.{far-fits}
-use Rattle.gathering.proofs.Chording.{chord, chords-some, chords-waiting, chord-waits, far-chord}
+use Rattle.gathering.proofs.Chording.{chord, chords-some, chords-waiting, chord-waits, far-chord, turned, limited, batched-chords}
 use Rattle.gathering.proofs.chords.Statement.{statement}
 use Rattle.gathering.proofs.chords.Tie as tie
 
 abbrev Inv-loop : tie.InvT-loop
-Inv-loop rows limits pen circle from many sines numbers₀ before room next₀ left₀ count₀ corner₀ numbers next left count corner =
-    ((d : Chording numbers₀ rows limits pen circle from many before) → Drew d numbers (chordsLeft circle next left) count)
-    × (corner ≡ vertexAt rows circle next)
+Inv-loop frame pen circle from many sines numbers₀ before room next₀ left₀ count₀ corner₀ numbers next left count corner =
+    ((d : Batching numbers₀ frame pen (Chords circle from many) before) → Drew d numbers (chordsLeft circle next left) count)
+    × (corner ≡ vertexAt (frame .rows) circle next)
     × (next + left ≡ from + many)
     × (left ≤ many)
     × (left ≡ many → count ≡ before)
 
 abbrev μ-loop : tie.MeasureT-loop
-μ-loop rows limits pen circle from many sines numbers₀ before room next₀ left₀ count₀ corner₀ numbers next left count corner = left
+μ-loop frame pen circle from many sines numbers₀ before room next₀ left₀ count₀ corner₀ numbers next left count corner = left
 
 abbrev Loop : Type 0
 Loop = tie.At-loop Inv-loop μ-loop
@@ -41,7 +42,7 @@ abbrev entry : Loop → tie.Start Inv-loop μ-loop
 entry l = search
 
 abbrev Known : tie.Start Inv-loop μ-loop → Type 0
-Known s = let a = s .args in Chording (a .numbers .now) (a .rows) (a .limits) (a .pen) (a .circle) (a .from) (a .many) (a .before)
+Known s = let a = s .args in Batching (a .numbers .now) (a .frame) (a .pen) (Chords (a .circle) (a .from) (a .many)) (a .before)
 
 abbrev known : (s : tie.Start Inv-loop μ-loop) → Known s
 known s = s .pre .0
@@ -52,8 +53,8 @@ far l d = l .loop .inv .0 d
 long : (l : Loop) → length (l .loop .numbers) ≡ length (entry l .args .numbers .now)
 long l = let d = known (entry l) in far l d .long ∙ sym (d .far .long)
 
-rows-small : (s : tie.Start Inv-loop μ-loop) → UnitRows (s .args .rows)
-rows-small s = let d = known s in rw (d .turned) (rows-unit (d .far .valid .core .settings .turn))
+rows-small : (s : tie.Start Inv-loop μ-loop) → UnitRows (s .args .frame .rows)
+rows-small s = rw (turned (known s)) (rows-unit (known s .far .valid .core .settings .turn))
 
 most : (s : tie.Start Inv-loop μ-loop) → s .args .from + s .args .many ≤ mostChords
 most s = known s .far .valid .work .1
@@ -75,7 +76,7 @@ free e d =
     omega (arith, e .if1 .left, far l d .room, n)
 
 -- the ends of the segment that is drawn
-drawn-chord : (v : tie.After-vertex2 Inv-loop μ-loop) → let l = turn (v .before) in segment.Line (l .loop .corner) (v .vertex2 .result) ≡ chord (entry l .args .rows) (entry l .args .circle) (l .loop .next)
+drawn-chord : (v : tie.After-vertex2 Inv-loop μ-loop) → let l = turn (v .before) in segment.Line (l .loop .corner) (v .vertex2 .result) ≡ chord (entry l .args .frame .rows) (entry l .args .circle) (l .loop .next)
 drawn-chord v = let l = turn (v .before) in λ j. segment.Line (l .loop .inv .1 j) (v .vertex2 .ensures j)
 
 vertex-requires : tie.Need-vertex-requires Inv-loop μ-loop
@@ -85,7 +86,7 @@ loop-holds : tie.Need-loop-holds Inv-loop μ-loop
 loop-holds c =
     let s : tie.Start Inv-loop μ-loop = search in
     let a = s .args in (
-      λ d. subst (λ (w : Work). Drew d (a .numbers .now) w (a .before)) (sym (chords-some (a .circle) (a .from) (a .many) (d .some))) (d .far),
+      λ d. subst (λ (w : Work). Drew d (a .numbers .now) w (a .before)) (sym (chords-some (a .circle) (a .from) (a .many) (batched-chords d))) (d .far),
       c .vertex .ensures,
       refl,
       omega arith,
@@ -126,8 +127,8 @@ drawn-of-requires c κs =
     let d = known s in
     let i = l .loop .next in
     let v = subst (λ (w : Work). Valid (whole (d .reader) (d .core) (d .store) w)) (chords-some (s .args .circle) i (l .loop .left) (some e)) (far l d .valid) in (
-      subst SmallRect (sym (d .limited)) (limits-small (d .far .valid .core .settings)),
-      subst SmallSegment (sym (drawn-chord c ∙ chord-waits (d .reader) (d .core) (d .store) (d .turned) (s .args .circle) i (l .loop .left) (some e))) (segment-small v),
+      subst SmallRect (sym (limited d)) (limits-small (d .far .valid .core .settings)),
+      subst SmallSegment (sym (drawn-chord c ∙ chord-waits (d .reader) (d .core) (d .store) (turned d) (s .args .circle) i (l .loop .left) (some e))) (segment-small v),
     )
 
 put-requires : tie.Need-put-requires Inv-loop μ-loop
@@ -147,8 +148,8 @@ loop-again c =
     let i = l .loop .next in
     let n = l .loop .left in (
       λ d.
-          far-chord (d .reader) (d .core) (d .store) (d .turned) (d .limited) (d .held) o i n (some e) (far l d) (free e d)
-          (x .drawn-of .ensures ∙ ap (drawnOf (s .args .limits) (s .args .pen)) (drawn-chord (x .before))) (u .put .ensures .1) (u .put .ensures .0),
+          far-chord (d .reader) (d .core) (d .store) (turned d) (limited d) (d .held) o i n (some e) (far l d) (free e d)
+          (x .drawn-of .ensures ∙ ap (drawnOf (s .args .frame .limits) (s .args .pen)) (drawn-chord (x .before))) (u .put .ensures .1) (u .put .ensures .0),
       x .before .vertex2 .ensures,
       omega (arith, l .loop .inv .2, some e),
       omega (arith, l .loop .inv .3),
@@ -167,7 +168,7 @@ returns-2 c =
     let x : tie.After-loop Inv-loop μ-loop = search in
     let a = entry l .args in
     let w = c .chords-left2 .ensures in (
-      rw (w, chords-waiting (a .circle) (l .loop .next) (l .loop .left)) (omega (arith, x .loop-test .left, known (entry l) .some)),
+      rw (w, chords-waiting (a .circle) (l .loop .next) (l .loop .left)) (omega (arith, x .loop-test .left, batched-chords (known (entry l)))),
       λ d. subst (λ (w : Work). Drew d (l .loop .numbers) w (l .loop .count)) (sym w) (far l d),
     )
 

@@ -1,16 +1,17 @@
 -- The proof of `gather`. The invariant is `Far` (Gathers.antt): the marks so far stand in the list, and what is left of feed or plot follows them; with it the
--- frame is that of the settings, and `here` the location of the hand. A turn draws, or does what one event asks: at once (Moving.antt), or as a turn in parts.
+-- frame is that of the settings, and `here` the location of the hand. A turn draws, or does what one event asks (Moving.antt), and ends. What is left where the
+-- ways meet is a refusal that changed nothing (`declines`), of which its number alone is told there.
 -- The measure: what waits, and for each byte left one more than can wait after it, which is at most the 720 chords of a circle.
 use borrow.Author.Needs.{needs}
 use mathlib.Core.Path.{_≡_, refl, sym, ap, subst, _∙_}
 use mathlib.Core.Bool.{Bool, true, false, cond}
 use mathlib.Core.List.{List}
 use mathlib.Core.Logic.{⊎-elim}
-use Prim.Native.Nat.{ℕ, _+_, _*_, _-_, _/_, _≤_, _<_}
+use Prim.Native.Nat.{ℕ, _+_, _*_, _-_, _/_, _^_, _≤_, _<_}
 use native.Mathlib.Omega.{arith}
+use borrow.Author.Tests.{ne-eqb}
 use lib.IntN.{ℤ}
 use lib.ListN.{length, getD, set, drop}
-use borrow.Author.Tests.{ne-eqb}
 use Rattle.clip.specs.Reach.{SmallRect}
 use Rattle.clip.specs.declared.Point.{Point}
 use Rattle.clip.specs.declared.Rect.{Rect}
@@ -24,24 +25,22 @@ use Rattle.reader.specs.declared.Next.{Next}
 use Rattle.reader.specs.declared.Step.{Step}
 use Rattle.reader.specs.Stream.{_telling_}
 use Rattle.hpgl.specs.declared.Settings.{Settings}
-use Rattle.hpgl.specs.declared.Circle.{Circle}
 use Rattle.hpgl.specs.declared.Polygon.{Polygon}
 use Rattle.hpgl.specs.declared.Carriage.{Carriage}
 use Rattle.hpgl.specs.declared.Core.{Core}
-use Rattle.hpgl.specs.declared.Edge.{Edge}
-use Rattle.hpgl.specs.declared.Action.{Action}
 use Rattle.hpgl.specs.declared.Action.the-variants.{Keep}
 use Rattle.hpgl.specs.declared.Acted.{Acted}
 use Rattle.hpgl.specs.declared.Store.{Store}
 use Rattle.hpgl.specs.declared.Work.{Work}
-use Rattle.hpgl.specs.declared.Work.the-variants.{Nothing, Chords}
+use Rattle.hpgl.specs.declared.Work.the-variants.{Nothing}
 use Rattle.hpgl.specs.declared.Segment.the-variants as segment
 use Rattle.hpgl.specs.declared.State.{State}
 use Rattle.hpgl.specs.declared.Stroke.{Stroke}
-use Rattle.hpgl.specs.Numbers.{listFull, mostEdges, polygonBytes}
+use Rattle.hpgl.specs.Numbers.{mostEdges, polygonBytes}
+use Rattle.hpgl.specs.Pins.{pinned}
 use Rattle.hpgl.specs.Plot.{Plot, refusal}
 use Rattle.hpgl.specs.Place.{limits}
-use Rattle.hpgl.specs.Rules.{refuse, longer, actOn}
+use Rattle.hpgl.specs.Rules.{longer, refuse, actOn}
 use Rattle.hpgl.specs.Machine.{noEdge, waiting, stored, queued, readerAfter, drawAnswer}
 use Rattle.hpgl.specs.Segment.{segmentOf, drawnOf, segment-drawn, SmallSegment, segment-small}
 use Rattle.hpgl.specs.Valid.{Valid, ValidCore, ValidActed, ValidEvent, ValidAction}
@@ -56,10 +55,10 @@ use Rattle.queue.specs.Corners.{segmentIn}
 use Rattle.basics.specs.Hand.{frameOf, handOf, carriageOf, coreOf, lineOf, pointedOf, locationIn}
 use Rattle.basics.specs.Locating.{hand-locatable}
 use Rattle.gathering.specs.Gather.{whole, stoppedAs, gatherFrom, withStroke, recordOf}
-use Rattle.gathering.specs.Far.{Far, Reached, Chording}
-use Rattle.gathering.proofs.Turns.{Turn, reader-on, reader-off, turn-valid, acting, none-acts, refused-acts, ended-acts, settled-acts, pair-acts, pair-refused, named-acts, unknown-acts}
-use Rattle.gathering.proofs.Gathers.{waits-most, waits-less, byte-remains, none-remains, far-start, far-free, far-fits, far-full, far-end, far-draw, far-turn, far-refusal, far-refused, far-next}
-use Rattle.gathering.proofs.Moving.{letters-position, doing, next-turned, next-kept, next-small, next-drawn, next-first, next-edge, next-outline, next-refusal}
+use Rattle.gathering.specs.Far.{Far, Reached, Batching}
+use Rattle.gathering.proofs.Turns.{Turn, reader-on, reader-off, acting, none-acts, refused-acts, ended-acts, settled-acts, pair-acts, pair-refused, named-acts, unknown-acts, unstored}
+use Rattle.gathering.proofs.Gathers.{waits-most, waits-less, byte-remains, none-remains, far-start, far-free, far-fits, far-halted, far-end, far-draw, far-next}
+use Rattle.gathering.proofs.Moving.{letters-position, doing, next-turned, next-waits, next-kept, next-small, next-drawn, next-first, next-edge, next-outline, refusal-some, next-refusal, next-refused}
 use Rattle.gathering.proofs.Chording.{alone-waits}
 use Rattle.gathering.proofs.gather.Statement.{statement}
 use Rattle.gathering.proofs.gather.Tie as tie
@@ -73,10 +72,13 @@ Inv-loop bytes from numbers₀ on sines reader₀ settings₀ frame₀ hand₀ h
 abbrev μ-loop : tie.MeasureT-loop
 μ-loop bytes from numbers₀ on sines reader₀ settings₀ frame₀ hand₀ here₀ polygon₀ store₀ work₀ at₀ count₀ room numbers reader settings frame hand here polygon store work at count = (length bytes - at) * 721 + waiting work
 
--- ---- the places of a turn
+-- ---- the places of a turn, by name: a test that is added to the function renumbers these alone
 
 abbrev Loop : Type 0
 Loop = tie.At-loop Inv-loop μ-loop
+
+abbrev Going : Type 0
+Going = tie.Else2 Inv-loop μ-loop
 
 abbrev Waits : Type 0
 Waits = tie.Then3 Inv-loop μ-loop
@@ -84,20 +86,70 @@ Waits = tie.Then3 Inv-loop μ-loop
 abbrev Idle : Type 0
 Idle = tie.Else3 Inv-loop μ-loop
 
+abbrev Batched : Type 0
+Batched = tie.Then4 Inv-loop μ-loop
+
+abbrev Alone : Type 0
+Alone = tie.Else4 Inv-loop μ-loop
+
 abbrev Read : Type 0
 Read = tie.After-next Inv-loop μ-loop
 
-abbrev Done : Type 0
-Done = tie.At-match2-came Inv-loop μ-loop
+abbrev Pointed : Type 0
+Pointed = tie.After-point Inv-loop μ-loop
 
 abbrev Stored : Type 0
-Stored = tie.At-match3-came Inv-loop μ-loop
+Stored = tie.Then7 Inv-loop μ-loop
 
-abbrev Queued : Type 0
-Queued = tie.After-queued Inv-loop μ-loop
+abbrev First : Type 0
+First = tie.Then8 Inv-loop μ-loop
+
+abbrev Joined : Type 0
+Joined = tie.Else8 Inv-loop μ-loop
+
+abbrev Shifted : Type 0
+Shifted = tie.After-shift Inv-loop μ-loop
+
+abbrev Moved : Type 0
+Moved = tie.Then9 Inv-loop μ-loop
+
+abbrev Full : Type 0
+Full = tie.Then10 Inv-loop μ-loop
+
+abbrev Free : Type 0
+Free = tie.Else10 Inv-loop μ-loop
+
+abbrev Outlined : Type 0
+Outlined = tie.Then12 Inv-loop μ-loop
+
+abbrev Ended : Type 0
+Ended = tie.After-end-rule Inv-loop μ-loop
+
+-- the core that the rule left is taken apart
+abbrev Ruled : Type 0
+Ruled = tie.After-polygon2 Inv-loop μ-loop
+
+abbrev Refused : Type 0
+Refused = tie.Then13 Inv-loop μ-loop
 
 abbrev Passed : Type 0
-Passed = tie.After-passed-over2 Inv-loop μ-loop
+Passed = tie.After-passed-over Inv-loop μ-loop
+
+abbrev Accepted : Type 0
+Accepted = tie.Else13 Inv-loop μ-loop
+
+abbrev Unjoined : Type 0
+Unjoined = tie.At-match2-keys2 Inv-loop μ-loop
+
+abbrev Light : Type 0
+Light = tie.Else15 Inv-loop μ-loop
+
+-- where what is left is a refusal
+abbrev Met : Type 0
+Met = tie.At-match-came Inv-loop μ-loop
+
+abbrev Declined : Type 0
+Declined = tie.After-passed-over2 Inv-loop μ-loop
 
 abbrev handed : tie.After-store Inv-loop μ-loop → tie.After-hand-of Inv-loop μ-loop
 handed c = c .before .before .before
@@ -111,8 +163,14 @@ laid h = search
 abbrev entry : Loop → tie.Start Inv-loop μ-loop
 entry l = start (handed (l .before))
 
+abbrev going : Going → Loop
+going e = search
+
 abbrev waits : Waits → Loop
 waits w = search
+
+abbrev idles : Idle → Loop
+idles e = search
 
 abbrev drawn : tie.After-drawn-of Inv-loop μ-loop → Waits
 drawn d = search
@@ -120,23 +178,44 @@ drawn d = search
 abbrev segmented : tie.After-segment Inv-loop μ-loop → Waits
 segmented g = search
 
-abbrev idles : Idle → Loop
-idles e = search
-
 abbrev loop : Read → Loop
 loop q = idles (q .before)
 
-abbrev read : Done → Read
-read j = j .before .before
+abbrev pointing : Pointed → Read
+pointing p = search
 
-abbrev did : Stored → Done
-did k = k .before
+abbrev shifts : Shifted → Read
+shifts t = search
 
-abbrev kept : Queued → Stored
-kept r = r .before
+abbrev full : Full → Moved
+full f = search
 
-abbrev turning : Passed → Queued
-turning p = p .before .before
+abbrev unfilled : Free → Moved
+unfilled f = search
+
+abbrev ending : Ended → Read
+ending a = search
+
+abbrev ended-of : tie.After-hand-of2 Inv-loop μ-loop → Ended
+ended-of h = search
+
+abbrev hand-now : Ruled → tie.After-hand-of2 Inv-loop μ-loop
+hand-now r = r .before .before
+
+abbrev ended : Ruled → Ended
+ended r = ended-of (hand-now r)
+
+abbrev read : Ruled → Read
+read r = ending (ended r)
+
+abbrev refusing : Refused → Ruled
+refusing c = search
+
+abbrev accepting : Accepted → Ruled
+accepting c = search
+
+abbrev met : Met → Read
+met j = j .before .before
 
 -- the machine that the parts make
 abbrev here : Loop → State
@@ -179,18 +258,15 @@ waits-some : (w : Waits) → 0 < waiting (waits w .loop .work)
 waits-some w = omega (arith, w .before .waiting .ensures, w .if3 .taken)
 
 -- a record is free where a segment waits, and where a refusal may have to be stored
-abbrev unstuck : tie.Else2 Inv-loop μ-loop → Loop
-unstuck e = search
-
-free : (e : tie.Else2 Inv-loop μ-loop) → let l = unstuck e in
+free : (e : Going) → let l = going e in
     (waiting (l .loop .work) ≡ 0 → entry l .args .on ≡ true) → l .loop .count < length (entry l .args .numbers .now) / 5
-free e f = far-free (far (unstuck e)) (sym (e .before .stuck .ensures) ∙ e .if2 .left) f
+free e f = far-free (far (going e)) (e .before .halted .ensures) (omega (arith, e .if2 .left)) f
 
 free-drawn : (w : Waits) → let l = waits w in l .loop .count < length (entry l .args .numbers .now) / 5
-free-drawn w = let e : tie.Else2 Inv-loop μ-loop = search in free e (λ z. absurd (omega (arith, z, waits-some w)))
+free-drawn w = let e : Going = search in free e (λ z. absurd (omega (arith, z, waits-some w)))
 
 free-taken : (e : Idle) → let l = idles e in entry l .args .on ≡ true → l .loop .count < length (entry l .args .numbers .now) / 5
-free-taken e o = let n : tie.Else2 Inv-loop μ-loop = search in free n (λ z. o)
+free-taken e o = let n : Going = search in free n (λ z. o)
 
 -- ---- a draw
 
@@ -209,14 +285,9 @@ limited l = ap (λ (f : Frame). f .limits) (l .loop .inv .1)
 limits-fit : (l : Loop) → SmallRect (l .loop .frame .limits)
 limits-fit l = subst SmallRect (sym (limited l)) (limits-small (far l .valid .core .settings))
 
--- chords
-chords-some : (w : Waits) {o : Circle} {i n : ℕ} → waits w .loop .work ≡ Chords o i n → 0 < n
-unfolding waiting
-chords-some w e = subst (λ (w : Work). 0 < waiting w) e (waits-some w)
-
-abbrev chording : (w : Waits) {o : Circle} {i n : ℕ} → let l = waits w .loop in
-    l .work ≡ Chords o i n → Chording (l .numbers) (l .frame .rows) (l .frame .limits) (l .hand .pen .number) o i n (l .count)
-chording w {o} {i} {n} e =
+-- by a loop of its own
+abbrev batching : (w : Waits) → let l = waits w .loop in Batching (l .numbers) (l .frame) (l .hand .pen .number) (l .work) (l .count)
+batching w =
     let l = waits w in
     let s = entry l .args in
     record {
@@ -228,11 +299,10 @@ chording w {o} {i} {n} e =
       core = here l .core;
       store = l .loop .store;
       at = l .loop .at;
-      turned = rows l;
-      limited = limited l;
+      framed = l .loop .inv .1;
       held = refl;
-      some = chords-some w e;
-      far = subst (λ (w : Work). Goes l (All l) (l .loop .numbers) (whole (l .loop .reader) (here l .core) (l .loop .store) w) (l .loop .at) (l .loop .count)) e (far l);
+      some = waits-some w;
+      far = far l;
     }
 
 -- the edge that is read is the one that waits first
@@ -242,7 +312,7 @@ waited g =
     let p : tie.After-edge-place Inv-loop μ-loop = search in
     g .segment .ensures
     ∙ (λ i. segmentIn (l .loop .frame .rows) (getD (l .loop .store .edges) (p .edge-place .ensures i) noEdge) (l .loop .work) (l .loop .here) (l .loop .here))
-    ∙ alone-waits (here l) (l .loop .here) (rows l) (p .before .match .keys2)
+    ∙ alone-waits (here l) (l .loop .here) (rows l) (sym (p .before .before .batched .ensures) ∙ p .before .if4 .left)
 
 drew : (d : tie.After-drawn-of Inv-loop μ-loop) → d .drawn-of .result ≡ drawAnswer (here (waits (drawn d)))
 drew d =
@@ -280,18 +350,22 @@ acts-valid : (q : Read) {t : Acted} → t ≡ actOn (held q) (told q) → ValidA
 acts-valid q e = subst (ValidActed (held q)) (sym e) (valid-event (told q) (far (loop q) .valid .core) (event-valid q))
 
 -- a turn that leaves work which may wait
-less : (q : Read) (w : Work) → waiting w ≤ 720 →
+abbrev less-by : Read → Work → Type 0
+less-by q w =
     let l = loop q in
     let n = length (entry l .args .bytes .now) in
     (n - q .next .result .at) * 721 + waiting w < (n - l .loop .at) * 721 + waiting (l .loop .work)
+
+less : (q : Read) (w : Work) → waiting w ≤ 720 → less-by q w
 less q w h = let k = reached q in omega (arith, h, k .further, k .within, k .ends)
 
-none-less : (q : Read) →
-    let l = loop q in
-    let n = length (entry l .args .bytes .now) in
-    (n - q .next .result .at) * 721 + waiting Nothing < (n - l .loop .at) * 721 + waiting (l .loop .work)
+none-less : (q : Read) → less-by q Nothing
 unfolding waiting
 none-less q = less q Nothing (omega arith)
+
+-- the place of a byte is a number that a record holds
+place-small : (q : Read) → q .next .result .at < 2 ^ 63
+place-small q = let k = reached q in omega (arith, entry (loop q) .good .1 .0 .1, k .within, k .ends)
 
 -- nothing is drawn
 quiet : (q : Read) {h : Hand} {e : Event} → told q ≡ e →
@@ -303,23 +377,15 @@ quiet q {h} t acts =
     next-kept (reached q) (coreOf (l .settings) h (l .polygon)) (acts ∙ ap (actOn (held q)) (sym t)) (free-taken (q .before))
 
 -- a point of a polygon
-abbrev Pointed : Type 0
-Pointed = tie.After-point Inv-loop μ-loop
-
-abbrev pointing : Pointed → Read
-pointing p = search
-
-abbrev event-of : Pointed → tie.After-event2 Inv-loop μ-loop
-event-of p = search
-
 point-acts : (p : Pointed) → let q = pointing p in
     let l = loop q .loop in
     pointedOf (l .settings) (l .hand) (l .polygon) (p .point .result) ≡ actOn (held q) (told q)
 point-acts p =
     let q = pointing p in
+    let e : tie.After-event2 Inv-loop μ-loop = search in
     let l = loop q .loop in
-    pair-acts (l .settings) (l .hand) (l .polygon) _ (p .point .ensures .0 (l .settings) (l .polygon) (l .inv .1) (p .before .if5 .taken) refl)
-    ∙ ap (actOn (held q)) (sym (event-of p .event2 .given .1))
+    pair-acts (l .settings) (l .hand) (l .polygon) _ (p .point .ensures .0 (l .settings) (l .polygon) (l .inv .1) (p .before .if6 .taken) refl)
+    ∙ ap (actOn (held q)) (sym (e .event2 .given .1))
 
 point-refused : (p : Pointed) → (p .point .result .number ≡ 0 → ⊥) → let q = pointing p in
     let l = loop q .loop in
@@ -368,13 +434,7 @@ edge-fits p z e =
     omega (arith, h, k)
 
 -- a pair outside polygon mode
-abbrev Shift : Type 0
-Shift = tie.After-shift Inv-loop μ-loop
-
-abbrev shifts : Shift → Read
-shifts t = search
-
-shift-is : (t : Shift) → let q = shifts t in
+shift-is : (t : Shifted) → let q = shifts t in
     let l = loop q .loop in
     let r = t .shift .result in
     acting (l .settings) (r .hand) (l .polygon) (lineOf (r .segment)) (r .number) ≡ actOn (held q) (told q)
@@ -382,20 +442,21 @@ shift-is t =
     let q = shifts t in
     let l = loop q .loop in
     let e : tie.After-event2 Inv-loop μ-loop = search in
-    pair-acts (l .settings) (l .hand) (l .polygon) _ (t .shift .ensures .0 (l .settings) (l .polygon) (l .inv .1) (t .before .if5 .left))
+    pair-acts (l .settings) (l .hand) (l .polygon) _ (t .shift .ensures .0 (l .settings) (l .polygon) (l .inv .1) (t .before .if6 .left))
     ∙ ap (actOn (held q)) (sym (e .event2 .given .1))
 
-shift-acts : (t : Shift) → t .shift .result .number ≡ 0 → let q = shifts t in
+shift-acts : (m : Moved) → let t = m .before in
+    let q = shifts t in
     let l = loop q .loop in
     let r = t .shift .result in
     doing (coreOf (l .settings) (r .hand) (l .polygon)) (r .segment) ≡ actOn (held q) (told q)
-shift-acts t z =
+shift-acts m =
+    let t = m .before in
     let l = loop (shifts t) .loop in
     let r = t .shift .result in
-    ap (λ (n : ℕ). acting (l .settings) (r .hand) (l .polygon) (lineOf (r .segment)) n) (sym z) ∙ shift-is t
+    ap (λ (n : ℕ). acting (l .settings) (r .hand) (l .polygon) (lineOf (r .segment)) n) (sym (m .if9 .taken)) ∙ shift-is t
 
--- refused, it changes nothing
-shift-refused : (t : Shift) → (t .shift .result .number ≡ 0 → ⊥) → let q = shifts t in
+shift-refused : (t : Shifted) → (t .shift .result .number ≡ 0 → ⊥) → let q = shifts t in
     let l = loop q .loop in
     acting (l .settings) (l .hand) (l .polygon) Keep (t .shift .result .number) ≡ actOn (held q) (told q)
 unfolding refuse
@@ -403,200 +464,188 @@ shift-refused t f =
     let q = shifts t in
     let l = loop q .loop in
     let e : tie.After-event2 Inv-loop μ-loop = search in
-    let same = t .shift .ensures .0 (l .settings) (l .polygon) (l .inv .1) (t .before .if5 .left) in
+    let same = t .shift .ensures .0 (l .settings) (l .polygon) (l .inv .1) (t .before .if6 .left) in
     let number = ap (λ (x : Acted). x .number) same in
     pair-acts (l .settings) (l .hand) (l .polygon) _ (ap (refuse (held q)) number ∙ sym (pair-refused (held q) _ (λ z. f (number ∙ z))))
     ∙ ap (actOn (held q)) (sym (e .event2 .given .1))
 
--- what the event did to the core
-abbrev act : Done → Acted
-act j = acting (j .match2 .settings) (j .match2 .hand) (j .match2 .polygon) (j .match2 .action) (j .match2 .number)
+-- a record is free, where not all are used
+room-left : (f : Free) → let l = loop (shifts (unfilled f .before)) in l .loop .count < length (entry l .args .numbers .now) / 5
+room-left f = let l = loop (shifts (unfilled f .before)) in omega (arith, far l .room, f .if10 .left)
 
-record Did (j : Done) : Type 0 where
-  acts : act j ≡ actOn (held (read j)) (told (read j))
-  framed : j .match2 .frame ≡ frameOf (j .match2 .settings)
-  located : j .match2 .here ≡ locationIn (j .match2 .frame) (j .match2 .hand .position)
+-- its line waits where none is
+abbrev line-waits : Full → Work
+line-waits f = let t = full f .before in let l = loop (shifts t) .loop in queued (l .polygon .edges) (lineOf (t .shift .result .segment))
 
-by : (j : Done) {s : Settings} {f : Frame} {h : Hand} {p : Point} {g : Polygon} {a : Action} {n : ℕ} →
-    j .match2 .settings ≡ s → j .match2 .frame ≡ f → j .match2 .hand ≡ h → j .match2 .here ≡ p → j .match2 .polygon ≡ g → j .match2 .action ≡ a → j .match2 .number ≡ n →
-    f ≡ frameOf s → p ≡ locationIn f (h .position) → acting s h g a n ≡ actOn (held (read j)) (told (read j)) → Did j
-by j es ef eh ep eg ea en framed located acts = record {
-  acts = (λ i. acting (es i) (eh i) (eg i) (ea i) (en i)) ∙ acts;
-  framed = ef ∙ framed ∙ ap frameOf (sym es);
-  located = ep ∙ located ∙ (λ i. locationIn (sym ef i) (sym eh i .position));
-}
-
-done : (j : Done) → Did j
-done j =
-    let q = read j in
+stays : (f : Full) → let t = full f .before in
+    let q = shifts t in
+    let l = loop q in
+    Goes l (All l) (l .loop .numbers) (whole (q .next .result .reader) (coreOf (l .loop .settings) (t .shift .result .hand) (l .loop .polygon)) (l .loop .store) (line-waits f)) (q .next .result .at) (l .loop .count)
+stays f =
+    let t = full f .before in
+    let q = shifts t in
     let l = loop q .loop in
-    let s = l .settings in
-    let h = l .hand in
-    let g = l .polygon in
-    let framed = l .inv .1 in
-    let located = l .inv .2 in
-    (⊎-elim
-    (λ w. by j (w .5) (w .6) (w .7) (w .8) (w .9) (w .10) (w .11) framed located (unknown-acts s h g _ (w .3 .ensures) (w .4 .left) ∙ ap (actOn (held q)) (sym (w .1 .given .1))))
-    (⊎-elim
-    (λ w. let p : Pointed = record {
-      before = record { before = record { before = record { before = record { before = j .before; match2 = w .0 }; event2 = w .1 }; known-told3 = w .2 }; if5 = w .3 };
-      point = w .4;
-    } in
-    by j (w .6) (w .7) (w .8) (w .9) (w .10) (w .11) (w .12) framed located (point-refused p (w .5 .left)))
-    (⊎-elim
-    (λ w. let t : Shift = record {
-      before = record { before = record { before = record { before = record { before = j .before; match2 = w .0 }; event2 = w .1 }; known-told3 = w .2 }; if5 = w .3 };
-      shift = w .4;
-    } in
-    by j (w .10) (w .11) (w .12) (w .13) (w .14) (w .15 ∙ w .9 .ensures) (w .16) framed (w .4 .ensures .1) (shift-is t))
-    (⊎-elim
-    (λ w. let t : Shift = record {
-      before = record { before = record { before = record { before = record { before = j .before; match2 = w .0 }; event2 = w .1 }; known-told3 = w .2 }; if5 = w .3 };
-      shift = w .4;
-    } in
-    by j (w .6) (w .7) (w .8) (w .9) (w .10) (w .11) (w .12) framed located (shift-refused t (w .5 .left)))
-    (⊎-elim
-    (λ w. let t = w .6 .result in
-    by j (w .15) (w .16) (w .17) (w .18) (w .19) (w .20) (w .21) (w .11 .ensures)
-    (w .13 .ensures ∙ ap (λ (to : Hand). locationIn (w .11 .result) (to .position)) (sym (w .12 .ensures)))
-    (ap (λ (to : Hand). acting (t .core .settings) to (t .core .carriage .polygon) (t .action) (t .number)) (w .12 .ensures)
-    ∙ settled-acts s h g _ _ (w .5 .ensures) (w .6 .ensures) ∙ ap (actOn (held q)) (sym (w .1 .given .1))))
-    (λ w. by j (w .4) (w .5) (w .6) (w .7) (w .8) (w .9) (w .10) framed located (refused-acts s h g _ ∙ ap (actOn (held q)) (sym (w .1 .given .1)))))))))
-    (j .match2 .came)
+    next-waits (reached q) (coreOf (l .settings) (t .shift .result .hand) (l .polygon)) (t .shift .result .segment) (shift-acts (full f)) (free-taken (q .before))
 
-act-valid : (j : Done) → ValidActed (held (read j)) (act j)
-act-valid j = acts-valid (read j) (done j .acts)
+line-left : (k : tie.After-queued Inv-loop μ-loop) → let f : Full = search in k .queued .result ≡ line-waits f
+line-left k =
+    let f : Full = search in
+    let n : tie.After-line-of Inv-loop μ-loop = search in
+    let l = loop (shifts (full f .before)) .loop in
+    k .queued .ensures ∙ ap (queued (l .polygon .edges)) (n .line-of .ensures)
 
--- the store, whether it was changed or not, and the action, which was looked at
-record Keeps (k : Stored) : Type 0 where
-  action : k .match3 .action ≡ did k .match2 .action
-  edges : k .match3 .store .edges ≡ stored (loop (read (did k)) .loop .store .edges) (loop (read (did k)) .loop .polygon .edges) (did k .match2 .action)
+-- ---- an instruction that ends
 
-keeps : (k : Stored) → Keeps k
+abbrev did : Ruled → Acted
+did r = ended r .end-rule .result
+
+acts : (a : Ended) → a .end-rule .result ≡ actOn (held (ending a)) (told (ending a))
+acts a =
+    let q = ending a in
+    let e : tie.After-event3 Inv-loop μ-loop = search in
+    let l = loop q .loop in
+    settled-acts (l .settings) (l .hand) (l .polygon) _ _ (a .before .core-of2 .ensures) (a .end-rule .ensures) ∙ ap (actOn (held q)) (sym (e .event3 .given .1))
+
+act-valid : (a : Ended) → ValidActed (held (ending a)) (a .end-rule .result)
+act-valid a = acts-valid (ending a) (acts a)
+
+-- the parts of the core
+abbrev core-now : Ruled → Core
+core-now r = coreOf (did r .core .settings) (hand-now r .hand-of2 .result) (did r .core .carriage .polygon)
+
+core-is : (r : Ruled) → core-now r ≡ did r .core
+core-is r = ap (λ (h : Hand). coreOf (did r .core .settings) h (did r .core .carriage .polygon)) (hand-now r .hand-of2 .ensures)
+
+located-now : (r : Ruled) → r .before .located-in2 .result ≡ locationIn (hand-now r .before .frame-of2 .result) (hand-now r .hand-of2 .result .position)
+located-now r = r .before .located-in2 .ensures ∙ ap (λ (h : Hand). locationIn (hand-now r .before .frame-of2 .result) (h .position)) (sym (hand-now r .hand-of2 .ensures))
+
+-- a turn, with the edges and the work that the action leaves
+abbrev Edges : Ruled → Store → Type 0
+Edges r st = let l = loop (read r) .loop in st .edges ≡ stored (l .store .edges) (l .polygon .edges) (did r .action)
+
+abbrev Waiting : Ruled → Work → Type 0
+Waiting r w = w ≡ queued (did r .core .carriage .polygon .edges) (did r .action)
+
+turn : (r : Ruled) {x : Reader} {k : Core} {st : Store} {w : Work} → let q = read r in
+    x ≡ readerAfter (q .next .result .reader) (did r .number) → k ≡ did r .core → Edges r st → Waiting r w →
+    Turn (last q) (byte q) (q .next .result .reader telling told q) (did r) (whole x k st w)
+turn r e k s w = record { step = reached (read r) .step; act = acts (ended r); reader = e; core = k; edges = s; work = w }
+
+-- carried out
+taken : (c : Accepted) {st : Store} {w : Work} → let r = accepting c in
+    let q = read r in
+    let l = loop q in
+    Edges r st → Waiting r w → Goes l (All l) (l .loop .numbers) (whole (q .next .result .reader) (core-now r) st w) (q .next .result .at) (l .loop .count)
+taken c s w =
+    let r = accepting c in
+    let q = read r in
+    let z : did r .number ≡ 0 = omega (arith, c .if13 .left) in
+    next-turned (reached q) (turn r (reader-on (q .next .result .reader) z) (core-is r) s w) z (free-taken (q .before))
+
+taken-less : (c : Accepted) {st : Store} {w : Work} → let r = accepting c in Edges r st → Waiting r w → less-by (read r) w
+taken-less c {st} {w} e f = less (read (accepting c)) w (waits-most w (taken c {st = st} {w = w} e f .valid .work))
+
+-- refused: nothing is stored or queued
+refused : (c : Refused) → did (refusing c) .number ≡ 0 → ⊥
+refused c e = omega (arith, e, c .if13 .taken)
+
+kept : (c : Refused) → did (refusing c) .action ≡ Keep
+kept c =
+    let a = ended (refusing c) in
+    subst (λ (t : Acted). (t .number ≡ 0 → ⊥) → t .action ≡ Keep) (sym (acts a)) (λ f. pinned (held (ending a)) (told (ending a)) .refused f .0) (refused c)
+
+passed : (p : Passed) {k : Core} → let r = refusing (p .before) in
+    let q = read r in
+    k ≡ did r .core → Turn (last q) (byte q) (q .next .result .reader telling told q) (did r) (whole (p .passed-over .result) k (loop q .loop .store) Nothing)
+unfolding stored queued
+passed p e =
+    let c = p .before in
+    let r = refusing c in
+    let l = loop (read r) .loop in
+    turn r (p .passed-over .ensures ∙ reader-off _ (refused c)) e (ap (stored (l .store .edges) (l .polygon .edges)) (sym (kept c))) (ap (queued (did r .core .carriage .polygon .edges)) (sym (kept c)))
+
+-- an edge that is joined finds its place
+joins-edge : (a : tie.After-action Inv-loop μ-loop) → let r : Ruled = search in loop (read r) .loop .polygon .edges < mostEdges
+joins-edge a =
+    let r : Ruled = search in
+    subst (ValidAction (loop (read r) .loop .polygon .edges)) (a .action .given .1) (act-valid (ended r) .action) .1
+
+abbrev with-joined : tie.After-action Inv-loop μ-loop → Store
+with-joined a = let r : Ruled = search in let l = loop (read r) .loop in record { edges = set (l .store .edges) (l .polygon .edges) (a .action .given .0 .0) }
+
+joined-edges : (a : tie.After-action Inv-loop μ-loop) → let r : Ruled = search in Edges r (with-joined a)
 unfolding stored
-keeps k =
-    let l = loop (read (did k)) .loop in
-    let after = stored (l .store .edges) (l .polygon .edges) in
+joined-edges a = let r : Ruled = search in let l = loop (read r) .loop in ap (stored (l .store .edges) (l .polygon .edges)) (sym (a .action .given .1))
+
+joined-waits : (a : tie.After-action Inv-loop μ-loop) → let r : Ruled = search in Waiting r Nothing
+unfolding queued
+joined-waits a = let r : Ruled = search in ap (queued (did r .core .carriage .polygon .edges)) (sym (a .action .given .1))
+
+-- other actions leave the store
+same-edges : (h : Light) → let r : Ruled = search in Edges r (loop (read r) .loop .store)
+same-edges h =
+    let r : Ruled = search in
+    let c : Unjoined = search in
+    let l = loop (read r) .loop in
+    unstored (l .store .edges) (l .polygon .edges) (did r .action) (sym (h .before .heavy .ensures) ∙ h .if15 .left) (c .match2 .keys2)
+
+-- ---- a refusal of a name, a pair or a byte
+
+abbrev declined : Met → Acted
+declined j = let l = loop (met j) .loop in acting (l .settings) (l .hand) (l .polygon) Keep (j .match .number)
+
+record Declines (j : Met) : Type 0 where
+  does : declined j ≡ actOn (held (met j)) (told (met j))
+  some : j .match .number ≡ 0 → ⊥
+
+by : (j : Met) {n : ℕ} → let q = met j in
+    let l = loop q .loop in
+    j .match .number ≡ n → (n ≡ 0 → ⊥) → acting (l .settings) (l .hand) (l .polygon) Keep n ≡ actOn (held q) (told q) → Declines j
+by j e some does =
+    let l = loop (met j) .loop in
+    record { does = ap (λ (n : ℕ). acting (l .settings) (l .hand) (l .polygon) Keep n) e ∙ does; some = λ z. some (sym e ∙ z) }
+
+declines : (j : Met) → Declines j
+declines j =
+    let q = met j in
+    let l = loop q .loop in
     ⊎-elim
-    (λ w. record { action = w .3; edges = ap edges (w .2) ∙ ap after (sym (w .1 .given .1)) })
+    (λ (arm, event, known, name, left, same).
+    by j same (left .left) (unknown-acts (l .settings) (l .hand) (l .polygon) _ (name .ensures) (left .left) ∙ ap (actOn (held q)) (sym (event .given .1))))
     (⊎-elim
-    (λ w. record { action = w .3; edges = ap edges (w .2) ∙ ap after (sym (w .1 .given .1)) })
+    (λ (arm, event, known, mode, point, left, same).
+    let p : Pointed = record { before = record { before = record { before = record { before = record { before = j .before; match = arm }; event2 = event }; known-told2 = known }; if6 = mode }; point = point } in
+    by j same (left .left) (point-refused p (left .left)))
     (⊎-elim
-    (λ w. record { action = w .3; edges = ap edges (w .2) ∙ ap after (sym (w .1 .given .1)) })
-    (⊎-elim
-    (λ w. record { action = w .4 ∙ sym (w .1 .given .1); edges = ap edges (w .3) ∙ ap after (sym (w .1 .given .1)) })
-    (⊎-elim
-    (λ w. record { action = w .3; edges = ap edges (w .2) ∙ ap after (sym (w .1 .given .1)) })
-    (λ w. record { action = w .4; edges = ap edges (w .3) ∙ w .2 .ensures })))))
-    (k .match3 .came)
-  where
-    edges : Store → List Edge
-    edges x = x .edges
+    (λ (arm, event, known, mode, shift, left, same).
+    let t : Shifted = record { before = record { before = record { before = record { before = record { before = j .before; match = arm }; event2 = event }; known-told2 = known }; if6 = mode }; shift = shift } in
+    by j same (left .left) (shift-refused t (left .left)))
+    (λ (arm, event, known, same).
+    by j same (refusal-some (reached q) (event .given .1)) (refused-acts (l .settings) (l .hand) (l .polygon) _ ∙ ap (actOn (held q)) (sym (event .given .1))))))
+    (j .match .came)
 
--- the next machine, with this reader
-abbrev next : Queued → Reader → State
-next r x = let j = did (kept r) .match2 in whole x (coreOf (j .settings) (j .hand) (j .polygon)) (kept r .match3 .store) (r .queued .result)
-
-turn : (r : Queued) {x : Reader} → let j = did (kept r) in
-    let q = read j in
-    x ≡ readerAfter (q .next .result .reader) (j .match2 .number) → Turn (last q) (byte q) (q .next .result .reader telling told q) (act j) (next r x)
-turn r e =
-    let k = kept r in
-    let j = did k in
+declining : (p : Declined) {k : Core} → let j = p .before in
+    let q = met j in
+    k ≡ held q → Turn (last q) (byte q) (q .next .result .reader telling told q) (declined j) (whole (p .passed-over2 .result) k (loop q .loop .store) Nothing)
+unfolding stored queued
+declining p e =
+    let j = p .before in
     record {
-      step = reached (read j) .step;
-      act = done j .acts;
-      reader = e;
-      core = refl;
-      edges = keeps k .edges;
-      work = r .queued .ensures ∙ ap (λ (a : Action). queued (j .match2 .polygon .edges) a) (keeps k .action);
+      step = reached (met j) .step;
+      act = declines j .does;
+      reader = p .passed-over2 .ensures ∙ reader-off _ (declines j .some);
+      core = e;
+      edges = refl;
+      work = refl;
     }
 
-next-valid : (r : Queued) → let j = did (kept r) in Valid (next r (readerAfter (read j .next .result .reader) (j .match2 .number)))
-next-valid r = let k = reached (read (did (kept r))) in turn-valid _ _ _ _ _ (turn r refl) (k .idle) (k .far .valid)
-
-turn-less : (r : Queued) → let q = read (did (kept r)) in
-    let l = loop q in
-    let n = length (entry l .args .bytes .now) in
-    (n - q .next .result .at) * 721 + waiting (r .queued .result) < (n - l .loop .at) * 721 + waiting (l .loop .work)
-turn-less r = less (read (did (kept r))) (r .queued .result) (waits-most (r .queued .result) (next-valid r .work))
-
--- a byte that is not refused
-turned : (c : tie.Else13 Inv-loop μ-loop) → let r = c .before in
-    let q = read (did (kept r)) in
-    let l = loop q in
-    Goes l (All l) (l .loop .numbers) (next r (q .next .result .reader)) (q .next .result .at) (l .loop .count)
-turned c =
-    let r = c .before in
-    let j = did (kept r) in
-    let q = read j in
-    let z : j .match2 .number ≡ 0 = omega (arith, c .if13 .left) in
-    next-turned (reached q) (turn r (reader-on (q .next .result .reader) z)) z (free-taken (q .before))
-
--- a byte that is refused
-refused : (p : Passed) → did (kept (turning p)) .match2 .number ≡ 0 → ⊥
-refused p e = omega (arith, e, p .before .if13 .taken)
-
-passed : (p : Passed) → let j = did (kept (turning p)) in p .passed-over2 .result ≡ readerAfter (read j .next .result .reader) (j .match2 .number)
-passed p = p .passed-over2 .ensures ∙ reader-off _ (refused p)
-
--- and stored
-abbrev putting : tie.After-put-record2 Inv-loop μ-loop → Passed
-putting c = search
-
-stored-on : (c : tie.After-put-record2 Inv-loop μ-loop) → let p = putting c in
-    let r = turning p in
-    let q = read (did (kept r)) in
-    let l = loop q in
-    Goes l (All l) (c .put-record2 .last .0) (next r (p .passed-over2 .result)) (q .next .result .at) (c .put-record2 .result)
-stored-on c =
-    let p = putting c in
-    let t : tie.Then14 Inv-loop μ-loop = search in
-    let k : tie.After-refusal-record2 Inv-loop μ-loop = search in
-    let r = turning p in
-    let j = did (kept r) in
-    let q = read j in
-    let l = loop q in
-    let n = j .match2 .number in
-    let m = reached q in
-    let e = k .refusal-record2 .ensures ∙ ap (λ (t : ℕ). recordOf (refusal n t)) (m .ends) in
-    subst (λ (t : ℕ). Goes l (All l) (c .put-record2 .last .0) (next r (p .passed-over2 .result)) t (c .put-record2 .result)) (sym (m .ends))
-    (far-refusal (m .far) (turn r (passed p)) (m .idle) (m .within) (refused p) (t .if14 .taken) (free-taken (q .before) (t .if14 .taken))
-    (c .put-record2 .ensures .1 ∙ ap (λ (x : Stroke). withStroke x (l .loop .count * 5) (l .loop .numbers)) e) (c .put-record2 .ensures .0))
-
--- what an instruction that ends does
-abbrev ending : tie.After-end-rule Inv-loop μ-loop → Read
-ending t = search
-
-settled-is : (t : tie.After-end-rule Inv-loop μ-loop) → t .end-rule .result ≡ actOn (held (ending t)) (told (ending t))
-settled-is t =
-    let q = ending t in
-    let n : tie.After-event3 Inv-loop μ-loop = search in
-    let l = loop q .loop in
-    settled-acts (l .settings) (l .hand) (l .polygon) _ _ (t .before .core-of2 .ensures) (t .end-rule .ensures) ∙ ap (actOn (held q)) (sym (n .event3 .given .1))
-
-settled : (t : tie.After-end-rule Inv-loop μ-loop) → ValidActed (held (ending t)) (t .end-rule .result)
-settled t = acts-valid (ending t) (settled-is t)
-
 -- ---- the needs
-
--- there is a place for an edge that is joined
-joined : (a : tie.After-action Inv-loop μ-loop) → loop (read (a .before .before)) .loop .polygon .edges < mostEdges
-joined a =
-    let j = a .before .before in
-    subst (ValidAction (loop (read j) .loop .polygon .edges)) (a .action .given .1) (act-valid j .action) .1
 
 sines-long : (h : tie.After-hand-of Inv-loop μ-loop) → 901 ≡ length (laid h .table .result)
 sines-long h = sym (ap length (laid h .table .ensures) ∙ entries)
 
-table-requires : tie.Need-table-requires Inv-loop μ-loop
-table-requires c κs = search needs
-
 frame-of-requires : tie.Need-frame-of-requires Inv-loop μ-loop
 frame-of-requires c κs = let s : tie.Start Inv-loop μ-loop = search in s .pre .core .settings
-
-hand-of-requires : tie.Need-hand-of-requires Inv-loop μ-loop
-hand-of-requires c κs = search needs
 
 located-in-requires : tie.Need-located-in-requires Inv-loop μ-loop
 located-in-requires c κs =
@@ -620,18 +669,6 @@ loop-holds c =
       p .located-in .ensures ∙ ap (λ (k : Hand). locationIn (f .frame-of .result) (k .position)) (sym (h .hand-of .ensures)),
     )
 
-remains-requires : tie.Need-remains-requires Inv-loop μ-loop
-remains-requires c κs = search needs
-
-stuck-requires : tie.Need-stuck-requires Inv-loop μ-loop
-stuck-requires c κs = search needs
-
-core-of-requires : tie.Need-core-of-requires Inv-loop μ-loop
-core-of-requires c κs = search needs
-
-gathered-requires : tie.Need-gathered-requires Inv-loop μ-loop
-gathered-requires c κs = search needs
-
 same-length : tie.Need-same-length Inv-loop μ-loop
 same-length c = let l : Loop = search in far l .long
 
@@ -641,44 +678,29 @@ returns c =
     let o : tie.Then1 Inv-loop μ-loop = search in
     let t : tie.Then2 Inv-loop μ-loop = search in
     let p : tie.After-core-of Inv-loop μ-loop = search in
-    let f = far-full (far l) (sym (o .before .remains .ensures) ∙ o .if1 .taken) (sym (t .before .stuck .ensures) ∙ t .if2 .taken) in
-    let e = ap (λ (k : Core). stoppedAs (whole (l .loop .reader) k (l .loop .store) (l .loop .work)) (l .loop .at) (l .loop .count) listFull) (p .core-of .ensures) in
+    let f = far-halted (far l) (sym (o .before .remains .ensures) ∙ o .if1 .taken) (t .before .halted .ensures) (omega (arith, t .if2 .taken)) in
+    let e = ap (λ (k : Core). stoppedAs (whole (l .loop .reader) k (l .loop .store) (l .loop .work)) (l .loop .at) (l .loop .count) (t .before .halted .result)) (p .core-of .ensures) in
     (c .gathered .ensures ∙ e ∙ f .0, f .1)
 
-waiting-requires : tie.Need-waiting-requires Inv-loop μ-loop
-waiting-requires c κs = search needs
+slice-aggregate-batch : tie.Need-slice-aggregate-batch Inv-loop μ-loop
+slice-aggregate-batch c = let w : Waits = search in sines-long (handed (waits w .before))
 
-enum-known-work : tie.Need-enum-known-work Inv-loop μ-loop
-enum-known-work c = search needs
-
-slice-aggregate-chords : tie.Need-slice-aggregate-chords Inv-loop μ-loop
-slice-aggregate-chords c = let w : Waits = search in sines-long (handed (waits w .before))
-
-chords-requires : tie.Need-chords-requires Inv-loop μ-loop
-chords-requires c κs =
+batch-requires : tie.Need-batch-requires Inv-loop μ-loop
+batch-requires c κs =
     let w : Waits = search in
-    let k : tie.After-work Inv-loop μ-loop = search in
+    let b : Batched = search in
     let l = waits w in
-    (chording w (k .work .given .1), omega (arith, free-drawn w, ap (λ (n : ℕ). n / 5) (far l .long)), laid (handed (l .before)) .table .ensures)
+    (batching w, omega (arith, free-drawn w, ap (λ (n : ℕ). n / 5) (far l .long)), laid (handed (l .before)) .table .ensures, sym (b .before .batched .ensures) ∙ b .if4 .taken)
 
 loop-less : tie.Need-loop-less Inv-loop μ-loop
-unfolding waiting
-loop-less c =
-    let w : Waits = search in
-    let k : tie.After-work Inv-loop μ-loop = search in
-    let d : tie.After-chords Inv-loop μ-loop = search in
-    omega (arith, d .chords .ensures .0, ap waiting (k .work .given .1))
+loop-less c = let d : tie.After-batch Inv-loop μ-loop = search in omega (arith, d .batch .ensures .0)
 
 loop-again : tie.Need-loop-again Inv-loop μ-loop
 loop-again c =
     let w : Waits = search in
-    let k : tie.After-work Inv-loop μ-loop = search in
-    let d : tie.After-chords Inv-loop μ-loop = search in
+    let d : tie.After-batch Inv-loop μ-loop = search in
     let l = waits w in
-    (again l (d .chords .ensures .1 (chording w (k .work .given .1))), l .loop .inv .1, l .loop .inv .2)
-
-edge-place-requires : tie.Need-edge-place-requires Inv-loop μ-loop
-edge-place-requires c κs = search needs
+    (again l (d .batch .ensures .1 (batching w)), l .loop .inv .1, l .loop .inv .2)
 
 mul-e : tie.Need-mul-e Inv-loop μ-loop
 mul-e c =
@@ -718,33 +740,12 @@ loop-again-2 c =
     let l = waits w in
     (again l (far-draw (far l) (waits-some w) (free-drawn w) (drew d) (u .put .ensures .1) (u .put .ensures .0) (c .work-after .ensures)), l .loop .inv .1, l .loop .inv .2)
 
-next-requires : tie.Need-next-requires Inv-loop μ-loop
-next-requires c κs = search needs
-
-enum-told : tie.Need-enum-told Inv-loop μ-loop
-enum-told c = search needs
-
-loop-less-3 : tie.Need-loop-less-3 Inv-loop μ-loop
-loop-less-3 c = let q : Read = search in none-less q
-
 loop-again-3 : tie.Need-loop-again-3 Inv-loop μ-loop
 unfolding lineOf
 loop-again-3 c =
     let q : Read = search in
     let l = loop q in
     (again l (quiet q (c .enum-told .given .1) (none-acts (l .loop .settings) (l .loop .hand) (l .loop .polygon))), l .loop .inv .1, l .loop .inv .2)
-
-enum-known-event : tie.Need-enum-known-event Inv-loop μ-loop
-enum-known-event c = search needs
-
-name-number-requires : tie.Need-name-number-requires Inv-loop μ-loop
-name-number-requires c κs = search needs
-
-letters-requires : tie.Need-letters-requires Inv-loop μ-loop
-letters-requires c κs = search needs
-
-loop-less-4 : tie.Need-loop-less-4 Inv-loop μ-loop
-loop-less-4 c = let q : Read = search in none-less q
 
 loop-again-4 : tie.Need-loop-again-4 Inv-loop μ-loop
 unfolding lineOf
@@ -756,14 +757,11 @@ loop-again-4 c =
     let h = l .loop .hand in
     let g = l .loop .polygon in
     let same = ap (λ (k : Carriage). k .position) (c .letters .ensures g) ∙ letters-position (carriageOf h g) _ in
-    let z = c .before .if4 .taken in (
+    let z = c .before .if5 .taken in (
       again l (quiet q (e .event .given .1) (ap (λ (k : ℕ). acting (l .loop .settings) (c .letters .result) g Keep k) (sym z) ∙ named-acts (l .loop .settings) h g _ (n .name-number .ensures) (c .letters .result) z (c .letters .ensures g))),
       l .loop .inv .1,
       l .loop .inv .2 ∙ ap (locationIn (l .loop .frame)) (sym same),
     )
-
-enum-known-event-2 : tie.Need-enum-known-event-2 Inv-loop μ-loop
-enum-known-event-2 c = search needs
 
 point-requires : tie.Need-point-requires Inv-loop μ-loop
 point-requires c κs =
@@ -778,20 +776,17 @@ point-requires c κs =
     )
 
 longer-requires : tie.Need-longer-requires Inv-loop μ-loop
-longer-requires c κs = let p : Pointed = search in let z : tie.Then6 Inv-loop μ-loop = search in longer-fits p (first p (z .if6 .taken) (c .if7 .taken))
-
-loop-less-5 : tie.Need-loop-less-5 Inv-loop μ-loop
-loop-less-5 c = let q : Read = search in none-less q
+longer-requires c κs = let p : Pointed = search in let z : Stored = search in longer-fits p (first p (z .if7 .taken) (c .if8 .taken))
 
 loop-again-5 : tie.Need-loop-again-5 Inv-loop μ-loop
 loop-again-5 c =
     let p : Pointed = search in
-    let z : tie.Then6 Inv-loop μ-loop = search in
+    let z : Stored = search in
     let q = pointing p in
     let l = loop q in
     let t = p .point .result in (
       again l
-          (subst (λ (g : Polygon). Goes l (All l) (l .loop .numbers) (whole (q .next .result .reader) (coreOf (l .loop .settings) (t .hand) g) (l .loop .store) Nothing) (q .next .result .at) (l .loop .count)) (sym (c .longer .ensures)) (first p (z .if6 .taken) (c .before .if7 .taken))),
+          (subst (λ (g : Polygon). Goes l (All l) (l .loop .numbers) (whole (q .next .result .reader) (coreOf (l .loop .settings) (t .hand) g) (l .loop .store) Nothing) (q .next .result .at) (l .loop .count)) (sym (c .longer .ensures)) (first p (z .if7 .taken) (c .before .if8 .taken))),
       l .loop .inv .1,
       p .point .ensures .1,
     )
@@ -802,37 +797,34 @@ cast-k c = let p : Pointed = search in omega (arith, far (loop (pointing p)) .va
 mul-e-2 : tie.Need-mul-e-2 Inv-loop μ-loop
 mul-e-2 c =
     let p : Pointed = search in
-    let z : tie.Then6 Inv-loop μ-loop = search in
-    let n : tie.Else7 Inv-loop μ-loop = search in
-    record { fits = omega (arith, edge-fits p (z .if6 .taken) (n .if7 .left)) }
+    let z : Stored = search in
+    let n : Joined = search in
+    record { fits = omega (arith, edge-fits p (z .if7 .taken) (n .if8 .left)) }
 
 element-set-from-e : tie.Need-element-set-from-e Inv-loop μ-loop
 element-set-from-e c =
     let p : Pointed = search in
-    let z : tie.Then6 Inv-loop μ-loop = search in
-    let n : tie.Else7 Inv-loop μ-loop = search in
-    omega (arith, edge-fits p (z .if6 .taken) (n .if7 .left))
+    let z : Stored = search in
+    let n : Joined = search in
+    omega (arith, edge-fits p (z .if7 .taken) (n .if8 .left))
 
 longer-requires-2 : tie.Need-longer-requires-2 Inv-loop μ-loop
 longer-requires-2 c κs =
     let p : Pointed = search in
-    let z : tie.Then6 Inv-loop μ-loop = search in
-    let n : tie.Else7 Inv-loop μ-loop = search in
-    longer-fits p (joins p (z .if6 .taken) (n .if7 .left) (with-edge p) refl)
-
-loop-less-6 : tie.Need-loop-less-6 Inv-loop μ-loop
-loop-less-6 c = let q : Read = search in none-less q
+    let z : Stored = search in
+    let n : Joined = search in
+    longer-fits p (joins p (z .if7 .taken) (n .if8 .left) (with-edge p) refl)
 
 loop-again-6 : tie.Need-loop-again-6 Inv-loop μ-loop
 loop-again-6 c =
     let p : Pointed = search in
-    let z : tie.Then6 Inv-loop μ-loop = search in
-    let n : tie.Else7 Inv-loop μ-loop = search in
+    let z : Stored = search in
+    let n : Joined = search in
     let q = pointing p in
     let l = loop q in
     let t = p .point .result in (
       again l
-          (subst (λ (g : Polygon). Goes l (All l) (l .loop .numbers) (whole (q .next .result .reader) (coreOf (l .loop .settings) (t .hand) g) (with-edge p) Nothing) (q .next .result .at) (l .loop .count)) (sym (c .longer2 .ensures)) (joins p (z .if6 .taken) (n .if7 .left) (with-edge p) refl)),
+          (subst (λ (g : Polygon). Goes l (All l) (l .loop .numbers) (whole (q .next .result .reader) (coreOf (l .loop .settings) (t .hand) g) (with-edge p) Nothing) (q .next .result .at) (l .loop .count)) (sym (c .longer2 .ensures)) (joins p (z .if7 .taken) (n .if8 .left) (with-edge p) refl)),
       l .loop .inv .1,
       p .point .ensures .1,
     )
@@ -847,79 +839,85 @@ shift-requires c κs =
       l .loop .inv .2,
     )
 
-drawn-of-requires-2 : tie.Need-drawn-of-requires-2 Inv-loop μ-loop
-drawn-of-requires-2 c κs =
-    let t : Shift = search in
-    let z : tie.Then8 Inv-loop μ-loop = search in
+queued-requires : tie.Need-queued-requires Inv-loop μ-loop
+queued-requires c κs =
+    let f : Full = search in
+    let t = full f .before in
     let q = shifts t in
-    let l = loop q in
-    (limits-fit l, next-small (reached q) (coreOf (l .loop .settings) (t .shift .result .hand) (l .loop .polygon)) (t .shift .result .segment) (shift-acts t (z .if8 .taken)))
-
-put-requires-2 : tie.Need-put-requires-2 Inv-loop μ-loop
-put-requires-2 c κs =
-    let t : Shift = search in
-    let n : tie.Then9 Inv-loop μ-loop = search in
-    far-fits (far (loop (shifts t))) (n .if9 .taken)
+    let l = loop q .loop in
+    rw (c .line-of .ensures) (action-alone (l .polygon .edges) (lineOf (t .shift .result .segment)) (acts-valid q (shift-acts (full f)) .action))
 
 loop-less-7 : tie.Need-loop-less-7 Inv-loop μ-loop
-loop-less-7 c = let q : Read = search in none-less q
+loop-less-7 c =
+    let f : Full = search in
+    let k : tie.After-queued Inv-loop μ-loop = search in
+    subst (λ (w : Work). less-by (shifts (full f .before)) w) (sym (line-left k)) (less (shifts (full f .before)) (line-waits f) (waits-most (line-waits f) (stays f .valid .work)))
 
 loop-again-7 : tie.Need-loop-again-7 Inv-loop μ-loop
 loop-again-7 c =
-    let t : Shift = search in
-    let z : tie.Then8 Inv-loop μ-loop = search in
-    let n : tie.Then9 Inv-loop μ-loop = search in
+    let f : Full = search in
+    let k : tie.After-queued Inv-loop μ-loop = search in
+    let t = full f .before in
+    let q = shifts t in
+    let l = loop q in (
+      again l
+          (subst (λ (w : Work). Goes l (All l) (l .loop .numbers) (whole (q .next .result .reader) (coreOf (l .loop .settings) (t .shift .result .hand) (l .loop .polygon)) (l .loop .store) w) (q .next .result .at) (l .loop .count)) (sym (line-left k)) (stays f)),
+      l .loop .inv .1,
+      t .shift .ensures .1,
+    )
+
+drawn-of-requires-2 : tie.Need-drawn-of-requires-2 Inv-loop μ-loop
+drawn-of-requires-2 c κs =
+    let m : Moved = search in
+    let t = m .before in
+    let q = shifts t in
+    let l = loop q in
+    (limits-fit l, next-small (reached q) (coreOf (l .loop .settings) (t .shift .result .hand) (l .loop .polygon)) (t .shift .result .segment) (shift-acts m))
+
+put-requires-2 : tie.Need-put-requires-2 Inv-loop μ-loop
+put-requires-2 c κs = let f : Free = search in far-fits (far (loop (shifts (unfilled f .before)))) (room-left f)
+
+loop-again-8 : tie.Need-loop-again-8 Inv-loop μ-loop
+loop-again-8 c =
+    let f : Free = search in
     let d : tie.After-drawn-of2 Inv-loop μ-loop = search in
     let u : tie.After-put2 Inv-loop μ-loop = search in
+    let m = unfilled f in
+    let t = m .before in
     let q = shifts t in
     let l = loop q in
     let r = t .shift .result in (
       again l
-          (next-drawn (reached q) (coreOf (l .loop .settings) (r .hand) (l .loop .polygon)) (n .if9 .taken) (r .segment) (shift-acts t (z .if8 .taken))
+          (next-drawn (reached q) (coreOf (l .loop .settings) (r .hand) (l .loop .polygon)) (room-left f) (r .segment) (shift-acts m)
           (d .drawn-of2 .ensures ∙ ap (λ (b : Rect). drawnOf b (r .hand .pen .number) (r .segment)) (limited l)) (u .put2 .ensures .1) (u .put2 .ensures .0)),
       l .loop .inv .1,
       t .shift .ensures .1,
     )
 
-line-of-requires : tie.Need-line-of-requires Inv-loop μ-loop
-line-of-requires c κs = search needs
-
-enum-known-event-3 : tie.Need-enum-known-event-3 Inv-loop μ-loop
-enum-known-event-3 c = search needs
-
-loop-less-8 : tie.Need-loop-less-8 Inv-loop μ-loop
-loop-less-8 c = let q : Read = search in none-less q
-
-loop-again-8 : tie.Need-loop-again-8 Inv-loop μ-loop
-unfolding lineOf
-loop-again-8 c =
-    let q : Read = search in
-    let e : tie.After-event3 Inv-loop μ-loop = search in
-    let l = loop q in
-    (again l (quiet q (e .event3 .given .1) (ended-acts (l .loop .settings) (l .loop .hand) (l .loop .polygon) _ _ (c .if10 .taken))), l .loop .inv .1, l .loop .inv .2)
-
-outline-requires : tie.Need-outline-requires Inv-loop μ-loop
-outline-requires c κs = search needs
-
-loop-less-9 : tie.Need-loop-less-9 Inv-loop μ-loop
-loop-less-9 c =
-    let q : Read = search in
-    let e : tie.After-event3 Inv-loop μ-loop = search in
-    let n : tie.Then11 Inv-loop μ-loop = search in
-    let l = loop q in
-    let f = next-outline (reached q) (e .event3 .given .1) (n .if11 .taken) (c .outline .ensures) (free-taken (q .before)) in
-    less q (c .outline .result) (waits-most (c .outline .result) (f .valid .work))
-
 loop-again-9 : tie.Need-loop-again-9 Inv-loop μ-loop
+unfolding lineOf
 loop-again-9 c =
     let q : Read = search in
     let e : tie.After-event3 Inv-loop μ-loop = search in
-    let n : tie.Then11 Inv-loop μ-loop = search in
     let l = loop q in
-    (again l (next-outline (reached q) (e .event3 .given .1) (n .if11 .taken) (c .outline .ensures) (free-taken (q .before))), l .loop .inv .1, l .loop .inv .2)
+    (again l (quiet q (e .event3 .given .1) (ended-acts (l .loop .settings) (l .loop .hand) (l .loop .polygon) _ _ (sym (c .before .takes-pairs .ensures) ∙ c .if11 .taken))), l .loop .inv .1, l .loop .inv .2)
 
-core-of-requires-2 : tie.Need-core-of-requires-2 Inv-loop μ-loop
-core-of-requires-2 c κs = search needs
+loop-less-10 : tie.Need-loop-less-10 Inv-loop μ-loop
+loop-less-10 c =
+    let q : Read = search in
+    let e : tie.After-event3 Inv-loop μ-loop = search in
+    let n : Outlined = search in
+    let l = loop q in
+    let f = next-outline (reached q) (e .event3 .given .1) (n .if12 .taken) (c .outline .ensures) (free-taken (q .before)) in
+    less q (c .outline .result) (waits-most (c .outline .result) (f .valid .work))
+
+loop-again-10 : tie.Need-loop-again-10 Inv-loop μ-loop
+loop-again-10 c =
+    let q : Read = search in
+    let e : tie.After-event3 Inv-loop μ-loop = search in
+    let n : Outlined = search in
+    let l = loop q in
+    (again l (next-outline (reached q) (e .event3 .given .1) (n .if12 .taken) (c .outline .ensures) (free-taken (q .before))), l .loop .inv .1, l .loop .inv .2)
 
 end-rule-requires : tie.Need-end-rule-requires Inv-loop μ-loop
 end-rule-requires c κs =
@@ -928,164 +926,154 @@ end-rule-requires c κs =
     rw (c .core-of2 .ensures) (far (loop q) .valid .core, subst (ValidEvent (held q)) (e .event3 .given .1) (event-valid q) .0 .numbers)
 
 frame-of-requires-2 : tie.Need-frame-of-requires-2 Inv-loop μ-loop
-frame-of-requires-2 c κs = let t : tie.After-end-rule Inv-loop μ-loop = search in settled t .core .settings
-
-hand-of-requires-2 : tie.Need-hand-of-requires-2 Inv-loop μ-loop
-hand-of-requires-2 c κs = search needs
+frame-of-requires-2 c κs = let a : Ended = search in act-valid a .core .settings
 
 located-in-requires-2 : tie.Need-located-in-requires-2 Inv-loop μ-loop
 located-in-requires-2 c κs =
-    let t : tie.After-end-rule Inv-loop μ-loop = search in
+    let a : Ended = search in
     let f : tie.After-frame-of2 Inv-loop μ-loop = search in
-    let k = t .end-rule .result .core in
-    hand-locatable {h = handOf (k .carriage)} {g = k .carriage .polygon} (record { settings = k .settings; frame = f .frame-of2 .ensures; core = settled t .core })
-
-enum-known-event-4 : tie.Need-enum-known-event-4 Inv-loop μ-loop
-enum-known-event-4 c = search needs
-
-passed-over-requires : tie.Need-passed-over-requires Inv-loop μ-loop
-passed-over-requires c κs = search needs
+    let k = a .end-rule .result .core in
+    hand-locatable {h = handOf (k .carriage)} {g = k .carriage .polygon} (record { settings = k .settings; frame = f .frame-of2 .ensures; core = act-valid a .core })
 
 refusal-record-requires : tie.Need-refusal-record-requires Inv-loop μ-loop
-refusal-record-requires c κs =
-    let q : Read = search in
-    let k = reached q in
-    let g = entry (loop q) .good .1 .0 .1 in
-    omega (arith, g, k .within, k .ends)
+refusal-record-requires c κs = let r : Ruled = search in place-small (read r)
 
 put-record-requires : tie.Need-put-record-requires Inv-loop μ-loop
 put-record-requires c κs =
-    let q : Read = search in
-    let t : tie.Then12 Inv-loop μ-loop = search in
-    far-fits (far (loop q)) (free-taken (q .before) (t .if12 .taken))
-
-loop-less-10 : tie.Need-loop-less-10 Inv-loop μ-loop
-loop-less-10 c = let q : Read = search in none-less q
-
-loop-again-10 : tie.Need-loop-again-10 Inv-loop μ-loop
-loop-again-10 c =
-    let q : Read = search in
-    let e : tie.After-event4 Inv-loop μ-loop = search in
-    let t : tie.Then12 Inv-loop μ-loop = search in
-    let p : tie.After-passed-over Inv-loop μ-loop = search in
-    let x : tie.After-refusal-record Inv-loop μ-loop = search in
-    let u : tie.After-put-record Inv-loop μ-loop = search in
-    let l = loop q in (
-      again l
-          (next-refusal (reached q) (e .event4 .given .1) (t .if12 .taken) (free-taken (q .before) (t .if12 .taken)) (x .refusal-record .ensures) (u .put-record .ensures .1) (u .put-record .ensures .0)
-          (p .passed-over .ensures)),
-      l .loop .inv .1,
-      l .loop .inv .2,
-    )
-
-enum-told-2 : tie.Need-enum-told-2 Inv-loop μ-loop
-enum-told-2 c = search needs
-
-enum-told-3 : tie.Need-enum-told-3 Inv-loop μ-loop
-enum-told-3 c = search needs
-
-enum-told-4 : tie.Need-enum-told-4 Inv-loop μ-loop
-enum-told-4 c = search needs
-
-enum-known-action : tie.Need-enum-known-action Inv-loop μ-loop
-enum-known-action c = search needs
-
-cast-k-2 : tie.Need-cast-k-2 Inv-loop μ-loop
-cast-k-2 c = let j : Done = search in omega (arith, far (loop (read j)) .valid .core .polygon .edges)
-
-mul-e-3 : tie.Need-mul-e-3 Inv-loop μ-loop
-mul-e-3 c = record { fits = omega (arith, joined (c .before)) }
-
-element-set-from-e-2 : tie.Need-element-set-from-e-2 Inv-loop μ-loop
-element-set-from-e-2 c = omega (arith, joined (c .before))
-
-enum-told-5 : tie.Need-enum-told-5 Inv-loop μ-loop
-enum-told-5 c = search needs
-
-enum-told-6 : tie.Need-enum-told-6 Inv-loop μ-loop
-enum-told-6 c = search needs
-
-stored-requires : tie.Need-stored-requires Inv-loop μ-loop
-stored-requires c κs = let j : Done = search in act-valid j .action
-
-queued-requires : tie.Need-queued-requires Inv-loop μ-loop
-queued-requires c κs = rw (keeps c .action) (action-alone (loop (read (did c)) .loop .polygon .edges) (did c .match2 .action) (act-valid (did c) .action))
-
-passed-over-requires-2 : tie.Need-passed-over-requires-2 Inv-loop μ-loop
-passed-over-requires-2 c κs = search needs
-
-refusal-record-requires-2 : tie.Need-refusal-record-requires-2 Inv-loop μ-loop
-refusal-record-requires-2 c κs =
     let t : tie.Then14 Inv-loop μ-loop = search in
-    let q = read (did (kept (turning (t .before)))) in
-    let g = entry (loop q) .good .1 .0 .1 in
-    omega (arith, g, reached q .within, reached q .ends)
-
-put-record-requires-2 : tie.Need-put-record-requires-2 Inv-loop μ-loop
-put-record-requires-2 c κs =
-    let t : tie.Then14 Inv-loop μ-loop = search in
-    let q = read (did (kept (turning (t .before)))) in
+    let q = read (refusing (t .before .before)) in
     far-fits (far (loop q)) (free-taken (q .before) (t .if14 .taken))
 
 loop-less-11 : tie.Need-loop-less-11 Inv-loop μ-loop
-loop-less-11 c = turn-less (turning (putting (c .before)))
+loop-less-11 c = let r : Ruled = search in none-less (read r)
 
 loop-again-11 : tie.Need-loop-again-11 Inv-loop μ-loop
 loop-again-11 c =
-    let j = did (kept (turning (putting (c .before)))) in
-    (again (loop (read j)) (stored-on (c .before)), done j .framed, done j .located)
-
-core-of-requires-3 : tie.Need-core-of-requires-3 Inv-loop μ-loop
-core-of-requires-3 c κs = search needs
-
-gathered-requires-2 : tie.Need-gathered-requires-2 Inv-loop μ-loop
-gathered-requires-2 c κs = search needs
+    let t : tie.Then14 Inv-loop μ-loop = search in
+    let x : tie.After-refusal-record Inv-loop μ-loop = search in
+    let u : tie.After-put-record Inv-loop μ-loop = search in
+    let p = t .before in
+    let r = refusing (p .before) in
+    let q = read r in
+    let o = t .if14 .taken in (
+      again (loop q)
+          (next-refusal (reached q) (passed p (core-is r)) (refused (p .before)) o (free-taken (q .before) o) (x .refusal-record .ensures) (u .put-record .ensures .1) (u .put-record .ensures .0)),
+      hand-now r .before .frame-of2 .ensures,
+      located-now r,
+    )
 
 same-length-2 : tie.Need-same-length-2 Inv-loop μ-loop
-same-length-2 c = let e : tie.Else14 Inv-loop μ-loop = search in far (loop (read (did (kept (turning (e .before)))))) .long
+same-length-2 c = let r : Ruled = search in far (loop (read r)) .long
 
 returns-2 : tie.Need-returns-2 Inv-loop μ-loop
 returns-2 c =
     let e : tie.Else14 Inv-loop μ-loop = search in
-    let k : tie.After-core-of3 Inv-loop μ-loop = search in
     let p = e .before in
-    let r = turning p in
-    let j = did (kept r) in
-    let q = read j in
-    let m = reached q in
-    let f = far-refused (m .far) (turn r (passed p)) (m .idle) (m .within) (refused p) (e .if14 .left) in (
-      c .gathered2 .ensures
-          ∙ (λ i. stoppedAs (whole (p .passed-over2 .result) (k .core-of3 .ensures i) (kept r .match3 .store) (r .queued .result)) (m .ends i) (loop q .loop .count) (j .match2 .number))
-          ∙ f .0,
-      f .1,
-    )
+    let q = read (refusing (p .before)) in
+    let f = next-refused (reached q) (passed p refl) (refused (p .before)) (e .if14 .left) in
+    (c .gathered2 .ensures ∙ f .0, f .1)
 
-loop-less-12 : tie.Need-loop-less-12 Inv-loop μ-loop
-loop-less-12 c = turn-less (c .before)
+cast-k-2 : tie.Need-cast-k-2 Inv-loop μ-loop
+cast-k-2 c = let r : Ruled = search in omega (arith, far (loop (read r)) .valid .core .polygon .edges)
+
+mul-e-3 : tie.Need-mul-e-3 Inv-loop μ-loop
+mul-e-3 c = let a : tie.After-action Inv-loop μ-loop = search in record { fits = omega (arith, joins-edge a) }
+
+element-set-from-e-2 : tie.Need-element-set-from-e-2 Inv-loop μ-loop
+element-set-from-e-2 c = let a : tie.After-action Inv-loop μ-loop = search in omega (arith, joins-edge a)
 
 loop-again-12 : tie.Need-loop-again-12 Inv-loop μ-loop
 loop-again-12 c =
-    let j = did (kept (c .before)) in
-    (again (loop (read j)) (turned c), done j .framed, done j .located)
+    let a : Accepted = search in
+    let e : tie.After-action Inv-loop μ-loop = search in
+    let r = accepting a in
+    (again (loop (read r)) (taken a (joined-edges e) (joined-waits e)), hand-now r .before .frame-of2 .ensures, located-now r)
 
-core-of-requires-4 : tie.Need-core-of-requires-4 Inv-loop μ-loop
-core-of-requires-4 c κs = search needs
+carried-requires : tie.Need-carried-requires Inv-loop μ-loop
+carried-requires c κs = let r : Ruled = search in act-valid (ended r) .action
 
-gathered-requires-3 : tie.Need-gathered-requires-3 Inv-loop μ-loop
-gathered-requires-3 c κs = search needs
+loop-less-13 : tie.Need-loop-less-13 Inv-loop μ-loop
+loop-less-13 c =
+    let a : Accepted = search in
+    let k : tie.After-carried Inv-loop μ-loop = search in
+    taken-less a {st = k .carried .result .store} (k .carried .ensures .0) (k .carried .ensures .1)
+
+loop-again-13 : tie.Need-loop-again-13 Inv-loop μ-loop
+loop-again-13 c =
+    let a : Accepted = search in
+    let k : tie.After-carried Inv-loop μ-loop = search in
+    let r = accepting a in
+    (again (loop (read r)) (taken a (k .carried .ensures .0) (k .carried .ensures .1)), hand-now r .before .frame-of2 .ensures, located-now r)
+
+queued-requires-2 : tie.Need-queued-requires-2 Inv-loop μ-loop
+queued-requires-2 c κs = let r : Ruled = search in action-alone (loop (read r) .loop .polygon .edges) (did r .action) (act-valid (ended r) .action)
+
+loop-less-14 : tie.Need-loop-less-14 Inv-loop μ-loop
+loop-less-14 c =
+    let a : Accepted = search in
+    let h : Light = search in
+    let k : tie.After-queued2 Inv-loop μ-loop = search in
+    taken-less a (same-edges h) (k .queued2 .ensures)
+
+loop-again-14 : tie.Need-loop-again-14 Inv-loop μ-loop
+loop-again-14 c =
+    let a : Accepted = search in
+    let h : Light = search in
+    let k : tie.After-queued2 Inv-loop μ-loop = search in
+    let r = accepting a in
+    (again (loop (read r)) (taken a (same-edges h) (k .queued2 .ensures)), hand-now r .before .frame-of2 .ensures, located-now r)
+
+refusal-record-requires-2 : tie.Need-refusal-record-requires-2 Inv-loop μ-loop
+refusal-record-requires-2 c κs = let j : Met = search in place-small (met j)
+
+put-record-requires-2 : tie.Need-put-record-requires-2 Inv-loop μ-loop
+put-record-requires-2 c κs =
+    let t : tie.Then16 Inv-loop μ-loop = search in
+    let q = met (t .before .before) in
+    far-fits (far (loop q)) (free-taken (q .before) (t .if16 .taken))
+
+loop-less-15 : tie.Need-loop-less-15 Inv-loop μ-loop
+loop-less-15 c = let j : Met = search in none-less (met j)
+
+loop-again-15 : tie.Need-loop-again-15 Inv-loop μ-loop
+loop-again-15 c =
+    let t : tie.Then16 Inv-loop μ-loop = search in
+    let x : tie.After-refusal-record2 Inv-loop μ-loop = search in
+    let u : tie.After-put-record2 Inv-loop μ-loop = search in
+    let p = t .before in
+    let q = met (p .before) in
+    let l = loop q in
+    let o = t .if16 .taken in (
+      again l
+          (next-refusal (reached q) (declining p refl) (declines (p .before) .some) o (free-taken (q .before) o) (x .refusal-record2 .ensures) (u .put-record2 .ensures .1) (u .put-record2 .ensures .0)),
+      l .loop .inv .1,
+      l .loop .inv .2,
+    )
 
 same-length-3 : tie.Need-same-length-3 Inv-loop μ-loop
-same-length-3 c = let l : Loop = search in far l .long
+same-length-3 c = let j : Met = search in far (loop (met j)) .long
 
 returns-3 : tie.Need-returns-3 Inv-loop μ-loop
 returns-3 c =
+    let e : tie.Else16 Inv-loop μ-loop = search in
+    let k : tie.After-core-of3 Inv-loop μ-loop = search in
+    let p = e .before in
+    let q = met (p .before) in
+    let f = next-refused (reached q) (declining p (k .core-of3 .ensures)) (declines (p .before) .some) (e .if16 .left) in
+    (c .gathered3 .ensures ∙ f .0, f .1)
+
+same-length-4 : tie.Need-same-length-4 Inv-loop μ-loop
+same-length-4 c = let l : Loop = search in far l .long
+
+returns-4 : tie.Need-returns-4 Inv-loop μ-loop
+returns-4 c =
     let l : Loop = search in
     let e : tie.Else1 Inv-loop μ-loop = search in
     let p : tie.After-core-of4 Inv-loop μ-loop = search in
     let n = none-remains (l .loop .work) _ _ (sym (e .before .remains .ensures) ∙ e .if1 .left) in
     let f = far-end (far l) (n .0) (n .1) in
     let k = ap (λ (k : Core). stoppedAs (whole (l .loop .reader) k (l .loop .store) (l .loop .work)) (l .loop .at) (l .loop .count) 0) (p .core-of4 .ensures) in
-    (c .gathered3 .ensures ∙ k ∙ f .0, f .1)
+    (c .gathered4 .ensures ∙ k ∙ f .0, f .1)
 
 pub gather-spec : {M : Type 1} → statement M
 gather-spec =
@@ -1093,24 +1081,24 @@ gather-spec =
     (tie.spec
     Inv-loop
     μ-loop
-    table-requires
+    (λ c κs. search needs)
     frame-of-requires
-    hand-of-requires
+    (λ c κs. search needs)
     located-in-requires
     loop-holds
-    remains-requires
-    stuck-requires
-    core-of-requires
-    gathered-requires
+    (λ c κs. search needs)
+    (λ c κs. search needs)
+    (λ c κs. search needs)
+    (λ c κs. search needs)
     same-length
     returns
-    waiting-requires
-    enum-known-work
-    slice-aggregate-chords
-    chords-requires
+    (λ c κs. search needs)
+    (λ c κs. search needs)
+    slice-aggregate-batch
+    batch-requires
     loop-less
     loop-again
-    edge-place-requires
+    (λ c κs. search needs)
     mul-e
     element-copy-out-e
     segment-requires
@@ -1119,72 +1107,79 @@ gather-spec =
     work-after-requires
     loop-less-2
     loop-again-2
-    next-requires
-    enum-told
-    loop-less-3
+    (λ c κs. search needs)
+    (λ c. search needs)
+    (λ c. let q : Read = search in none-less q)
     loop-again-3
-    enum-known-event
-    name-number-requires
-    letters-requires
-    loop-less-4
+    (λ c. search needs)
+    (λ c κs. search needs)
+    (λ c κs. search needs)
+    (λ c. let q : Read = search in none-less q)
     loop-again-4
-    enum-known-event-2
+    (λ c. search needs)
     point-requires
     longer-requires
-    loop-less-5
+    (λ c. let q : Read = search in none-less q)
     loop-again-5
     cast-k
     mul-e-2
     element-set-from-e
     longer-requires-2
-    loop-less-6
+    (λ c. let q : Read = search in none-less q)
     loop-again-6
     shift-requires
-    drawn-of-requires-2
-    put-requires-2
+    (λ c κs. search needs)
+    queued-requires
     loop-less-7
     loop-again-7
-    line-of-requires
-    enum-known-event-3
-    loop-less-8
+    drawn-of-requires-2
+    put-requires-2
+    (λ c. let q : Read = search in none-less q)
     loop-again-8
-    outline-requires
-    loop-less-9
+    (λ c. search needs)
+    (λ c κs. search needs)
+    (λ c. let q : Read = search in none-less q)
     loop-again-9
-    core-of-requires-2
-    end-rule-requires
-    frame-of-requires-2
-    hand-of-requires-2
-    located-in-requires-2
-    enum-known-event-4
-    passed-over-requires
-    refusal-record-requires
-    put-record-requires
+    (λ c κs. search needs)
     loop-less-10
     loop-again-10
-    enum-told-2
-    enum-told-3
-    enum-told-4
-    enum-known-action
+    (λ c κs. search needs)
+    end-rule-requires
+    frame-of-requires-2
+    (λ c κs. search needs)
+    located-in-requires-2
+    (λ c κs. search needs)
+    refusal-record-requires
+    put-record-requires
+    loop-less-11
+    loop-again-11
+    (λ c κs. search needs)
+    same-length-2
+    returns-2
+    (λ c. search needs)
     cast-k-2
     mul-e-3
     element-set-from-e-2
-    enum-told-5
-    enum-told-6
-    stored-requires
-    queued-requires
-    passed-over-requires-2
+    (λ c. let r : Ruled = search in none-less (read r))
+    loop-again-12
+    (λ c κs. search needs)
+    carried-requires
+    loop-less-13
+    loop-again-13
+    queued-requires-2
+    loop-less-14
+    loop-again-14
+    (λ c. search needs)
+    (λ c κs. search needs)
     refusal-record-requires-2
     put-record-requires-2
-    loop-less-11
-    loop-again-11
-    core-of-requires-3
-    gathered-requires-2
-    same-length-2
-    returns-2
-    loop-less-12
-    loop-again-12
-    core-of-requires-4
-    gathered-requires-3
+    loop-less-15
+    loop-again-15
+    (λ c κs. search needs)
+    (λ c κs. search needs)
     same-length-3
-    returns-3)
+    returns-3
+    (λ c κs. search needs)
+    (λ c κs. search needs)
+    same-length-4
+    returns-4)
