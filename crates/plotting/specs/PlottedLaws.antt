@@ -20,8 +20,8 @@ use Rattle.machine.specs.declared.Machine.{Machine}
 use Rattle.machine.specs.declared.Started.{Started}
 use Rattle.machine.specs.Calls.{startedOf}
 use Rattle.machine.specs.Gather.{plottedOf}
-use Rattle.lines.specs.Text.{marksBelow, Puts}
-use Rattle.lines.specs.TextLaws.{puts-nothing, puts-then}
+use Rattle.lines.specs.Text.{marksBelow}
+use Rattle.decimals.specs.Puts.{Puts, puts-nothing, puts-then}
 use Rattle.plotting.specs.declared.Plot.{Plot}
 use Rattle.plotting.specs.Printed.{printed}
 use Rattle.plotting.specs.Plotted.{begunOf, emptiedOf, movedOf, due, Ready, Plotted}

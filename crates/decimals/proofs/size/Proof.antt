@@ -8,8 +8,8 @@ use mir.Syntax.{w64}
 use Rattle.exact.specs.Whole.{_<ᶻ_, ord, ext, add-parts, ltZ-true, ltZ-false}
 use Rattle.exact.specs.Fit.{Num, arg, num, fit, put, same, within, lt-is, to-nat, m64, _⊖_}
 use Rattle.exact.specs.Steps.{flip-size}
-use Rattle.lines.proofs.size.Statement.{statement}
-use Rattle.lines.proofs.size.Tie as tie
+use Rattle.decimals.proofs.size.Statement.{statement}
+use Rattle.decimals.proofs.size.Tie as tie
 
 below : (z : ℤ) → z <ᶻ pos 0 → negsuc 0 -ℤ z ≡ pos (natAbs z - 1)
 below (pos n) h = absurd (omega (arith, ord))

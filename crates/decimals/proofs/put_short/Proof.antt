@@ -5,10 +5,11 @@ use mathlib.Core.List.{[], _∷_}
 use Prim.Native.Nat.{ℕ, _/_, _%_}
 use native.Mathlib.Omega.{arith}
 use lib.ListN.{length}
-use Rattle.lines.specs.Text.{digit, decimal}
-use Rattle.lines.specs.TextLaws.{two, four, decimal-one, decimal-two, decimal-three, decimal-four, puts-same, puts-then}
-use Rattle.lines.proofs.put_short.Statement.{statement}
-use Rattle.lines.proofs.put_short.Tie as tie
+use Rattle.decimals.specs.Decimal.{digit, decimal}
+use Rattle.decimals.specs.DecimalLaws.{two, four, decimal-one, decimal-two, decimal-three, decimal-four}
+use Rattle.decimals.specs.Puts.{puts-same, puts-then}
+use Rattle.decimals.proofs.put_short.Statement.{statement}
+use Rattle.decimals.proofs.put_short.Tie as tie
 
 digit-code-requires : tie.Need-digit-code-requires
 digit-code-requires c κs = search needs

@@ -1,9 +1,9 @@
 -- The proof of `put_two`: one digit after another.
 use borrow.Author.Needs.{needs}
 use mathlib.Core.List.{[], _∷_}
-use Rattle.lines.specs.TextLaws.{puts-same, puts-then}
-use Rattle.lines.proofs.put_two.Statement.{statement}
-use Rattle.lines.proofs.put_two.Tie as tie
+use Rattle.decimals.specs.Puts.{puts-same, puts-then}
+use Rattle.decimals.proofs.put_two.Statement.{statement}
+use Rattle.decimals.proofs.put_two.Tie as tie
 
 digit-code-requires : tie.Need-digit-code-requires
 digit-code-requires c κs = search needs

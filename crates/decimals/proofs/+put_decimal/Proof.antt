@@ -5,14 +5,15 @@ use Prim.Native.Nat.{ℕ, _<_}
 use native.Mathlib.Omega.{arith}
 use borrow.Fn.Kinds.{In}
 use borrow.Fn.PlainCycle.{Measures, is, falls, and}
-use Rattle.lines.specs.TextLaws.{decimal-fours, fours-length, puts-same, puts-then, puts-length}
-use Rattle.lines.proofs.put_decimal.Reads as put-decimal
-use Rattle.lines.proofs.put_decimal.Kinds as kinds
-use Rattle.lines.proofs.+put_decimal.Lts-put_decimal as lts
-use Rattle.lines.proofs.put_short.Reads as put-short
-use Rattle.lines.proofs.put_four.Reads as put-four
-use Rattle.lines.proofs.+put_decimal.{statement}
-use Rattle.lines.proofs.+put_decimal.Tie.{close}
+use Rattle.decimals.specs.DecimalLaws.{decimal-fours, fours-length}
+use Rattle.decimals.specs.Puts.{puts-same, puts-then, puts-length}
+use Rattle.decimals.proofs.put_decimal.Reads as put-decimal
+use Rattle.decimals.proofs.put_decimal.Kinds as kinds
+use Rattle.decimals.proofs.+put_decimal.Lts-put_decimal as lts
+use Rattle.decimals.proofs.put_short.Reads as put-short
+use Rattle.decimals.proofs.put_four.Reads as put-four
+use Rattle.decimals.proofs.+put_decimal.{statement}
+use Rattle.decimals.proofs.+put_decimal.Tie.{close}
 
 -- the number
 abbrev μ : Measures 1 kinds.ps ℕ

@@ -1,8 +1,8 @@
 -- The proof of `put_four`: two digits after two others.
 use borrow.Author.Needs.{needs}
-use Rattle.lines.specs.TextLaws.{puts-then}
-use Rattle.lines.proofs.put_four.Statement.{statement}
-use Rattle.lines.proofs.put_four.Tie as tie
+use Rattle.decimals.specs.Puts.{puts-then}
+use Rattle.decimals.proofs.put_four.Statement.{statement}
+use Rattle.decimals.proofs.put_four.Tie as tie
 
 put-two-requires : tie.Need-put-two-requires
 put-two-requires c κs = search needs

@@ -8,10 +8,11 @@ use lib.ListN.{length, set, length-set}
 use lib.Seq.{length-sets}
 use mir.Syntax.{w64}
 use Rattle.exact.specs.Fit.{arg}
-use Rattle.lines.specs.Text.{natural, sign, Puts}
-use Rattle.lines.specs.TextLaws.{puts-signed, whole-parts, natural-some}
-use Rattle.lines.proofs.put_whole.Statement.{statement}
-use Rattle.lines.proofs.put_whole.Tie as tie
+use Rattle.decimals.specs.Decimal.{natural, sign}
+use Rattle.decimals.specs.Puts.{Puts, puts-signed}
+use Rattle.decimals.specs.DecimalLaws.{whole-parts, natural-some}
+use Rattle.decimals.proofs.put_whole.Statement.{statement}
+use Rattle.decimals.proofs.put_whole.Tie as tie
 
 -- room for the sign and for what follows it
 room : (s : tie.Start) → let a = s .args in a .at + length (sign (a .z)) + length (natural (natAbs (a .z)) (a .byte)) ≤ length (a .out .now)

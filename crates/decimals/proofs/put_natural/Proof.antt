@@ -3,10 +3,10 @@ use borrow.Author.Needs.{needs}
 use native.Mathlib.Omega.{arith}
 use mathlib.Core.List.{[], _∷_}
 use lib.ListN.{length-append}
-use Rattle.lines.specs.Text.{decimal, natural}
-use Rattle.lines.specs.TextLaws.{puts-then, puts-room}
-use Rattle.lines.proofs.put_natural.Statement.{statement}
-use Rattle.lines.proofs.put_natural.Tie as tie
+use Rattle.decimals.specs.Decimal.{decimal, natural}
+use Rattle.decimals.specs.Puts.{puts-then, puts-room}
+use Rattle.decimals.proofs.put_natural.Statement.{statement}
+use Rattle.decimals.proofs.put_natural.Tie as tie
 
 put-short-requires : tie.Need-put-short-requires
 unfolding natural

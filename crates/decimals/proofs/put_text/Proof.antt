@@ -6,10 +6,9 @@ use native.Mathlib.Numerals.{add-one}
 use denote.Ref.{now}
 use lib.ListN.{length, take}
 use lib.Seq.{take-suc, take-length, length-take-le}
-use Rattle.lines.specs.Text.{Puts}
-use Rattle.lines.specs.TextLaws.{puts-same, puts-nothing, puts-then, puts-length}
-use Rattle.lines.proofs.put_text.Statement.{statement}
-use Rattle.lines.proofs.put_text.Tie as tie
+use Rattle.decimals.specs.Puts.{Puts, puts-same, puts-nothing, puts-then, puts-length}
+use Rattle.decimals.proofs.put_text.Statement.{statement}
+use Rattle.decimals.proofs.put_text.Tie as tie
 
 abbrev Inv-loop : tie.InvT-loop
 Inv-loop out₀ at text end₀ i₀ out end i = Puts (take i text) out₀ out at end × (i ≤ length text)

@@ -9,10 +9,10 @@ use lib.Signed.{ltZ}
 use mir.Syntax.{w64}
 use Rattle.exact.specs.Whole.{ltZ-true, ltZ-false}
 use Rattle.exact.specs.Fit.{arg, num, lt-is, m64}
-use Rattle.lines.specs.Text.{sign}
-use Rattle.lines.specs.TextLaws.{sign-below, sign-above}
-use Rattle.lines.proofs.sign_length.Statement.{statement}
-use Rattle.lines.proofs.sign_length.Tie as tie
+use Rattle.decimals.specs.Decimal.{sign}
+use Rattle.decimals.specs.DecimalLaws.{sign-below, sign-above}
+use Rattle.decimals.proofs.sign_length.Statement.{statement}
+use Rattle.decimals.proofs.sign_length.Tie as tie
 
 minus : (s : tie.Start) → ltZ (m64 (s .args .z)) (pos 0) ≡ true → sign (s .args .z) ≡ code "-" ∷ []
 minus s e = sign-below (s .args .z) (ltZ-true _ _ (lt-is (arg w64 (s .fits .z)) (num (pos 0)) e))
