@@ -4,9 +4,9 @@ use mathlib.Core.Bool.{Bool, true, false}
 use mathlib.Core.List.{List, []}
 use Prim.Native.Nat.{ℕ, _+_, _-_, _≤_, _<_}
 use lib.ListN.{length, take, drop, replicate, length-replicate}
-use Rattle.hpgl.specs.Feed.{Feed, feedFrom, laid}
+use Rattle.feeding.specs.Feed.{Feed, feedFrom, laid}
 use Rattle.hpgl.specs.declared.Stroke.{Stroke}
-use Rattle.hpgl.specs.PartsOfFeed.{storeAll}
+use Rattle.feeding.specs.PartsOfFeed.{storeAll}
 use Rattle.hpgl.specs.Made.{Made}
 use Rattle.machine.specs.declared.Machine.{Machine}
 use Rattle.feed.specs.declared.Fed.{Fed}

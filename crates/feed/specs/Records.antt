@@ -8,10 +8,10 @@ use lib.IntN.{ℤ, pos, natAbs}
 use lib.ListN.{length, getD, take, drop, length-append, length-drop}
 use lib.Seq.{take-suc, take-length}
 use Rattle.hpgl.specs.declared.Stroke.{Stroke}
-use Rattle.hpgl.specs.Feed.{numbersOf, laidNumbers}
+use Rattle.feeding.specs.Feed.{numbersOf, laidNumbers}
 use Rattle.hpgl.specs.Numbers.{mostPen}
 use Rattle.hpgl.specs.Valid.{Every, more}
-use Rattle.hpgl.specs.StrokePens.{Penned}
+use Rattle.feeding.specs.StrokePens.{Penned}
 
 -- what stands where there is no stroke
 abbrev pub noStroke : Stroke

@@ -29,7 +29,7 @@ use Rattle.hpgl.specs.declared.Segment.the-variants as segment
 use Rattle.hpgl.specs.Place.{limits}
 use Rattle.hpgl.specs.Machine.{noEdge, waiting, workAfter}
 use Rattle.hpgl.specs.Segment.{segmentOf, drawnOf, segment-drawn}
-use Rattle.hpgl.specs.Plot.{Plot}
+use Rattle.feeding.specs.Plot.{Plot}
 use Rattle.queue.specs.First.{edgePlace}
 use Rattle.queue.specs.Corners.{vertexAt, nextCornerOf, segmentIn, BeginsAt, segment-waits}
 use Rattle.gathering.specs.Gather.{whole, countAfter, putOf, chordsLeft}

@@ -20,7 +20,7 @@ use Rattle.hpgl.specs.declared.Work.the-variants.{Chords}
 use Rattle.hpgl.specs.declared.State.{State}
 use Rattle.hpgl.specs.Place.{limits}
 use Rattle.hpgl.specs.Machine.{waiting}
-use Rattle.hpgl.specs.Plot.{Mark, Plot, laidMarks}
+use Rattle.feeding.specs.Plot.{Mark, Plot, laidMarks}
 use Rattle.hpgl.specs.Valid.{Valid}
 use Rattle.gathering.specs.Gather.{whole, gatherFrom}
 

@@ -4,7 +4,7 @@ ghost use Prim.Native.Nat.{_/_, _*_, _+_, _^_, _<_, _≤_};
 ghost use lib.ListN.{length, drop};
 ghost use Rattle.sines.specs.Table as T;
 ghost use Rattle.hpgl.specs.Machine.{waiting};
-ghost use Rattle.hpgl.specs.Plot.{refusal};
+ghost use Rattle.feeding.specs.Plot.{refusal};
 ghost use Rattle.hpgl.specs.Valid.{Valid};
 ghost use Rattle.gathering.specs.Gather as S;
 ghost use Rattle.gathering.specs.Far as F;

@@ -50,7 +50,7 @@ use denote.Triple.Walked.{says, Stays, stay-none, stay-none-slice, walkOf, goes-
 use denote.Exit.{yes}
 use borrow.Table.OneValue.{part-in, part-out}
 use Rattle.hpgl.specs.declared.Stroke.{Stroke}
-use Rattle.hpgl.specs.Feed.{feedOf, laid}
+use Rattle.feeding.specs.Feed.{feedOf, laid}
 use Rattle.hpgl.specs.Made.{Made}
 use Rattle.hpgl.proofs.Stroke as St
 use Rattle.hpgl.proofs.Stroke.Laws as St′

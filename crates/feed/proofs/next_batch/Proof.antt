@@ -11,11 +11,11 @@ use lib.IntN.{ℤ}
 use lib.ListN.{length, take, drop, getD}
 use lib.Seq.{drop-drop, getD-drop, length-take-le, length-front}
 use Rattle.hpgl.specs.declared.Stroke.{Stroke}
-use Rattle.hpgl.specs.Numbers.{listFull}
-use Rattle.hpgl.specs.Feed.{Feed, feedFrom, laidNumbers}
-use Rattle.hpgl.specs.FeedLaws.{feed-place, feed-stored, feed-made}
-use Rattle.hpgl.specs.PartsOfFeed.{storeAll, Roomier, feed-room}
-use Rattle.hpgl.specs.StrokePens.{feed-pens}
+use Rattle.feeding.specs.DrawOff.{listFull}
+use Rattle.feeding.specs.Feed.{Feed, feedFrom, laidNumbers}
+use Rattle.feeding.specs.FeedLaws.{feed-place, feed-stored, feed-made}
+use Rattle.feeding.specs.PartsOfFeed.{storeAll, Roomier, feed-room}
+use Rattle.feeding.specs.StrokePens.{feed-pens}
 use Rattle.hpgl.specs.Made.{Made}
 use Rattle.hpgl.specs.ValidKept.{made-valid}
 use Rattle.machine.specs.declared.Gathered.{Gathered}

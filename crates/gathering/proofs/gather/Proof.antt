@@ -38,8 +38,9 @@ use Rattle.hpgl.specs.declared.Work.the-variants.{Nothing, Chords}
 use Rattle.hpgl.specs.declared.Segment.the-variants as segment
 use Rattle.hpgl.specs.declared.State.{State}
 use Rattle.hpgl.specs.declared.Stroke.{Stroke}
-use Rattle.hpgl.specs.Numbers.{listFull, mostEdges, polygonBytes}
-use Rattle.hpgl.specs.Plot.{Plot, refusal}
+use Rattle.feeding.specs.DrawOff.{listFull}
+use Rattle.hpgl.specs.Numbers.{mostEdges, polygonBytes}
+use Rattle.feeding.specs.Plot.{Plot, refusal}
 use Rattle.hpgl.specs.Place.{limits}
 use Rattle.hpgl.specs.Rules.{refuse, longer, actOn}
 use Rattle.hpgl.specs.Machine.{noEdge, waiting, stored, queued, readerAfter, drawAnswer}

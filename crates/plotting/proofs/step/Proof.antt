@@ -6,8 +6,8 @@ use native.Mathlib.Omega.{arith}
 use lib.Dec.{eqb}
 use lib.ListN.{length}
 use denote.Ref.{now}
-use Rattle.hpgl.specs.Plot.{Plot, laidMarks}
-use Rattle.hpgl.specs.PlotLaws.{plot-stored}
+use Rattle.feeding.specs.Plot.{Plot, laidMarks}
+use Rattle.feeding.specs.PlotLaws.{plot-stored}
 use Rattle.machine.specs.Gather.{plottedOf}
 use Rattle.lines.specs.Text.{marksBelow}
 use Rattle.decimals.specs.Puts.{Puts, puts-same}

@@ -13,8 +13,8 @@ use native.Mathlib.Omega.{arith}
 use lib.ListN.{length, take, drop, set, getD, length-set, take-append-drop}
 use lib.Seq.{take-suc-set, drop-set-lt, drop-drop, append-snoc, length-take-le, slice, slice-empty, slice-cons}
 use Rattle.hpgl.specs.declared.Stroke.{Stroke}
-use Rattle.hpgl.specs.Feed.{Feed, feedOf, feedFrom, laid}
-use Rattle.hpgl.specs.PartsOfFeed.{storeAll}
+use Rattle.feeding.specs.Feed.{Feed, feedOf, feedFrom, laid}
+use Rattle.feeding.specs.PartsOfFeed.{storeAll}
 use Rattle.hpgl.specs.Made.{Made}
 use Rattle.machine.specs.declared.Machine.{Machine}
 use Rattle.feed.specs.declared.Fed.{Fed}

@@ -3,12 +3,11 @@ use Prim.Native.Nat.{ℕ, zero, suc, _+_}
 use mathlib.Core.List.{List, [], _∷_, _++_}
 use lib.IntN.{ℤ, pos}
 use lib.ListN.{length, drop}
 use Rattle.hpgl.specs.declared.State.{State}
 use Rattle.hpgl.specs.declared.Stroke.{Stroke}
 use Rattle.hpgl.specs.declared.Drawn.{Drawn}
-use Rattle.hpgl.specs.Numbers.{listFull}
+use Rattle.feeding.specs.DrawOff.{listFull, drewBy, drawOffBy}
 use Rattle.hpgl.specs.Machine.{waiting, takeState, takeNumber}
-use Rattle.hpgl.specs.DrawOff.{drewBy, drawOffBy}
 
 -- what a record holds: a stroke, or a refusal with 01's number and the place of its byte, counted from 1
 pub data Mark : Type 0 where

@@ -7,15 +7,15 @@ use native.Mathlib.Omega.{arith}
 use borrow.Author.Tests.{ne-eqb}
 use lib.Dec.{eqb}
 use lib.ListN.{length, getD}
 use Rattle.hpgl.specs.declared.Work.{Work}
 use Rattle.hpgl.specs.declared.Work.the-variants.{Nothing, Line, Chords, Edges}
 use Rattle.hpgl.specs.declared.State.{State}
 use Rattle.hpgl.specs.declared.Stroke.{Stroke}
 use Rattle.hpgl.specs.declared.Drawn.{Drawn}
 use Rattle.hpgl.specs.declared.Drawn.the-variants as drawn
 use Rattle.hpgl.specs.Machine.{waiting, workAfter, takeState, drawWork, drawState, drawAnswer}
-use Rattle.hpgl.specs.DrawOff.{drewBy, drawOffBy}
+use Rattle.feeding.specs.DrawOff.{drewBy, drawOffBy}
 use Rattle.hpgl.specs.Made as made
 
 -- ---- how many segments wait, and what draw answers
 

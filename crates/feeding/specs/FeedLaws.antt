@@ -8,15 +8,15 @@ use Prim.Native.Nat.{ℕ, suc, _+_, _≤_, _<_}
 use borrow.Author.Tests.{eq-eqb, ne-eqb}
 use lib.Dec.{eqb}
 use lib.ListN.{length, getD}
 use Rattle.hpgl.specs.declared.State.{State}
 use Rattle.hpgl.specs.declared.Stroke.{Stroke}
 use Rattle.hpgl.specs.declared.Drawn.the-variants as drawn
-use Rattle.hpgl.specs.Numbers.{listFull}
+use Rattle.feeding.specs.DrawOff.{listFull}
 use Rattle.hpgl.specs.Machine.{waiting, takeState, takeNumber, drawState, drawAnswer}
-use Rattle.hpgl.specs.Feed.{Feed, stop, store, drew, drawOff, feedFrom}
-use Rattle.hpgl.specs.DrawOffLaws.{off-idle, off-full, off-draw, off-all, drew-all, Kept, Bytes, stored-kept, drawn-kept, stop-kept, byte-kept}
-pub use Rattle.hpgl.specs.DrawOffLaws.{draw-less, draw-idle}
+use Rattle.feeding.specs.Feed.{Feed, stop, store, drew, drawOff, feedFrom}
+use Rattle.feeding.specs.DrawOffLaws.{off-idle, off-full, off-draw, off-all, drew-all, Kept, Bytes, stored-kept, drawn-kept, stop-kept, byte-kept}
+pub use Rattle.feeding.specs.DrawOffLaws.{draw-less, draw-idle}
 use Rattle.hpgl.specs.Made as made
 
 -- ---- one step
 
@@ -51,6 +51,10 @@ module _ (m : State) (bs : List ℕ) (t : ℕ) where
   pub at-full : 0 < waiting (m .work) → feedFrom m bs t 0 ≡ stop m t listFull
   unfolding drawOff
   at-full h = by-rest m bs t 0 ∙ off-full drew (full t) (rest bs t) m h
+
+  -- "else stop with 21"
+  pub full-is-21 : 0 < waiting (m .work) → feedFrom m bs t 0 ≡ stop m t 21
+  full-is-21 h = at-full h
 
   -- a segment waits and a record is free, whatever the draw answers
   pub at-draw : (r : ℕ) → 0 < waiting (m .work) → feedFrom m bs t (suc r) ≡ drew (drawAnswer m) r (λ q. feedFrom (drawState m) bs t q)

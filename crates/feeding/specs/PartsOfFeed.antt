@@ -11,15 +11,15 @@ use native.Mathlib.Omega.{arith}
 use borrow.Author.Tests.{ne-eqb, eqb-true, eqb-false}
 use lib.Dec.{eqb}
 use lib.ListN.{length, drop}
 use Rattle.hpgl.specs.declared.State.{State}
 use Rattle.hpgl.specs.declared.Stroke.{Stroke}
 use Rattle.hpgl.specs.declared.Drawn.{Drawn}
 use Rattle.hpgl.specs.declared.Drawn.the-variants as drawn
-use Rattle.hpgl.specs.Numbers.{listFull}
+use Rattle.feeding.specs.DrawOff.{listFull}
 use Rattle.hpgl.specs.Machine.{waiting, takeState, takeNumber, drawState, drawAnswer}
-use Rattle.hpgl.specs.Feed.{Feed, stop, store, drew, feedFrom}
-use Rattle.hpgl.specs.FeedLaws.{draw-less, at-end, at-byte, at-refused, at-full, at-draw, feed-place}
+use Rattle.feeding.specs.Feed.{Feed, stop, store, drew, feedFrom}
+use Rattle.feeding.specs.FeedLaws.{draw-less, at-end, at-byte, at-refused, at-full, at-draw, feed-place}
 use Rattle.hpgl.specs.Pins.{TakeNumber, none, one, two, three, six, seven, twenty, take-number}
 
 -- these strokes are stored, and f is what follows
 abbrev pub storeAll : List Stroke → Feed → Feed

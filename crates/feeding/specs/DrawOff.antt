@@ -1,10 +1,14 @@
 -- "While a segment waits, draw if the list has a free record, else stop with 21": said once, for feed and for plot. A is what they answer.
 use Prim.Native.Nat.{ℕ, zero, suc}
 use Rattle.hpgl.specs.declared.State.{State}
 use Rattle.hpgl.specs.declared.Stroke.{Stroke}
 use Rattle.hpgl.specs.declared.Drawn.{Drawn}
 use Rattle.hpgl.specs.declared.Drawn.the-variants as drawn
 use Rattle.hpgl.specs.Machine.{drawState, drawAnswer}
+
+-- "Causes and numbers": feed, list full
+abbrev pub listFull : ℕ
+listFull = 21
 
 -- a draw with r + 1 records free: a stroke uses one, a hidden segment none; `rest` goes on with those that are left, and `store` puts the stroke before it
 abbrev pub drewBy : {A : Type 0} → (Stroke → A → A) → Drawn → ℕ → (ℕ → A) → A

@@ -11,22 +11,22 @@ use Rattle.clip.specs.Clip.{clip}
 use Rattle.clip.specs.declared.Point.{Point}
 use Rattle.clip.specs.declared.Clipped.{Clipped}
 use Rattle.clip.specs.declared.Clipped.the-variants as clipped
 use Rattle.hpgl.specs.declared.Core.{Core}
 use Rattle.hpgl.specs.declared.State.{State}
 use Rattle.hpgl.specs.declared.Stroke.{Stroke}
 use Rattle.hpgl.specs.declared.Work.{Work}
 use Rattle.hpgl.specs.declared.Work.the-variants.{Nothing, Line, Chords, Edges}
 use Rattle.hpgl.specs.declared.Drawn.{Drawn}
 use Rattle.hpgl.specs.declared.Drawn.the-variants as drawn
 use Rattle.hpgl.specs.Place.{limits}
 use Rattle.hpgl.specs.Machine.{waiting, takeState, takeNumber, strokeOf, shown, chordShown, edgeShown, noEdge, drawWork, drawState, drawAnswer}
-use Rattle.hpgl.specs.Feed.{drew, feedFrom}
-use Rattle.hpgl.specs.FeedLaws.{at-end, at-byte, at-refused, at-full, at-draw}
-use Rattle.hpgl.specs.PartsOfFeed.{by-waiting}
+use Rattle.feeding.specs.Feed.{drew, feedFrom}
+use Rattle.feeding.specs.FeedLaws.{at-end, at-byte, at-refused, at-full, at-draw}
+use Rattle.feeding.specs.PartsOfFeed.{by-waiting}
 use Rattle.hpgl.specs.Cases.{pick}
 use Rattle.hpgl.specs.Numbers.{mostPen}
 use Rattle.hpgl.specs.Valid.{Valid, Every, none, more}
 use Rattle.hpgl.specs.ValidKept.{valid-take, valid-draw}
 
 abbrev pub Penned : Stroke → Type 0
 Penned s = s .pen ≤ mostPen

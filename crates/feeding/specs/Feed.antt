@@ -1,16 +1,15 @@
 -- The call feed (document 01, "The calls"): bytes in, strokes out into a lent list.
 use Prim.Native.Nat.{ℕ, _+_}
-use mathlib.Core.Bool.{Bool, cond}
+use mathlib.Core.Bool.{cond}
 use mathlib.Core.List.{List, [], _∷_, _++_}
 use lib.Dec.{eqb}
 use lib.IntN.{ℤ, pos}
 use lib.ListN.{length, drop}
 use Rattle.hpgl.specs.declared.State.{State}
 use Rattle.hpgl.specs.declared.Stroke.{Stroke}
 use Rattle.hpgl.specs.declared.Drawn.{Drawn}
-use Rattle.hpgl.specs.Numbers.{listFull}
+use Rattle.feeding.specs.DrawOff.{listFull, drewBy, drawOffBy}
 use Rattle.hpgl.specs.Machine.{waiting, takeState, takeNumber}
-use Rattle.hpgl.specs.DrawOff.{drewBy, drawOffBy}
 
 -- "Answer: bytes taken, strokes stored, number (0 for none)": with the machine after it, and the strokes themselves, in order
 pub record Feed : Type 0 where

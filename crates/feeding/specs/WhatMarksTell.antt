@@ -9,18 +9,18 @@ use Rattle.clip.specs.Clip.{clip}
 use Rattle.clip.specs.declared.Rect.{Rect}
 use Rattle.clip.specs.declared.Clipped.{Clipped}
 use Rattle.clip.specs.declared.Clipped.the-variants as clipped
 use Rattle.hpgl.specs.declared.State.{State}
 use Rattle.hpgl.specs.declared.Segment.{Segment}
 use Rattle.hpgl.specs.declared.Segment.the-variants as segment
 use Rattle.hpgl.specs.declared.Drawn.{Drawn}
 use Rattle.hpgl.specs.declared.Drawn.the-variants as drawn
 use Rattle.hpgl.specs.Machine.{waiting, takeState, takeNumber, strokeOf, drawState, drawAnswer}
-use Rattle.hpgl.specs.DrawOffLaws.{draw-less}
-use Rattle.hpgl.specs.Plot.{Mark, stroke, refusal, Plot, drew, took, drawOff, takeOn, plotFrom}
+use Rattle.feeding.specs.DrawOffLaws.{draw-less}
+use Rattle.feeding.specs.Plot.{Mark, stroke, refusal, Plot, drew, took, drawOff, takeOn, plotFrom}
 use Rattle.hpgl.specs.Made.{Made, take, draw}
 use Rattle.hpgl.specs.Valid.{Every, none, more}
 use Rattle.hpgl.specs.Segment.{drawnOf, segment-drawn}
 use Rattle.hpgl.specs.Condition3Proof.{made-inked}
 
 -- ---- a draw: a stroke has the pen's number
 

@@ -6,12 +6,12 @@ use mathlib.Core.Path.{_≡_, refl, sym, _∙_}
 use mathlib.Core.List.{List, [], _∷_}
 use Prim.Native.Nat.{ℕ, zero, suc, _+_, _≤_, _<_}
 use lib.ListN.{length, getD}
 use Rattle.hpgl.specs.declared.State.{State}
-use Rattle.hpgl.specs.Numbers.{listFull}
+use Rattle.feeding.specs.DrawOff.{listFull}
 use Rattle.hpgl.specs.Machine.{waiting, takeState, takeNumber, drawState, drawAnswer}
-use Rattle.hpgl.specs.DrawOffLaws.{off-idle, off-full, off-draw, off-all, drew-all, Kept, Bytes, stored-kept, drawn-kept, stop-kept, byte-kept}
-use Rattle.hpgl.specs.Plot.{Plot, stroke, refusal, stop, store, drew, took, drawOff, takeOn, plotFrom}
+use Rattle.feeding.specs.DrawOffLaws.{off-idle, off-full, off-draw, off-all, drew-all, Kept, Bytes, stored-kept, drawn-kept, stop-kept, byte-kept}
+use Rattle.feeding.specs.Plot.{Plot, stroke, refusal, stop, store, drew, took, drawOff, takeOn, plotFrom}
 use Rattle.hpgl.specs.Made as made
 
 -- ---- one step
 
