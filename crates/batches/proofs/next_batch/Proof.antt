@@ -20,12 +20,12 @@ use Rattle.hpgl.specs.Made.{Made}
 use Rattle.hpgl.specs.ValidKept.{made-valid}
 use Rattle.machine.specs.declared.Gathered.{Gathered}
 use Rattle.machine.specs.Gather.{gatheredOf}
-use Rattle.feed.specs.declared.Fed.{Fed}
-use Rattle.feed.specs.declared.Batch.{Batch}
-use Rattle.feed.specs.Fed.{goesOn, ended, rest, Batched}
-use Rattle.feed.specs.Records.{strokesOf, PenAt, PensBefore, laid-long, records-back, pens-back}
-use Rattle.feed.proofs.next_batch.Statement.{statement}
-use Rattle.feed.proofs.next_batch.Tie as tie
+use Rattle.batches.specs.declared.Fed.{Fed}
+use Rattle.batches.specs.declared.Batch.{Batch}
+use Rattle.batches.specs.Batches.{goesOn, ended, rest, Batched}
+use Rattle.batches.specs.Records.{strokesOf, PenAt, PensBefore, laid-long, records-back, pens-back}
+use Rattle.batches.proofs.next_batch.Statement.{statement}
+use Rattle.batches.proofs.next_batch.Tie as tie
 
 -- ---- a batch of `most` records
 

@@ -1,8 +1,8 @@
 -- The proof of `goes_on`: by the number.
 use mathlib.Core.Path.{refl}
 use borrow.Author.Tests.{eq-eqb, ne-eqb}
-use Rattle.feed.proofs.goes_on.Statement.{statement}
-use Rattle.feed.proofs.goes_on.Tie as tie
+use Rattle.batches.proofs.goes_on.Statement.{statement}
+use Rattle.batches.proofs.goes_on.Tie as tie
 
 returns : tie.Need-returns
 returns c = let t : tie.Then1 = search in simp (eq-eqb _ _ (t .if1 .taken)) refl

@@ -9,10 +9,10 @@ use lib.IntN.{ℤ}
 use lib.ListN.{length, take, set, length-set}
 use lib.Seq.{take-suc-set}
 use Rattle.hpgl.specs.declared.Stroke.{Stroke}
-use Rattle.feed.specs.Fed.{blanks-long}
-use Rattle.feed.specs.Records.{strokeAt, strokesOf}
-use Rattle.feed.proofs.records.Statement.{statement}
-use Rattle.feed.proofs.records.Tie as tie
+use Rattle.batches.specs.Batches.{blanks-long}
+use Rattle.batches.specs.Records.{strokeAt, strokesOf}
+use Rattle.batches.proofs.records.Statement.{statement}
+use Rattle.batches.proofs.records.Tie as tie
 
 abbrev Inv-loop : tie.InvT-loop
 Inv-loop numbers count list₀ i₀ list i = (i ≤ count) × ((length list ≡ 64) × (take i list ≡ strokesOf numbers i))

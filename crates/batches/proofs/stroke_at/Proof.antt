@@ -8,10 +8,10 @@ use mir.Syntax.{w64}
 use lib.Signed.{mag}
 use mir.Val.{hbits, toZ, ofZ}
 use Rattle.exact.specs.Fit.{got}
-use Rattle.feed.specs.Records.{numberAt, strokeAt}
+use Rattle.batches.specs.Records.{numberAt, strokeAt}
 use borrow.Author.Needs.{needs}
-use Rattle.feed.proofs.stroke_at.Statement.{statement}
-use Rattle.feed.proofs.stroke_at.Tie as tie
+use Rattle.batches.proofs.stroke_at.Statement.{statement}
+use Rattle.batches.proofs.stroke_at.Tie as tie
 
 -- what is read of a list of numbers
 read : (numbers : List ℤ) (k : ℕ) → mag (numberAt numbers k) < 2 ^ hbits w64 → toZ w64 (ofZ w64 (numberAt numbers k)) ≡ numberAt numbers k
