@@ -1,4 +1,4 @@
-// The numbers of document 01, as specs/Numbers.antt of the crate hpgl has them (mostAngle stands in Bounds.antt of plane).
+// The numbers of document 01, as specs/Numbers.antt of the crate hpgl has them (mostAngle stands in Bounds.antt of plane, listFull in DrawOff.antt of feeding).
 
 // Refusals. The reader's: unknown in polygon mode, setting out of range.
 pub use reader::OUT_OF_RANGE;

@@ -20,7 +20,7 @@ use Rattle.hpgl.specs.Place.{axisX, axisY, exactPosition, location, inRange, ab
 use Rattle.hpgl.specs.Rules.{done, refuse, freshSettings, noPolygon, freshCarriage, freshCore, letters, nameRule, rebased, inRule, dfRule, int16, goodCorners, setCorners, carried, ipRule, scRule, setTurn, roRule, setWindow, iwRule, setPen, spRule, inked, moveTo, pointCost, longer, edgeTo, storePoint, aimed, goTo, pairRule, begun, pm0, differ, closes, endedWith, ended, pm1In, pm1, leave, pm2In, pm2, pmRule, epRule, rectangular, rectangleTo, eaRule, erRule, circleFits, circle, circleWith, chordAngle, ciRule, endRule, actOn}
 use Rattle.hpgl.specs.Machine.{goodLimits, hardLimits, freshState, freshNumber, waiting, rectangleEdges, stored, queued, readerAfter, applied, acted, takeState, takeNumber, strokeOf, shown, vertex, chordShown, edgeShown, workAfter, drawWork, drawState, drawAnswer, lookAt}
 use Rattle.hpgl.specs.Trace.{bytesFrom, bytes, drawnValues, lookValues, draws, drawnOff, refusal, traceFrom, trace}
-use Rattle.hpgl.specs.Feed.{drew, drawOff, feedFrom}
+use Rattle.feeding.specs.Feed.{drew, drawOff, feedFrom}
 use Rattle.drive.specs.Drive.{pitchOf, spotOf, endsInsideOf, endsEqualOf, answerOf, f32Of, placeOf}
 use Rattle.figures.specs.Rows.{points, after, refusals, drawnThen, fedAll, movesOf, answered, said}
 use Rattle.figures.specs.Rows.{allAnswered, allSaid}

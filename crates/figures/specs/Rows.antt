@@ -9,7 +9,7 @@ use Rattle.clip.specs.declared.Rect.{Rect}
 use Rattle.hpgl.specs.declared.State.{State}
 use Rattle.hpgl.specs.declared.Stroke.{Stroke}
 use Rattle.hpgl.specs.Machine.{rect, freshState, freshNumber, waiting, takeState, takeNumber}
-use Rattle.hpgl.specs.Feed.{Feed, feedOf, laid}
+use Rattle.feeding.specs.Feed.{Feed, feedOf, laid}
 use Rattle.hpgl.specs.Trace.{Out, bytes, draws, drawnOff, refusal, traceFrom, trace}
 use Rattle.drive.specs.declared.Moves.{Moves}
 use Rattle.drive.specs.declared.Moves.the-variants.{Two, One, Refused}

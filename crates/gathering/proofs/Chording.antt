@@ -25,7 +25,7 @@ use Rattle.hpgl.specs.declared.Segment.the-variants as segment
 use Rattle.hpgl.specs.Place.{limits}
 use Rattle.hpgl.specs.Machine.{noEdge, waiting, workAfter}
 use Rattle.hpgl.specs.Segment.{segmentOf, drawnOf, segment-drawn}
-use Rattle.hpgl.specs.Plot.{Plot}
+use Rattle.feeding.specs.Plot.{Plot}
 use Rattle.hpgl.specs.Cases.{never}
 use Rattle.basics.specs.declared.places.Frame.{Frame}
 use Rattle.basics.specs.Hand.{frameOf}

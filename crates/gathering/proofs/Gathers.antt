@@ -27,11 +27,11 @@ use Rattle.hpgl.specs.declared.State.{State}
 use Rattle.hpgl.specs.declared.Stroke.{Stroke}
 use Rattle.hpgl.specs.declared.Drawn.{Drawn}
 use Rattle.hpgl.specs.declared.Drawn.the-variants as drawn
-use Rattle.hpgl.specs.Numbers.{listFull}
+use Rattle.feeding.specs.DrawOff.{listFull}
 use Rattle.hpgl.specs.Rules.{done}
 use Rattle.hpgl.specs.Machine.{waiting, takeState, takeNumber, workAfter, drawState, drawAnswer}
-use Rattle.hpgl.specs.Plot.{Mark, stroke, refusal, Plot, stop, store, drew, numbersOf, laidMarks}
-use Rattle.hpgl.specs.FeedLaws.{draw-less}
+use Rattle.feeding.specs.Plot.{Mark, stroke, refusal, Plot, stop, store, drew, numbersOf, laidMarks}
+use Rattle.feeding.specs.FeedLaws.{draw-less}
 use Rattle.hpgl.specs.Valid.{mostChords, ValidWork, Valid}
 use Rattle.hpgl.specs.Cases.{never}
 use Rattle.hpgl.specs.ValidKept.{valid-draw}

@@ -38,7 +38,7 @@ use Rattle.hpgl.specs.Place.{limits}
 use Rattle.hpgl.specs.Rules.{done, letters, inked, longer, epRule, endRule, actOn}
 use Rattle.hpgl.specs.Machine.{waiting, stored, queued, readerAfter, workAfter, drawAnswer}
 use Rattle.hpgl.specs.Segment.{workSegment, segmentOf, drawnOf, segment-drawn, SmallSegment, segment-small}
-use Rattle.hpgl.specs.Plot.{Plot, refusal}
+use Rattle.feeding.specs.Plot.{Plot, refusal}
 use Rattle.basics.specs.declared.hand.Hand.{Hand}
 use Rattle.basics.specs.declared.hand.Pointed.{Pointed}
 use Rattle.basics.specs.Hand.{coreOf, lineOf, pointedOf}

@@ -14,7 +14,7 @@ use Rattle.hpgl.specs.declared.Store.{Store}
 use Rattle.hpgl.specs.declared.Work.{Work}
 use Rattle.hpgl.specs.declared.State.{State}
 use Rattle.hpgl.specs.Machine.{waiting}
-use Rattle.hpgl.specs.Plot.{Mark, Plot, laidMarks}
+use Rattle.feeding.specs.Plot.{Mark, Plot, laidMarks}
 use Rattle.hpgl.specs.Valid.{Valid}
 use Rattle.basics.specs.declared.places.Frame.{Frame}
 use Rattle.basics.specs.Hand.{frameOf}

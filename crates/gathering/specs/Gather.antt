@@ -21,8 +21,8 @@ use Rattle.hpgl.specs.declared.Drawn.{Drawn}
 use Rattle.hpgl.specs.declared.Drawn.the-variants as drawn
 use Rattle.hpgl.specs.Numbers.{listFull}
 use Rattle.hpgl.specs.Machine.{waiting}
-use Rattle.hpgl.specs.Feed.{Feed, feedFrom}
-use Rattle.hpgl.specs.Plot.{Mark, stroke, refusal, Plot, plotFrom, laidMarks}
+use Rattle.feeding.specs.Feed.{Feed, feedFrom}
+use Rattle.feeding.specs.Plot.{Mark, stroke, refusal, Plot, plotFrom, laidMarks}
 use Rattle.gathering.specs.declared.Stopped.{Stopped}
 
 abbrev pub stoppedAs : State → ℕ → ℕ → ℕ → Stopped

@@ -7,12 +7,12 @@ use native.Mathlib.Omega.{arith}
 use Rattle.hpgl.specs.declared.State.{State}
 use Rattle.hpgl.specs.declared.Drawn.{Drawn}
 use Rattle.hpgl.specs.declared.Drawn.the-variants as drawn
-use Rattle.hpgl.specs.Numbers.{listFull}
+use Rattle.feeding.specs.DrawOff.{listFull}
 use Rattle.hpgl.specs.Machine.{waiting, takeState, takeNumber, drawState, drawAnswer}
-use Rattle.hpgl.specs.Feed as F
-use Rattle.hpgl.specs.FeedLaws as feed
-use Rattle.hpgl.specs.Plot.{refusal, stop, store, drew}
-use Rattle.hpgl.specs.PlotLaws as plot
+use Rattle.feeding.specs.Feed as F
+use Rattle.feeding.specs.FeedLaws as feed
+use Rattle.feeding.specs.Plot.{refusal, stop, store, drew}
+use Rattle.feeding.specs.PlotLaws as plot
 use Rattle.gathering.specs.Gather.{marked, gatherFrom}
 
 -- ---- one step

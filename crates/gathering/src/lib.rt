@@ -7,7 +7,7 @@ ghost use Rattle.sines.specs.Table as T;
 ghost use Rattle.hpgl.specs.declared.Work.the-variants.{Chords};
 ghost use Rattle.hpgl.specs.Machine.{waiting};
 ghost use Rattle.hpgl.specs.Machine as M;
-ghost use Rattle.hpgl.specs.Plot.{refusal};
+ghost use Rattle.feeding.specs.Plot.{refusal};
 ghost use Rattle.hpgl.specs.Valid.{Valid, ValidAction};
 ghost use Rattle.gathering.specs.Gather as S;
 ghost use Rattle.gathering.specs.Far as F;

@@ -1,5 +1,5 @@
 -- The numbers of document 01: its refusals ("Causes and numbers") and its bounds, each named once. Those of reading stand in the crate reader, those of
--- the plane (a location's range, the largest chord angle) in clip and plane, the range of 16 bits in exact.
+-- the plane (a location's range, the largest chord angle) in clip and plane, the range of 16 bits in exact, that of a full list in feeding.
 use Prim.Native.Nat.{ℕ, _+_}
 -- ---- "Causes and numbers"
 
@@ -21,10 +21,6 @@ badLimits = 10
 -- take while a segment waits
 abbrev pub busy : ℕ
 busy = 20
-
--- feed: list full
-abbrev pub listFull : ℕ
-listFull = 21
 
 -- ---- "Bytes, at most 1024: 2 for PM0 and PM1, 9 for each point, 2 when the point is the first of a PU or PD that itself changed the pen"; "49 bytes by definition"
 

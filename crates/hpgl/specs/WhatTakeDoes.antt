@@ -1,9 +1,8 @@
--- The calls fresh, take and feed, pinned by document 01's numbers and words: for every machine that the calls make and every byte, take answers the number of Refusals.antt
+-- The calls fresh, take and look, pinned by document 01's numbers and words: for every machine that the calls make and every byte, take answers the number of Refusals.antt
 -- and changes what Effects.antt names, and nothing else. Why: a byte that is taken means an event of the sixteen, and of events it is proved rule by rule.
 use mathlib.Core.Path.{_≡_, refl, ap}
 use mathlib.Core.Bool.{Bool, false, cond}
-use mathlib.Core.List.{List}
-use Prim.Native.Nat.{ℕ, _<_}
+use Prim.Native.Nat.{ℕ}
 use borrow.Author.Tests.{eq-eqb, ne-eqb}
 use lib.Dec.{eqb}
 use lib.IntN.{pos}
@@ -17,8 +16,6 @@ use Rattle.hpgl.specs.declared.State.{State}
 use Rattle.hpgl.specs.Place.{point, location, restAt}
 use Rattle.hpgl.specs.Rules.{freshSettings, noPolygon, freshCarriage, freshCore}
 use Rattle.hpgl.specs.Machine.{rect, freshState, freshNumber, waiting, readerAfter, applied, acted, takeState, takeNumber, lookAt}
-use Rattle.hpgl.specs.Feed.{stop, feedFrom}
-use Rattle.hpgl.specs.FeedLaws.{at-full}
 use Rattle.hpgl.specs.Made.{Made}
 use Rattle.hpgl.specs.Valid.{ValidEvent, ValidSettings}
 use Rattle.hpgl.specs.ValidFacts.{axis-bounds-x, axis-bounds-y}
@@ -130,8 +127,3 @@ pub look-is : (m : State) → let c = m .core in let l = lookAt m in
     (l .location ≡ location (c .settings) (c .carriage .position)) × (l .pen ≡ c .carriage .pen .number) × (l .down ≡ c .carriage .pen .down) × (l .bytes ≡ c .carriage .polygon .bytes)
 unfolding lookAt
 look-is m = (refl, refl, refl, refl)
-
--- ---- Feed: "While a segment waits, draw if the list has a free record, else stop with 21"
-
-pub full-is-21 : (m : State) (bytes : List ℕ) (taken : ℕ) → 0 < waiting (m .work) → feedFrom m bytes taken 0 ≡ stop m taken 21
-full-is-21 m bytes taken h = at-full m bytes taken h

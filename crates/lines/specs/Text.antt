@@ -1,42 +1,15 @@
 -- The lines that the program strokes prints (document 01, at the end of "Checked figures"), as lists of ASCII codes.
 use mathlib.Core.Bool.{cond}
 use mathlib.Core.List.{List, [], _∷_, _++_}
-use mathlib.Core.Path.{_≡_}
 use Prim.Native.Char.{code}
-use Prim.Native.Nat.{ℕ, zero, suc, _+_, _*_, _/_, _%_, _^_, _≤_}
-use lib.Dec.{ltb}
-use lib.IntN.{ℤ, pos, negsuc, natAbs}
-use lib.ListN.{length, getD}
-use lib.Seq.{sets}
+use Prim.Native.Nat.{ℕ, zero, suc, _+_, _*_, _%_, _^_}
+use lib.IntN.{ℤ, pos, natAbs}
+use lib.ListN.{getD}
 use Rattle.exact.specs.Whole.{_≡?_}
+use Rattle.decimals.specs.Decimal.{natural, whole}
 
 abbrev pub lineEnd : ℕ
 lineEnd = 10
-
--- the code of a digit
-abbrev pub digit : ℕ → ℕ
-digit d = code "0" + d
-
--- the digits of n, of which there are at most k, the first no zero
-unfoldable pub digitsWithin : ℕ → ℕ → List ℕ
-digitsWithin zero n = []
-digitsWithin (suc k) n = cond (ltb n 10) (digit n ∷ []) (digitsWithin k (n / 10) ++ (digit (n % 10) ∷ []))
-
--- n has at most n + 1 digits
-unfoldable pub decimal : ℕ → List ℕ
-decimal n = digitsWithin (suc n) n
-
--- a number that is not below 0, and the byte after it
-unfoldable pub natural : ℕ → ℕ → List ℕ
-natural n byte = decimal n ++ (byte ∷ [])
-
-abbrev pub sign : ℤ → List ℕ
-sign (pos n) = []
-sign (negsuc n) = code "-" ∷ []
-
--- any number, and the byte after it
-unfoldable pub whole : ℤ → ℕ → List ℕ
-whole z byte = sign z ++ natural (natAbs z) byte
 
 -- "prints pen, x0, y0, x1, y1 a line"
 unfoldable pub strokeText : ℤ → ℤ → ℤ → ℤ → ℤ → List ℕ
@@ -68,9 +41,3 @@ marksBelow before numbers (suc k) = marksBelow before numbers k ++ markAt before
 -- a line has at most so many bytes: five numbers of at most 20, each with a byte after it
 abbrev pub longest : ℕ
 longest = 105
-
--- the text stands in the list from a place on, and ends before another; the rest of the list is as before
-pub record Puts (text before after : List ℕ) (at end : ℕ) : Type 0 where
-  pub ends : end ≡ at + length text
-  pub room : end ≤ length before
-  pub list : after ≡ sets before at text

@@ -2,8 +2,8 @@
 use Prim.Native.Nat.{ℕ}
 use lib.ListN.{length}
 use Rattle.hpgl.specs.declared.State.{State}
-use Rattle.hpgl.specs.Feed.{Feed}
-use Rattle.hpgl.specs.Plot.{Plot}
+use Rattle.feeding.specs.Feed.{Feed}
+use Rattle.feeding.specs.Plot.{Plot}
 use Rattle.gathering.specs.declared.Stopped.{Stopped}
 use Rattle.machine.specs.declared.Gathered.{Gathered}
 

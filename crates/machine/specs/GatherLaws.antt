@@ -5,8 +5,8 @@ use Prim.Native.Nat.{ℕ}
 use lib.IntN.{ℤ, pos}
 use lib.ListN.{length-map}
 use Rattle.hpgl.specs.declared.Stroke.{Stroke}
-use Rattle.hpgl.specs.Feed as F
-use Rattle.hpgl.specs.Plot.{stroke, numbersOf, laidMarks}
+use Rattle.feeding.specs.Feed as F
+use Rattle.feeding.specs.Plot.{stroke, numbersOf, laidMarks}
 use Rattle.gathering.specs.Gather.{marked}
 use Rattle.machine.specs.Gather.{gatheredAs, gatheredOf, plottedOf}
 

@@ -12,10 +12,10 @@ use lib.Seq.{getD-drop}
 use Rattle.hpgl.specs.declared.State.{State}
 use Rattle.hpgl.specs.Machine.{waiting, takeState, takeNumber}
 use Rattle.hpgl.specs.Made.{Made, take}
-use Rattle.hpgl.specs.Numbers.{listFull}
-use Rattle.hpgl.specs.Feed.{Feed, feedFrom}
-use Rattle.hpgl.specs.FeedLaws.{at-end, at-byte, at-refused, at-full}
-use Rattle.hpgl.specs.PartsOfFeed.{take-not-full}
+use Rattle.feeding.specs.DrawOff.{listFull}
+use Rattle.feeding.specs.Feed.{Feed, feedFrom}
+use Rattle.feeding.specs.FeedLaws.{at-end, at-byte, at-refused, at-full}
+use Rattle.feeding.specs.PartsOfFeed.{take-not-full}
 use Rattle.machine.specs.declared.Ran.{Ran}
 use Rattle.machine.specs.Run.{ranOf, runOf}
 

@@ -14,11 +14,11 @@ use Rattle.hpgl.specs.declared.Stroke.{Stroke}
 use Rattle.hpgl.specs.declared.Drawn.{Drawn}
 use Rattle.hpgl.specs.declared.Drawn.the-variants as drawn
 use Rattle.hpgl.specs.Machine.{waiting, takeState, takeNumber, drawState, drawAnswer}
-use Rattle.hpgl.specs.Numbers.{listFull}
-use Rattle.hpgl.specs.FeedLaws.{draw-less}
-use Rattle.hpgl.specs.Plot.{Mark, stroke, refusal, Plot, stop, drew, took, drawOff, takeOn, plotFrom, numbersOf}
+use Rattle.feeding.specs.DrawOff.{listFull}
+use Rattle.feeding.specs.FeedLaws.{draw-less}
+use Rattle.feeding.specs.Plot.{Mark, stroke, refusal, Plot, stop, drew, took, drawOff, takeOn, plotFrom, numbersOf}
 use Rattle.hpgl.specs.Valid.{Every, more}
-use Rattle.hpgl.specs.WhatMarksTell.{Told}
+use Rattle.feeding.specs.WhatMarksTell.{Told}
 use Rattle.lines.specs.Text.{strokeText, refusalText, markAt, marksBelow}
 use Rattle.lines.specs.TextLaws.{mark-refusal, mark-stroke, stroke-some, refusal-some}
 use Rattle.plotting.specs.Printed.{strokeLine, drawnLine, byteLine, drawnLines, takenLine, printed}

@@ -7,7 +7,8 @@ use lib.ListN.{length, getD, drop}
 use Rattle.hpgl.specs.Made.{Made}
 use Rattle.machine.specs.declared.Machine.{Machine}
 use Rattle.machine.specs.declared.Gathered.{Gathered}
-use Rattle.lines.specs.Text.{longest, Puts}
+use Rattle.lines.specs.Text.{longest}
+use Rattle.decimals.specs.Puts.{Puts}
 use Rattle.plotting.specs.declared.Plot.{Plot}
 use Rattle.plotting.specs.Printed.{printed}
 

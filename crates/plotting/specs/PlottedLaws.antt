@@ -12,16 +12,16 @@ use lib.Seq.{getD-drop, drop-length}
 use Rattle.clip.specs.declared.Rect.{Rect}
 use Rattle.hpgl.specs.Machine.{freshState, waiting}
 use Rattle.hpgl.specs.Made.{Made, fresh}
-use Rattle.hpgl.specs.Plot.{plotFrom, numbersOf}
-use Rattle.hpgl.specs.Plot.{Plot as Marked}
-use Rattle.hpgl.specs.PlotLaws.{plot-place, plot-made}
-use Rattle.hpgl.specs.WhatMarksTell.{plot-told}
+use Rattle.feeding.specs.Plot.{plotFrom, numbersOf}
+use Rattle.feeding.specs.Plot.{Plot as Marked}
+use Rattle.feeding.specs.PlotLaws.{plot-place, plot-made}
+use Rattle.feeding.specs.WhatMarksTell.{plot-told}
 use Rattle.machine.specs.declared.Machine.{Machine}
 use Rattle.machine.specs.declared.Started.{Started}
 use Rattle.machine.specs.Calls.{startedOf}
 use Rattle.machine.specs.Gather.{plottedOf}
-use Rattle.lines.specs.Text.{marksBelow, Puts}
-use Rattle.lines.specs.TextLaws.{puts-nothing, puts-then}
+use Rattle.lines.specs.Text.{marksBelow}
+use Rattle.decimals.specs.Puts.{Puts, puts-nothing, puts-then}
 use Rattle.plotting.specs.declared.Plot.{Plot}
 use Rattle.plotting.specs.Printed.{printed}
 use Rattle.plotting.specs.Plotted.{begunOf, emptiedOf, movedOf, due, Ready, Plotted}

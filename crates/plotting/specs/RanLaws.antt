@@ -13,7 +13,7 @@ use Rattle.hpgl.specs.Machine.{waiting, freshState, freshNumber}
 use Rattle.machine.specs.declared.Machine.{Machine}
 use Rattle.machine.specs.declared.Started.{Started}
 use Rattle.machine.specs.Calls.{startedOf}
-use Rattle.lines.specs.Text.{Puts}
+use Rattle.decimals.specs.Puts.{Puts}
 use Rattle.plotting.specs.declared.Plot.{Plot}
 use Rattle.plotting.specs.declared.files.Finished.{Finished}
 use Rattle.plotting.specs.declared.files.End.the-variants.{Refused, Undelivered}

@@ -5,7 +5,7 @@ use Prim.Native.Nat.{ℕ, _+_}
 use lib.Dec.{eqb}
 use lib.ListN.{take, drop}
 use Rattle.hpgl.specs.declared.Stroke.{Stroke}
-use Rattle.hpgl.specs.Feed.{feedOf}
+use Rattle.feeding.specs.Feed.{feedOf}
 use Rattle.drive.specs.Drive.{endsEqualOf}
 use Rattle.feed.specs.declared.Listed.{Listed}
 use Rattle.feed.specs.Fed.{listedOf}

@@ -11,7 +11,7 @@ use lib.ListN.{length, take, drop, getD, length-drop}
 use lib.Seq.{take-suc, getD-drop}
 use Rattle.hpgl.specs.declared.Stroke.{Stroke}
 use Rattle.hpgl.specs.Made.{Made}
-use Rattle.hpgl.specs.FeedLaws.{feed-made, feed-place}
+use Rattle.feeding.specs.FeedLaws.{feed-made, feed-place}
 use Rattle.drive.specs.Drive.{endsEqualOf}
 use Rattle.preview.specs.declared.strokes.Drawing.{Drawing}
 use Rattle.preview.specs.Drawing.{dotCount, dotsOf, stepOf}

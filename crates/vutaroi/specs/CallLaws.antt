@@ -18,10 +18,10 @@ use Rattle.hpgl.specs.Values.{stroke, seen, drawnValues, lookValues}
 use Rattle.hpgl.specs.declared.State.{State}
 use Rattle.hpgl.specs.Machine.{freshState, takeState, drawState}
 use Rattle.hpgl.specs.Made.{Made, fresh, take, draw}
-use Rattle.hpgl.specs.Feed.{feedOf}
-use Rattle.hpgl.specs.FeedLaws.{feed-made}
-use Rattle.hpgl.specs.Plot.{plotFrom}
-use Rattle.hpgl.specs.PlotLaws.{plot-made}
+use Rattle.feeding.specs.Feed.{feedOf}
+use Rattle.feeding.specs.FeedLaws.{feed-made}
+use Rattle.feeding.specs.Plot.{plotFrom}
+use Rattle.feeding.specs.PlotLaws.{plot-made}
 use Rattle.saved.specs.Saved.{savedOf, loadedOf}
 use Rattle.saved.specs.SavedLaws.{Held, held-made}
 use Rattle.vutaroi.specs.Calls.{drawnKind, strokeRow, drawnNumbers, toldDraw, lookRow, lookNumbers, toldLook}

@@ -10,8 +10,8 @@ use Rattle.hpgl.specs.declared.Drawn.{Drawn}
 use Rattle.hpgl.specs.declared.Drawn.the-variants as drawn
 use Rattle.hpgl.specs.declared.Look.{Look}
 use Rattle.hpgl.specs.Values.{Out, stroke, hidden, idle, seen}
-use Rattle.hpgl.specs.Feed.{Feed}
-use Rattle.hpgl.specs.Plot.{Plot}
+use Rattle.feeding.specs.Feed.{Feed}
+use Rattle.feeding.specs.Plot.{Plot}
 
 -- a draw, by number
 unfoldable pub drawnKind : Drawn → ℕ

@@ -7,7 +7,7 @@ fn record(s: Stroke) -> Record {
     [i64::from(s.pen), s.x0, s.y0, s.x1, s.y1]
 }
 
-/// Plot in terms of take and draw, as `crates/hpgl/specs/Plot.antt` defines it: while a segment
+/// Plot in terms of take and draw, as `crates/feeding/specs/Plot.antt` defines it: while a segment
 /// waits, draw; when idle, take the next byte. Both first ask for a free record, else 21.
 fn plot(machine: &mut Machine, bytes: &[u8], records: &mut [Record]) -> Fed {
     let mut fed = Fed::default();

@@ -3,7 +3,8 @@ use borrow.Author.Needs.{needs}
 use mathlib.Core.Path.{sym}
 use native.Mathlib.Omega.{arith}
 use lib.Seq.{length-take-le}
-use Rattle.lines.specs.TextLaws.{natural-length, puts-length}
+use Rattle.decimals.specs.DecimalLaws.{natural-length}
+use Rattle.decimals.specs.Puts.{puts-length}
 use Rattle.desk.proofs.say_natural.Statement.{statement}
 use Rattle.desk.proofs.say_natural.Tie as tie
 

@@ -5,7 +5,8 @@ use native.Mathlib.Omega.{arith}
 use lib.Seq.{length-take-le}
 use mir.Syntax.{w64}
 use Rattle.exact.specs.Fit.{arg}
-use Rattle.lines.specs.TextLaws.{whole-length, puts-length}
+use Rattle.decimals.specs.DecimalLaws.{whole-length}
+use Rattle.decimals.specs.Puts.{puts-length}
 use Rattle.desk.proofs.say_whole.Statement.{statement}
 use Rattle.desk.proofs.say_whole.Tie as tie
 

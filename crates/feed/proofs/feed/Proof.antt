@@ -56,29 +56,30 @@ use denote.Triple.Walked.{says, needs, Stays, stay-none, stay-none-slice, stay-s
 use denote.Exit.{yes}
 use borrow.Table.OneValue.{part-in, part-out}
 use Rattle.hpgl.specs.declared.Stroke.{Stroke}
-use Rattle.hpgl.specs.Feed.{feedOf, laid}
+use Rattle.feeding.specs.Feed.{feedOf, laid}
 use Rattle.hpgl.specs.Made.{Made}
 use Rattle.hpgl.proofs.Stroke as St
 use Rattle.hpgl.proofs.Stroke.Laws as St′
 use Rattle.machine.specs.declared.Machine.{Machine}
 use Rattle.machine.proofs.Machine as Mc
 use Rattle.machine.proofs.Machine.Laws as Mc′
-use Rattle.feed.specs.declared.Fed.{Fed}
-use Rattle.feed.specs.declared.Batch.{Batch}
-use Rattle.feed.specs.Fed.{fedOf, start, Batched}
-use Rattle.feed.specs.Records.{noStroke}
-use Rattle.feed.proofs.Fed as Fd
-use Rattle.feed.proofs.Fed.Laws as Fd′
-use Rattle.feed.proofs.Batch as Bt
-use Rattle.feed.proofs.Batch.Laws as Bt′
-use Rattle.feed.proofs.begin as begin
-use Rattle.feed.proofs.begin.Symbol as begin-def
-use Rattle.feed.proofs.begin.Symbol.{name as #feed·begin}
-use Rattle.feed.proofs.begin.Met as begin-thm
-use Rattle.feed.proofs.next_batch as next-batch
-use Rattle.feed.proofs.next_batch.Symbol as next-batch-def
-use Rattle.feed.proofs.next_batch.Symbol.{name as #feed·next-batch}
-use Rattle.feed.proofs.next_batch.Met as next-batch-thm
+use Rattle.batches.specs.declared.Fed.{Fed}
+use Rattle.batches.specs.declared.Batch.{Batch}
+use Rattle.feed.specs.Fed.{fedOf}
+use Rattle.batches.specs.Batches.{begun, Batched}
+use Rattle.batches.specs.Records.{noStroke}
+use Rattle.batches.proofs.Fed as Fd
+use Rattle.batches.proofs.Fed.Laws as Fd′
+use Rattle.batches.proofs.Batch as Bt
+use Rattle.batches.proofs.Batch.Laws as Bt′
+use Rattle.batches.proofs.begin as begin
+use Rattle.batches.proofs.begin.Symbol as begin-def
+use Rattle.batches.proofs.begin.Symbol.{name as #batches·begin}
+use Rattle.batches.proofs.begin.Met as begin-thm
+use Rattle.batches.proofs.next_batch as next-batch
+use Rattle.batches.proofs.next_batch.Symbol as next-batch-def
+use Rattle.batches.proofs.next_batch.Symbol.{name as #batches·next-batch}
+use Rattle.batches.proofs.next_batch.Met as next-batch-thm
 use Rattle.feed.proofs.feed.Key.{name as #feed·feed}
 use Rattle.feed.proofs.feed as feed
 use Rattle.feed.proofs.feed.Statement as stated
@@ -256,7 +257,7 @@ module _ {M : Type 1} (𝓤 : URA M) (H : Heap 𝓤) (A : Atoms 𝓤) (W : Given
       qed W [] ∵ nothing ! $ owned ! Mc.the-row (Is Mc.the-row) (LL.makes Mc.the-type Mc′.the-plain 𝓤 H A) m _ is-m $ fjoin ! $ nothing ! $ join ! $ frame ! $ done !
 
   abbrev Begun : Batch → Type 0
-  Begun b = (b .fed ≡ start m) × ((b .count ≡ 0) × (b .more ≡ true))
+  Begun b = b ≡ begun m
 
   said-begin : (b : Batch) → ent 𝓤 (ensured 𝓤 H A begin.ended (begin.clauses 𝓤 H A mem run) tt (m, tt) tt b) (fact 𝓤 (Begun b))
   said-begin b = exE 𝓤 _ (λ ws. snd∗ 𝓤 (sem 𝓤 H A (lasts begin.ended tt (m, tt) ws)) (fact 𝓤 (Begun b)))
@@ -275,7 +276,7 @@ module _ {M : Type 1} (𝓤 : URA M) (H : Heap 𝓤) (A : Atoms 𝓤) (W : Given
   said-batch : (f : Fed) (b : Batch) → ent 𝓤 (ensured 𝓤 H A next-batch.ended (next-batch.clauses 𝓤 H A mem run) (κ, tt) (f, (d, (n, tt))) tt b) (fact 𝓤 (Batched bs n f b))
   said-batch f b = exE 𝓤 _ (λ ws. snd∗ 𝓤 (sem 𝓤 H A (lasts next-batch.ended (κ, tt) (f, (d, (n, tt))) ws)) (fact 𝓤 (Batched bs n f b)))
 
-  module _ (𝓣 : Tables 𝓤 H) (known-begin : Triple 𝓤 (𝓣 .C #feed·begin) (Begins 𝓤 H A mem run)) (known-batch : Triple 𝓤 (𝓣 .C #feed·next-batch) (Nexts 𝓤 H A mem run)) (is-m : Is Mc.the-row m (machine-val m ∷ [])) (made : Made (m .state)) (room : Room R n) (l₀ l₁ l₂ l₃ l₄ l₅ l₆ l₇ l₈ l₉ l₁₀ l₁₁ l₁₂ l₁₃ l₁₄ l₁₅ l₁₆ : ℕ) where
+  module _ (𝓣 : Tables 𝓤 H) (known-begin : Triple 𝓤 (𝓣 .C #batches·begin) (Begins 𝓤 H A mem run)) (known-batch : Triple 𝓤 (𝓣 .C #batches·next-batch) (Nexts 𝓤 H A mem run)) (is-m : Is Mc.the-row m (machine-val m ∷ [])) (made : Made (m .state)) (room : Room R n) (l₀ l₁ l₂ l₃ l₄ l₅ l₆ l₇ l₈ l₉ l₁₀ l₁₁ l₁₂ l₁₃ l₁₄ l₁₅ l₁₆ : ℕ) where
     abbrev C : Calls 𝓤 H
     C = 𝓣 .C
 
@@ -442,7 +443,7 @@ module _ {M : Type 1} (𝓤 : URA M) (H : Heap 𝓤) (A : Atoms 𝓤) (W : Given
         keep ! (1 ∷ 0 ∷ 6 ∷ 7 ∷ 31 ∷ 28 ∷ 26 ∷ 24 ∷ 22 ∷ 20 ∷ 18 ∷ 16 ∷ 14 ∷ 12 ∷ 10 ∷ 8 ∷ 37 ∷ 35 ∷ 33 ∷ 39 ∷ 2 ∷ 3 ∷ 4 ∷ 40 ∷ 38 ∷ 36 ∷ 34 ∷ 32 ∷ 30 ∷ 29 ∷ 27 ∷ 25 ∷ 23 ∷ 21 ∷ 19 ∷ 17 ∷ 15 ∷ 13 ∷ 11 ∷ 9 ∷ []) $
         by ! (loops b is e)))))
 
-  walk : (𝓣 : Tables 𝓤 H) → Triple 𝓤 (𝓣 .C #feed·begin) (Begins 𝓤 H A mem run) → Triple 𝓤 (𝓣 .C #feed·next-batch) (Nexts 𝓤 H A mem run) → Is Mc.the-row m (machine-val m ∷ []) → Is (ShrSlice (named 0) κ u8) d (vb ∷ []) → Made (m .state) → Room R n
+  walk : (𝓣 : Tables 𝓤 H) → Triple 𝓤 (𝓣 .C #batches·begin) (Begins 𝓤 H A mem run) → Triple 𝓤 (𝓣 .C #batches·next-batch) (Nexts 𝓤 H A mem run) → Is Mc.the-row m (machine-val m ∷ []) → Is (ShrSlice (named 0) κ u8) d (vb ∷ []) → Made (m .state) → Room R n
       → ent 𝓤 (onEntry 𝓤 H A feed.signature (κ, (κ′, tt)) (q, (q′, tt)) a vals) (WpFn 𝓤 H (𝓣 .C) (𝓣 .Λ) fn (machine-val m ∷ vb ∷ vo ∷ []) Post)
   walk 𝓣 known-begin known-batch is-m is-d made room =
       qed W ((‵ (flft κ q) ⊛ ‵ (flft κ′ q′) ⊛ ‵ ftrue) ∷ ‵ (owns (Mc.the-row ∷ ShrSlice (named 0) κ u8 ∷ MutSlice (named 1) κ′ R ∷ []) a vals) ∷ []) ∵
@@ -452,7 +453,7 @@ module _ {M : Type 1} (𝓤 : URA M) (H : Heap 𝓤) (A : Atoms 𝓤) (W : Given
       pass1 ! (init ! 26 refl (tt, (tt, (record { fits = room .0 }, tt)))) $ pass0 ! $
       by ! (begins 𝓣 known-begin known-batch is-m made room l₀ l₁ l₂ l₃ l₄ l₅ l₆ l₇ l₈ l₉ l₁₀ l₁₁ l₁₂ l₁₃ l₁₄ l₁₅ l₁₆))))))))))))))))))
 
-module _ {M : Type 1} (𝓤 : URA M) (H : Heap 𝓤) (A : Atoms 𝓤) (W : Given 𝓤 H A) (mem : Memory → SProp 𝓤) (run : Routine → Fun 𝓤) (𝓣 : Tables 𝓤 H) (known-begin : Triple 𝓤 (𝓣 .C #feed·begin) (Begins 𝓤 H A mem run)) (known-batch : Triple 𝓤 (𝓣 .C #feed·next-batch) (Nexts 𝓤 H A mem run)) where
+module _ {M : Type 1} (𝓤 : URA M) (H : Heap 𝓤) (A : Atoms 𝓤) (W : Given 𝓤 H A) (mem : Memory → SProp 𝓤) (run : Routine → Fun 𝓤) (𝓣 : Tables 𝓤 H) (known-begin : Triple 𝓤 (𝓣 .C #batches·begin) (Begins 𝓤 H A mem run)) (known-batch : Triple 𝓤 (𝓣 .C #batches·next-batch) (Nexts 𝓤 H A mem run)) where
   feed-walks : Walks 𝓤 H A feed.ended stayed (WpFn 𝓤 H (𝓣 .C) (𝓣 .Λ) fn) (feed.clauses 𝓤 H A mem run)
   feed-walks = walked 𝓤 H A feed.ended stayed (feed.clauses 𝓤 H A mem run) (WpFn 𝓤 H (𝓣 .C) (𝓣 .Λ) fn)
       (λ κs. (LL.vals Mc.the-type Mc′.the-laws, (slice-vals, (slice-vals, tt)))) (λ κs. (LL.tells Mc.the-type Mc′.the-laws, (shr-slice-tells (named 0) (κs .0) u8, (mut-slice-tells (named 1) (κs .1 .0) R, tt))))
@@ -471,5 +472,5 @@ feed-spec 𝓤 H 𝓜 𝓖 𝓡 =
     entered 𝓤 H (tripleOf 𝓤 H (𝓖 .A) feed.signature (feed.spec 𝓤 H (𝓖 .A) (𝓜 .mem) (𝓡 .run)))
     (tables 𝓤 H 𝓜 𝓡 code.env .C) (tables 𝓤 H 𝓜 𝓡 code.env .Λ) #feed·feed code.function (code.unfolded 𝓤 H 𝓜 𝓡)
     (feed-meets 𝓤 H (𝓖 .A) (givenOf 𝓤 H 𝓜 𝓖) (𝓜 .mem) (𝓡 .run) (tablesOf 𝓤 H 𝓜 (tables 𝓤 H 𝓜 𝓡 code.env))
-    (cited 𝓤 H (Begins 𝓤 H (𝓖 .A) (𝓜 .mem) (𝓡 .run)) 𝓜 𝓡 code.env #feed·begin begin-def.routine code.calls-feed·begin (begin-thm.met 𝓤 H 𝓜 𝓖 𝓡))
-    (cited 𝓤 H (Nexts 𝓤 H (𝓖 .A) (𝓜 .mem) (𝓡 .run)) 𝓜 𝓡 code.env #feed·next-batch next-batch-def.routine code.calls-feed·next-batch (next-batch-thm.met 𝓤 H 𝓜 𝓖 𝓡)))
+    (cited 𝓤 H (Begins 𝓤 H (𝓖 .A) (𝓜 .mem) (𝓡 .run)) 𝓜 𝓡 code.env #batches·begin begin-def.routine code.calls-batches·begin (begin-thm.met 𝓤 H 𝓜 𝓖 𝓡))
+    (cited 𝓤 H (Nexts 𝓤 H (𝓖 .A) (𝓜 .mem) (𝓡 .run)) 𝓜 𝓡 code.env #batches·next-batch next-batch-def.routine code.calls-batches·next-batch (next-batch-thm.met 𝓤 H 𝓜 𝓖 𝓡)))

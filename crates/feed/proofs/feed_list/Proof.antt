@@ -50,24 +50,25 @@ use denote.Triple.Walked.{says, Stays, stay-none, stay-none-slice, walkOf, goes-
 use denote.Exit.{yes}
 use borrow.Table.OneValue.{part-in, part-out}
 use Rattle.hpgl.specs.declared.Stroke.{Stroke}
-use Rattle.hpgl.specs.Feed.{feedOf, laid}
+use Rattle.feeding.specs.Feed.{feedOf, laid}
 use Rattle.hpgl.specs.Made.{Made}
 use Rattle.hpgl.proofs.Stroke as St
 use Rattle.hpgl.proofs.Stroke.Laws as St′
 use Rattle.machine.specs.declared.Machine.{Machine}
 use Rattle.machine.proofs.Machine as Mc
 use Rattle.machine.proofs.Machine.Laws as Mc′
-use Rattle.feed.specs.Fed.{fedOf, listedOf, blanks}
-use Rattle.feed.specs.declared.Fed.{Fed}
+use Rattle.feed.specs.Fed.{fedOf, listedOf}
+use Rattle.batches.specs.Batches.{blanks}
+use Rattle.batches.specs.declared.Fed.{Fed}
 use Rattle.feed.specs.declared.Listed.{Listed}
-use Rattle.feed.proofs.Fed as Fd
-use Rattle.feed.proofs.Fed.Laws as Fd′
+use Rattle.batches.proofs.Fed as Fd
+use Rattle.batches.proofs.Fed.Laws as Fd′
 use Rattle.feed.proofs.Listed as Ls
 use Rattle.feed.proofs.Listed.Laws as Ls′
-use Rattle.feed.proofs.blank as blank
-use Rattle.feed.proofs.blank.Symbol as blank-def
-use Rattle.feed.proofs.blank.Symbol.{name as #feed·blank}
-use Rattle.feed.proofs.blank.Met as blank-thm
+use Rattle.batches.proofs.blank as blank
+use Rattle.batches.proofs.blank.Symbol as blank-def
+use Rattle.batches.proofs.blank.Symbol.{name as #batches·blank}
+use Rattle.batches.proofs.blank.Met as blank-thm
 use Rattle.feed.proofs.feed as feed
 use Rattle.feed.proofs.feed.Symbol as feed-def
 use Rattle.feed.proofs.feed.Symbol.{name as #feed·feed}
@@ -225,7 +226,7 @@ module _ {M : Type 1} (𝓤 : URA M) (H : Heap 𝓤) (A : Atoms 𝓤) (W : Given
     says-of r zs f e len answer stored =
         (λ i. both (stored i) (answer i)) ∙ (λ i. both (laid (feedOf (m .state) bs (len i) .strokes) (e i)) (fedOf (feedOf (m .state) bs (len i))))
 
-    module _ (C : Calls 𝓤 H) (Λ : Loops 𝓤 H) (fm : FmC 𝓤 H (W .laws) C) (known-blank : Triple 𝓤 (C #feed·blank) (Blank 𝓤 H A mem run)) (known-feed : Triple 𝓤 (C #feed·feed) (Feed 𝓤 H A mem run)) where
+    module _ (C : Calls 𝓤 H) (Λ : Loops 𝓤 H) (fm : FmC 𝓤 H (W .laws) C) (known-blank : Triple 𝓤 (C #batches·blank) (Blank 𝓤 H A mem run)) (known-feed : Triple 𝓤 (C #feed·feed) (Feed 𝓤 H A mem run)) where
       module _ (l₀ l₁ l₂ l₃ l₄ l₅ l₆ l₇ : ℕ) where
         abbrev En : Env 𝓤 H
         En = (Ls′.mir, l₀) ∷ (machine-ty, l₁) ∷ (bytes-ty, l₂) ∷ (array-ty, l₃) ∷ (fed-ty, l₄) ∷ (array-ty, l₅) ∷ (lent-ty, l₆) ∷ (list-ty, l₇) ∷ []
@@ -286,7 +287,7 @@ module _ {M : Type 1} (𝓤 : URA M) (H : Heap 𝓤) (A : Atoms 𝓤) (W : Given
           pass1 ! (init ! 12 refl (LL.lawful Mc.the-type Mc′.the-laws 𝓤 H A W .typed m _ is-m .0)) $ pass1 ! (init ! 10 refl (shr-slice-lawful 𝓤 H A W (named 0) κ u8 .typed d (vb ∷ []) is-d .0)) $ pass0 ! $
           by ! (begins l₀ l₁ l₂ l₃ l₄ l₅ l₆ l₇)))))))))
 
-module _ {M : Type 1} (𝓤 : URA M) (H : Heap 𝓤) (A : Atoms 𝓤) (W : Given 𝓤 H A) (mem : Memory → SProp 𝓤) (run : Routine → Fun 𝓤) (𝓣 : Tables 𝓤 H) (known-blank : Triple 𝓤 (𝓣 .C #feed·blank) (Blank 𝓤 H A mem run)) (known-feed : Triple 𝓤 (𝓣 .C #feed·feed) (Feed 𝓤 H A mem run)) where
+module _ {M : Type 1} (𝓤 : URA M) (H : Heap 𝓤) (A : Atoms 𝓤) (W : Given 𝓤 H A) (mem : Memory → SProp 𝓤) (run : Routine → Fun 𝓤) (𝓣 : Tables 𝓤 H) (known-blank : Triple 𝓤 (𝓣 .C #batches·blank) (Blank 𝓤 H A mem run)) (known-feed : Triple 𝓤 (𝓣 .C #feed·feed) (Feed 𝓤 H A mem run)) where
   feed-list-walks : Walks 𝓤 H A feed-list.ended stayed (WpFn 𝓤 H (𝓣 .C) (𝓣 .Λ) fn) (feed-list.clauses 𝓤 H A mem run)
   feed-list-walks = walked 𝓤 H A feed-list.ended stayed (feed-list.clauses 𝓤 H A mem run) (WpFn 𝓤 H (𝓣 .C) (𝓣 .Λ) fn)
       (λ κs. (LL.vals Mc.the-type Mc′.the-laws, (slice-vals, tt))) (λ κs. (LL.tells Mc.the-type Mc′.the-laws, (shr-slice-tells (named 0) (κs .0) u8, tt)))
@@ -303,5 +304,5 @@ feed-list-spec 𝓤 H 𝓜 𝓖 𝓡 =
     entered 𝓤 H (tripleOf 𝓤 H (𝓖 .A) feed-list.signature (feed-list.spec 𝓤 H (𝓖 .A) (𝓜 .mem) (𝓡 .run)))
     (tables 𝓤 H 𝓜 𝓡 code.env .C) (tables 𝓤 H 𝓜 𝓡 code.env .Λ) #feed·feed-list code.function (code.unfolded 𝓤 H 𝓜 𝓡)
     (feed-list-meets 𝓤 H (𝓖 .A) (givenOf 𝓤 H 𝓜 𝓖) (𝓜 .mem) (𝓡 .run) (tablesOf 𝓤 H 𝓜 (tables 𝓤 H 𝓜 𝓡 code.env))
-    (cited 𝓤 H (Blank 𝓤 H (𝓖 .A) (𝓜 .mem) (𝓡 .run)) 𝓜 𝓡 code.env #feed·blank blank-def.routine code.calls-feed·blank (blank-thm.met 𝓤 H 𝓜 𝓖 𝓡))
+    (cited 𝓤 H (Blank 𝓤 H (𝓖 .A) (𝓜 .mem) (𝓡 .run)) 𝓜 𝓡 code.env #batches·blank blank-def.routine code.calls-batches·blank (blank-thm.met 𝓤 H 𝓜 𝓖 𝓡))
     (cited 𝓤 H (Feed 𝓤 H (𝓖 .A) (𝓜 .mem) (𝓡 .run)) 𝓜 𝓡 code.env #feed·feed feed-def.routine code.calls-feed·feed (feed-thm.met 𝓤 H 𝓜 𝓖 𝓡)))

@@ -38,7 +38,7 @@ use Rattle.hpgl.specs.declared.State.{State}
 use Rattle.hpgl.specs.declared.Stroke.{Stroke}
 use Rattle.hpgl.specs.Numbers.{mostEdges, polygonBytes}
 use Rattle.hpgl.specs.Pins.{pinned}
-use Rattle.hpgl.specs.Plot.{Plot, refusal}
+use Rattle.feeding.specs.Plot.{Plot, refusal}
 use Rattle.hpgl.specs.Place.{limits}
 use Rattle.hpgl.specs.Rules.{longer, refuse, actOn}
 use Rattle.hpgl.specs.Machine.{noEdge, waiting, stored, queued, readerAfter, drawAnswer}

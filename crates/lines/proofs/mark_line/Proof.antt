@@ -9,7 +9,8 @@ use mir.Val.{SFits}
 use denote.Ref.{now}
 use Rattle.exact.specs.Fit.{arg, m64, eq64-t, eq64-f}
 use Rattle.lines.specs.Text.{refusalText}
-use Rattle.lines.specs.TextLaws.{mark-refusal, mark-stroke, puts-same}
+use Rattle.lines.specs.TextLaws.{mark-refusal, mark-stroke}
+use Rattle.decimals.specs.Puts.{puts-same}
 use Rattle.lines.proofs.mark_line.Statement.{statement}
 use Rattle.lines.proofs.mark_line.Tie as tie
 

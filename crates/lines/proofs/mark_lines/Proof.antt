@@ -4,8 +4,8 @@ use Prim.Native.Nat.{_+_, _-_, _*_, _≤_}
 use native.Mathlib.Omega.{arith}
 use native.Mathlib.Numerals.{add-one}
 use denote.Ref.{now}
-use Rattle.lines.specs.Text.{marksBelow, longest, Puts}
-use Rattle.lines.specs.TextLaws.{puts-same, puts-nothing, puts-then, puts-length}
+use Rattle.lines.specs.Text.{marksBelow, longest}
+use Rattle.decimals.specs.Puts.{Puts, puts-same, puts-nothing, puts-then, puts-length}
 use Rattle.lines.proofs.mark_lines.Statement.{statement}
 use Rattle.lines.proofs.mark_lines.Tie as tie
 

@@ -3,7 +3,9 @@ use borrow.Author.Needs.{needs}
 use Prim.Native.Char.{code}
 use native.Mathlib.Omega.{arith}
 use Rattle.lines.specs.Text.{lineEnd, refusalText}
-use Rattle.lines.specs.TextLaws.{natural-length, refusal-length, puts-then}
+use Rattle.decimals.specs.DecimalLaws.{natural-length}
+use Rattle.lines.specs.TextLaws.{refusal-length}
+use Rattle.decimals.specs.Puts.{puts-then}
 use Rattle.lines.proofs.refusal_line.Statement.{statement}
 use Rattle.lines.proofs.refusal_line.Tie as tie
 

@@ -7,7 +7,8 @@ use lib.IntN.{ℤ, pos}
 use lib.ListN.{getD}
 use native.Mathlib.Omega.{arith}
 use denote.Ref.{now}
-use Rattle.lines.specs.Text.{lineEnd, whole, strokeText}
+use Rattle.lines.specs.Text.{lineEnd, strokeText}
+use Rattle.decimals.specs.Decimal.{whole}
 use Rattle.lines.specs.TextLaws.{Begun, begun, begun-more, begun-room}
 use Rattle.lines.proofs.stroke_line.Statement.{statement}
 use Rattle.lines.proofs.stroke_line.Tie as tie

@@ -6,7 +6,7 @@ use mathlib.Core.Path.{_≡_, refl, sym, _∙_}
 use Prim.Native.Nat.{ℕ, _+_, _-_, _*_, _≤_, _<_}
 use native.Mathlib.Omega.{arith}
 use lib.ListN.{length}
-use Rattle.lines.specs.TextLaws.{puts-length}
+use Rattle.decimals.specs.Puts.{puts-length}
 use Rattle.plotting.specs.Plotted.{Plotted, mostMarks}
 use Rattle.plotting.specs.PlottedLaws.{plotted-nothing, plotted-then}
 use Rattle.plotting.proofs.fill.Statement.{statement}

@@ -6,11 +6,11 @@ use native.Mathlib.Omega.{arith}
 use lib.Dec.{eqb}
 use lib.ListN.{length}
 use denote.Ref.{now}
-use Rattle.hpgl.specs.Plot.{Plot, laidMarks}
-use Rattle.hpgl.specs.PlotLaws.{plot-stored}
+use Rattle.feeding.specs.Plot.{Plot, laidMarks}
+use Rattle.feeding.specs.PlotLaws.{plot-stored}
 use Rattle.machine.specs.Gather.{plottedOf}
-use Rattle.lines.specs.Text.{marksBelow, Puts}
-use Rattle.lines.specs.TextLaws.{puts-same}
+use Rattle.lines.specs.Text.{marksBelow}
+use Rattle.decimals.specs.Puts.{Puts, puts-same}
 use Rattle.plotting.specs.Plotted.{movedOf, mostMarks}
 use Rattle.plotting.specs.PlotPrinted.{markLines}
 use Rattle.plotting.specs.PlottedLaws.{marked, marks-lines, steps}

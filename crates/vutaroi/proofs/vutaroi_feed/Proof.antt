@@ -6,8 +6,8 @@ use Prim.Native.Nat.{_/_}
 use lib.ListN.{length}
 use Rattle.rows.specs.Rows.{over}
 use Rattle.hpgl.specs.declared.State.{State}
-use Rattle.hpgl.specs.Feed.{Feed, feedOf, laidNumbers}
-use Rattle.hpgl.specs.FeedLaws.{feed-made}
+use Rattle.feeding.specs.Feed.{Feed, feedOf, laidNumbers}
+use Rattle.feeding.specs.FeedLaws.{feed-made}
 use Rattle.hpgl.specs.Made.{Made}
 use Rattle.machine.specs.declared.Gathered.{Gathered}
 use Rattle.machine.specs.Gather.{gatheredOf}

@@ -6,8 +6,8 @@ use Prim.Native.Nat.{_/_}
 use lib.ListN.{length}
 use Rattle.rows.specs.Rows.{over}
 use Rattle.hpgl.specs.declared.State.{State}
-use Rattle.hpgl.specs.Plot.{Plot, plotFrom, laidMarks}
-use Rattle.hpgl.specs.PlotLaws.{plot-made}
+use Rattle.feeding.specs.Plot.{Plot, plotFrom, laidMarks}
+use Rattle.feeding.specs.PlotLaws.{plot-made}
 use Rattle.hpgl.specs.Made.{Made}
 use Rattle.machine.specs.declared.Gathered.{Gathered}
 use Rattle.machine.specs.Gather.{plottedOf}

@@ -5,7 +5,7 @@
 --     left        counts down: a stroke is stored, or a batch follows that stores one or is the last
 use mathlib.Core.Path.{_≡_, refl, sym, ap, _∙_, subst}
 use mathlib.Core.Bool.{Bool, true, false}
-use mathlib.Core.List.{List, [], _++_, append-nil, append-assoc}
+use mathlib.Core.List.{List, _++_, append-nil, append-assoc}
 use Prim.Native.Nat.{ℕ, suc, _+_, _*_, _-_, _≤_, _<_}
 use native.Mathlib.Nat.{sub-zero}
 use native.Mathlib.Numerals.{add-one}
@@ -13,13 +13,13 @@ use native.Mathlib.Omega.{arith}
 use lib.ListN.{length, take, drop, set, getD, length-set, take-append-drop}
 use lib.Seq.{take-suc-set, drop-set-lt, drop-drop, append-snoc, length-take-le, slice, slice-empty, slice-cons}
 use Rattle.hpgl.specs.declared.Stroke.{Stroke}
-use Rattle.hpgl.specs.Feed.{Feed, feedOf, feedFrom, laid}
-use Rattle.hpgl.specs.PartsOfFeed.{storeAll}
+use Rattle.feeding.specs.Feed.{Feed, feedOf, feedFrom, laid}
+use Rattle.feeding.specs.PartsOfFeed.{storeAll}
 use Rattle.hpgl.specs.Made.{Made}
 use Rattle.machine.specs.declared.Machine.{Machine}
-use Rattle.feed.specs.declared.Fed.{Fed}
-use Rattle.feed.specs.declared.Batch.{Batch}
-use Rattle.feed.specs.Fed.{fedOf, start, goesOn, ended, rest, Batched}
+use Rattle.batches.specs.declared.Batch.{Batch}
+use Rattle.feed.specs.Fed.{fedOf}
+use Rattle.batches.specs.Batches.{begun, ended, rest, Batched}
 
 abbrev one-if : Bool → ℕ
 one-if true = 1
@@ -56,19 +56,20 @@ module _ (m : Machine) (bytes : List ℕ) (xs : List Stroke) where
     pub front : whole ≡ storeAll (take at ys ++ slice i (b .count) (b .list)) (after b)
     pub back : drop at ys ≡ drop at xs
 
-  pub far-start : (b : Batch) → Made (m .state) → (b .fed ≡ start m) × ((b .count ≡ 0) × (b .more ≡ true)) → Far b 0 0 xs
-  far-start b made e = record {
+  far-begun : Made (m .state) → Far (begun m) 0 0 xs
+  far-begun made = record {
     long = refl;
     here = omega arith;
-    held = omega (arith, e .1 .0);
-    place = ap (λ (k : ℕ). 0 + k) (e .1 .0) ∙ sym (ap (λ (f : Fed). f .stored + 0) (e .0));
-    room = subst (λ (f : Fed). f .stored ≤ length xs) (sym (e .0)) (omega arith);
-    made = subst (λ (f : Fed). Made (f .machine .state)) (sym (e .0)) made;
-    front = sym (
-        ap (λ (k : ℕ). storeAll (take k (b .list)) (after b)) (e .1 .0) ∙ ap (λ (z : Bool). storeAll [] (rest z bytes (length xs) (b .fed))) (e .1 .1)
-        ∙ ap (λ (f : Fed). goesOn bytes (length xs) f) (e .0) ∙ ap (λ (k : ℕ). feedFrom (m .state) bytes 0 k) (sub-zero (length xs)));
+    held = omega arith;
+    place = refl;
+    room = omega arith;
+    made = made;
+    front = sym (ap (λ (k : ℕ). feedFrom (m .state) bytes 0 k) (sub-zero (length xs)));
     back = refl;
   }
+
+  pub far-start : (b : Batch) → Made (m .state) → b ≡ begun m → Far b 0 0 xs
+  far-start b made e = subst (λ (c : Batch). Far c 0 0 xs) (sym e) (far-begun made)
 
   module _ (b : Batch) (i at : ℕ) (ys : List Stroke) (far : Far b i at ys) where
     module _ (d : Stroke) (size : length (b .list) ≡ 64) (more : i < b .count) where

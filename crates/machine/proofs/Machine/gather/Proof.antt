@@ -3,7 +3,7 @@ use borrow.Author.Needs.{needs}
 use mathlib.Core.Path.{ap, _∙_}
 use Prim.Native.Nat.{_/_}
 use lib.ListN.{length, drop}
-use Rattle.hpgl.specs.Feed.{feedFrom}
+use Rattle.feeding.specs.Feed.{feedFrom}
 use Rattle.hpgl.specs.ValidKept.{made-valid}
 use Rattle.gathering.specs.Gather.{gatherFrom}
 use Rattle.machine.specs.Gather.{gatheredBy}

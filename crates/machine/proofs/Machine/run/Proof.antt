@@ -5,7 +5,7 @@ use mathlib.Core.Path.{_≡_, sym, ap, _∙_}
 use mathlib.Core.Bool.{cond}
 use lib.Dec.{eqb}
 use lib.ListN.{drop}
-use Rattle.hpgl.specs.Numbers.{listFull}
+use Rattle.feeding.specs.DrawOff.{listFull}
 use Rattle.hpgl.specs.ValidKept.{made-valid}
 use Rattle.gathering.specs.declared.Stopped.{Stopped}
 use Rattle.gathering.specs.Gather.{gatherFrom}

@@ -5,7 +5,7 @@ use Prim.Native.Nat.{_≤_}
 use native.Mathlib.Omega.{arith}
 use lib.ListN.{length}
 use lib.Seq.{length-take-le}
-use Rattle.lines.specs.TextLaws.{puts-length}
+use Rattle.decimals.specs.Puts.{puts-length}
 use Rattle.plotting.specs.PlottedLaws.{Between, begins, empties, left, left-less}
 use Rattle.plotting.specs.RanLaws.{Midway, midway-first, midway-next, midway-again, leaves-part, leaves-all}
 use Rattle.plotting.proofs.files.deliver_block.Statement.{statement}

@@ -1,7 +1,7 @@
 -- The definition, case by case.
 use borrow.Author.Needs.{needs}
 use borrow.Author.Tests.{eq-eqb, ne-eqb}
-use Rattle.hpgl.specs.Numbers.{listFull}
+use Rattle.feeding.specs.DrawOff.{listFull}
 use Rattle.preview.specs.Refusals.{notedOf}
 use Rattle.preview.proofs.refusals.noted.Statement.{statement}
 use Rattle.preview.proofs.refusals.noted.Tie as tie

@@ -7,8 +7,8 @@ use native.Mathlib.Omega.{arith}
 use denote.Ref.{now}
 use lib.ListN.{length, take, drop, length-drop}
 use lib.Seq.{take-length}
-use Rattle.hpgl.specs.Feed.{feedOf}
-use Rattle.hpgl.specs.FeedLaws.{feed-stored}
+use Rattle.feeding.specs.Feed.{feedOf}
+use Rattle.feeding.specs.FeedLaws.{feed-stored}
 use Rattle.feed.specs.Fed.{listedOf}
 use Rattle.preview.specs.Drawing.{afterOf}
 use Rattle.preview.specs.DrawingLaws.{step-within}

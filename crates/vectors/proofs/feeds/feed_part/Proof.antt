@@ -6,8 +6,8 @@ use lib.ListN.{getD, drop}
 use lib.Seq.{getD-drop}
 use borrow.Author.Needs.{needs}
 use Rattle.hpgl.specs.declared.State.{State}
-use Rattle.hpgl.specs.Feed.{feedFrom}
-use Rattle.hpgl.specs.FeedLaws.{feed-made}
+use Rattle.feeding.specs.Feed.{feedFrom}
+use Rattle.feeding.specs.FeedLaws.{feed-made}
 use Rattle.hpgl.specs.Made.{Made}
 use Rattle.machine.specs.declared.Gathered.{Gathered}
 use Rattle.machine.specs.Gather.{gatheredOf}

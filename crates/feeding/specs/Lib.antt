@@ -1,0 +1,9 @@
+pub mod DrawOff
+pub mod Feed
+pub mod Plot
+pub mod DrawOffLaws
+pub mod FeedLaws
+pub mod PlotLaws
+pub mod PartsOfFeed
+pub mod StrokePens
+pub mod WhatMarksTell
