@@ -12,7 +12,6 @@ use lib.Dec.{eqb, ltb}
 use lib.IntN.{ℤ, pos}
 use lib.ListN.{length, getD, drop, drop-of-length-le, length-set, length-append}
 use lib.Seq.{drop-cons}
-use Rattle.reader.specs.declared.Reader.{Reader}
 use Rattle.reader.specs.declared.Event.{Event}
 use Rattle.reader.specs.declared.Step.{Step}
 use Rattle.reader.specs.declared.Next.{Next}

@@ -1,15 +1,14 @@
 -- The turns of the loop of `gather`: a name, a pair with its stroke or its edge, EP, and a refusal, by whatever it was given.
 -- Why: each is a turn that takes a byte (Gathers.antt), and a line is worked off at once where there is a record for it.
 use mathlib.Core.Path.{_≡_, refl, sym, ap, subst, _∙_}
-use mathlib.Core.Bool.{Bool, true, false, true≢false, cond, not}
+use mathlib.Core.Bool.{Bool, true, false, cond, not}
 use mathlib.Core.List.{List}
-use Prim.Native.Nat.{ℕ, _+_, _*_, _/_, _≤_, _<_}
+use Prim.Native.Nat.{ℕ, _+_, _*_, _/_, _<_}
 use native.Mathlib.Omega.{arith}
 use lib.Dec.{T, eqb}
 use lib.IntN.{ℤ}
 use lib.ListN.{length, getD}
 use lib.ListN as list
-use Rattle.reader.specs.declared.Event.{Event}
 use Rattle.reader.specs.declared.Event.the-variants as event
 use Rattle.reader.specs.declared.Step.{Step}
 use Rattle.reader.specs.declared.Next.{Next}
@@ -36,7 +35,7 @@ use Rattle.hpgl.specs.declared.Segment.the-variants as segment
 use Rattle.hpgl.specs.Cases.{pick}
 use Rattle.hpgl.specs.Place.{limits}
 use Rattle.hpgl.specs.Rules.{done, letters, inked, longer, epRule, endRule, actOn}
-use Rattle.hpgl.specs.Machine.{waiting, stored, queued, readerAfter, workAfter, drawAnswer}
+use Rattle.hpgl.specs.Machine.{waiting, stored, queued, readerAfter, workAfter}
 use Rattle.hpgl.specs.Segment.{workSegment, segmentOf, drawnOf, segment-drawn, SmallSegment, segment-small}
 use Rattle.feeding.specs.Plot.{Plot, refusal}
 use Rattle.basics.specs.declared.hand.Hand.{Hand}

@@ -296,8 +296,8 @@ fn carried(store: Store, edges: u8, count: u8, a: Action) -> Remade
 }
 
 // Draws while a segment waits, else takes bytes up to the next that means something, up to the last, or one with no room for what it may leave.
-// The line of a pair is drawn at once, and where refusals are stored the reader's own is stored at once. A byte that is refused ends it, or it goes on
-// with the refusal stored.
+// The line of a pair is drawn at once where there is a record for it. A byte that is refused ends it, or it goes on with the refusal stored.
+// An event that is carried out ends its turn; what is left below is a refusal.
 pub fn gather(m: State, bytes: &[u8], from: usize, numbers: &mut [i64], on: bool) -> Stopped
     requires { ⌜ Valid m ⌝ }
     ensures { λ r. ⌜ S.Gathers (S.gatherFrom on m (drop from (now (bytes .entry))) from (length (now (numbers .entry)) / 5)) (now (numbers .entry)) (now (numbers .exit)) r ⌝ }
@@ -411,7 +411,7 @@ pub fn gather(m: State, bytes: &[u8], from: usize, numbers: &mut [i64], on: bool
                 here = located_in(frame, position);
                 polygon = carriage.polygon;
                 if t.number > 0 {
-                    // it may leave polygon mode all the same
+                    // PM2 may be refused and end polygon mode all the same
                     reader = reader.passed_over();
                     if on {
                         count = put_record(numbers, count, refusal_record(t.number, at));
@@ -438,7 +438,7 @@ pub fn gather(m: State, bytes: &[u8], from: usize, numbers: &mut [i64], on: bool
                 number = k;
             }
         }
-        // what is left is a refusal, and leaves all else as it was
+        // refused: all else is as it was
         reader = reader.passed_over();
         if on {
             count = put_record(numbers, count, refusal_record(number, at));

@@ -1,6 +1,6 @@
 -- The proof of `batch`: by the kind of work.
 use borrow.Author.Needs.{needs}
-use mathlib.Core.Path.{_≡_, sym, ap, subst}
+use mathlib.Core.Path.{sym, ap, subst}
 use Prim.Native.Nat.{_<_}
 use Rattle.hpgl.specs.declared.Work.{Work}
 use Rattle.hpgl.specs.Machine.{waiting}

@@ -1,10 +1,8 @@
 -- The proof of `chords`. The invariant: for every feed or plot that was so far at the start, how far it is now, with the chords from `next` on waiting.
 use borrow.Author.Needs.{needs}
 use mathlib.Core.Path.{_≡_, refl, sym, ap, subst, _∙_}
-use mathlib.Core.List.{List}
-use Prim.Native.Nat.{ℕ, _+_, _*_, _-_, _/_, _≤_, _<_}
+use Prim.Native.Nat.{ℕ, _+_, _-_, _/_, _≤_, _<_}
 use native.Mathlib.Omega.{arith}
-use lib.IntN.{ℤ}
 use lib.ListN.{length}
 use Rattle.clip.specs.Reach.{SmallRect}
 use Rattle.plane.specs.Bounds.{UnitRows}

@@ -4,7 +4,7 @@
 -- The measure: what waits, and for each byte left one more than can wait after it, which is at most the 720 chords of a circle.
 use borrow.Author.Needs.{needs}
 use mathlib.Core.Path.{_≡_, refl, sym, ap, subst, _∙_}
-use mathlib.Core.Bool.{Bool, true, false, cond}
+use mathlib.Core.Bool.{Bool, true, cond}
 use mathlib.Core.List.{List}
 use mathlib.Core.Logic.{⊎-elim}
 use Prim.Native.Nat.{ℕ, _+_, _*_, _-_, _/_, _^_, _≤_, _<_}
@@ -13,7 +13,6 @@ use borrow.Author.Tests.{ne-eqb}
 use lib.IntN.{ℤ}
 use lib.ListN.{length, getD, set, drop}
 use Rattle.clip.specs.Reach.{SmallRect}
-use Rattle.clip.specs.declared.Point.{Point}
 use Rattle.clip.specs.declared.Rect.{Rect}
 use Rattle.plane.specs.Bounds.{UnitRows}
 use Rattle.plane.specs.Turn.{rowsOf}
@@ -24,7 +23,6 @@ use Rattle.reader.specs.declared.Event.{Event}
 use Rattle.reader.specs.declared.Next.{Next}
 use Rattle.reader.specs.declared.Step.{Step}
 use Rattle.reader.specs.Stream.{_telling_}
-use Rattle.hpgl.specs.declared.Settings.{Settings}
 use Rattle.hpgl.specs.declared.Polygon.{Polygon}
 use Rattle.hpgl.specs.declared.Carriage.{Carriage}
 use Rattle.hpgl.specs.declared.Core.{Core}
@@ -35,7 +33,6 @@ use Rattle.hpgl.specs.declared.Work.{Work}
 use Rattle.hpgl.specs.declared.Work.the-variants.{Nothing}
 use Rattle.hpgl.specs.declared.Segment.the-variants as segment
 use Rattle.hpgl.specs.declared.State.{State}
-use Rattle.hpgl.specs.declared.Stroke.{Stroke}
 use Rattle.hpgl.specs.Numbers.{mostEdges, polygonBytes}
 use Rattle.hpgl.specs.Pins.{pinned}
 use Rattle.feeding.specs.Plot.{Plot, refusal}
@@ -43,7 +40,7 @@ use Rattle.hpgl.specs.Place.{limits}
 use Rattle.hpgl.specs.Rules.{longer, refuse, actOn}
 use Rattle.hpgl.specs.Machine.{noEdge, waiting, stored, queued, readerAfter, drawAnswer}
 use Rattle.hpgl.specs.Segment.{segmentOf, drawnOf, segment-drawn, SmallSegment, segment-small}
-use Rattle.hpgl.specs.Valid.{Valid, ValidCore, ValidActed, ValidEvent, ValidAction}
+use Rattle.hpgl.specs.Valid.{ValidActed, ValidEvent, ValidAction}
 use Rattle.hpgl.specs.ValidFacts.{edge-small, limits-small}
 use Rattle.hpgl.specs.ReaderKept.{step-event}
 use Rattle.hpgl.specs.ValidKept.{valid-event}
@@ -54,7 +51,7 @@ use Rattle.queue.specs.First.{place-within}
 use Rattle.queue.specs.Corners.{segmentIn}
 use Rattle.basics.specs.Hand.{frameOf, handOf, carriageOf, coreOf, lineOf, pointedOf, locationIn}
 use Rattle.basics.specs.Locating.{hand-locatable}
-use Rattle.gathering.specs.Gather.{whole, stoppedAs, gatherFrom, withStroke, recordOf}
+use Rattle.gathering.specs.Gather.{whole, stoppedAs, gatherFrom}
 use Rattle.gathering.specs.Far.{Far, Reached, Batching}
 use Rattle.gathering.proofs.Turns.{Turn, reader-on, reader-off, acting, none-acts, refused-acts, ended-acts, settled-acts, pair-acts, pair-refused, named-acts, unknown-acts, unstored}
 use Rattle.gathering.proofs.Gathers.{waits-most, waits-less, byte-remains, none-remains, far-start, far-free, far-fits, far-halted, far-end, far-draw, far-next}
@@ -183,6 +180,12 @@ loop q = idles (q .before)
 
 abbrev pointing : Pointed → Read
 pointing p = search
+
+abbrev first-of : First → Stored
+first-of c = search
+
+abbrev joined-of : Joined → Stored
+joined-of n = search
 
 abbrev shifts : Shifted → Read
 shifts t = search
@@ -401,22 +404,24 @@ Longer p st =
     let t = p .point .result in
     Goes (loop q) (All (loop q)) (l .numbers) (whole (q .next .result .reader) (coreOf (l .settings) (t .hand) (longer (l .polygon) (t .cost) (t .hand .position))) st Nothing) (q .next .result .at) (l .count)
 
-first : (p : Pointed) → p .point .result .number ≡ 0 → let l = loop (pointing p) .loop in
-    l .polygon .empty ≡ true → Longer p (l .store)
-first p z e =
+first : (c : First) → let p = first-of c .before in Longer p (loop (pointing p) .loop .store)
+first c =
+    let z = first-of c in
+    let p = z .before in
     let q = pointing p in
     let l = loop q .loop in
-    next-first (reached q) (l .settings) (l .hand) (l .polygon) (p .point .result) refl (point-acts p) z (free-taken (q .before)) e
-
-joins : (p : Pointed) → p .point .result .number ≡ 0 → let l = loop (pointing p) .loop in
-    l .polygon .empty ≡ false → (st : Store) → st .edges ≡ set (l .store .edges) (l .polygon .edges) (p .point .result .edge) → Longer p st
-joins p z e st f =
-    let q = pointing p in
-    let l = loop q .loop in
-    next-edge (reached q) (l .settings) (l .hand) (l .polygon) (p .point .result) refl (point-acts p) z (free-taken (q .before)) e f
+    next-first (reached q) (l .settings) (l .hand) (l .polygon) (p .point .result) refl (point-acts p) (z .if7 .taken) (free-taken (q .before)) (c .if8 .taken)
 
 abbrev with-edge : Pointed → Store
 with-edge p = let l = loop (pointing p) .loop in record { edges = set (l .store .edges) (l .polygon .edges) (p .point .result .edge) }
+
+joins : (n : Joined) → let p = joined-of n .before in Longer p (with-edge p)
+joins n =
+    let z = joined-of n in
+    let p = z .before in
+    let q = pointing p in
+    let l = loop q .loop in
+    next-edge (reached q) (l .settings) (l .hand) (l .polygon) (p .point .result) refl (point-acts p) (z .if7 .taken) (free-taken (q .before)) (n .if8 .left) refl
 
 -- there is room for it
 longer-fits : (p : Pointed) {st : Store} → Longer p st → let g = loop (pointing p) .loop .polygon in
@@ -424,14 +429,28 @@ longer-fits : (p : Pointed) {st : Store} → Longer p st → let g = loop (point
 unfolding longer
 longer-fits p f = (f .valid .core .polygon .bytes, far (loop (pointing p)) .valid .core .polygon .edges)
 
-edge-fits : (p : Pointed) → p .point .result .number ≡ 0 → let g = loop (pointing p) .loop .polygon in
-    g .empty ≡ false → g .edges < mostEdges
+edge-fits : (n : Joined) → loop (pointing (joined-of n .before)) .loop .polygon .edges < mostEdges
 unfolding longer
-edge-fits p z e =
-    let g = loop (pointing p) .loop .polygon in
-    let h = joins p z e (with-edge p) refl .valid .core .polygon .edges in
-    let k : cond (g .empty) (g .edges) (g .edges + 1) ≡ g .edges + 1 = ap (λ (b : Bool). cond b (g .edges) (g .edges + 1)) e in
-    omega (arith, h, k)
+edge-fits n =
+    let g = loop (pointing (joined-of n .before)) .loop .polygon in
+    let k : cond (g .empty) (g .edges) (g .edges + 1) ≡ g .edges + 1 = ap (λ (b : Bool). cond b (g .edges) (g .edges + 1)) (n .if8 .left) in
+    omega (arith, joins n .valid .core .polygon .edges, k)
+
+-- and the loop goes on with it
+points-on : (p : Pointed) {st : Store} {g : Polygon} → let q = pointing p in
+    let l = loop q in
+    let t = p .point .result in
+    g ≡ longer (l .loop .polygon) (t .cost) (t .hand .position) → Longer p st →
+    Goes l (From l (handed (l .before) .hand-of .result)) (l .loop .numbers) (whole (q .next .result .reader) (coreOf (l .loop .settings) (t .hand) g) st Nothing) (q .next .result .at) (l .loop .count)
+    × (l .loop .frame ≡ frameOf (l .loop .settings))
+    × (t .here ≡ locationIn (l .loop .frame) (t .hand .position))
+points-on p {st} e f =
+    let q = pointing p in
+    let l = loop q in (
+      again l (subst (λ (g : Polygon). Goes l (All l) (l .loop .numbers) (whole (q .next .result .reader) (coreOf (l .loop .settings) (p .point .result .hand) g) st Nothing) (q .next .result .at) (l .loop .count)) (sym e) f),
+      l .loop .inv .1,
+      p .point .ensures .1,
+    )
 
 -- a pair outside polygon mode
 shift-is : (t : Shifted) → let q = shifts t in
@@ -776,58 +795,25 @@ point-requires c κs =
     )
 
 longer-requires : tie.Need-longer-requires Inv-loop μ-loop
-longer-requires c κs = let p : Pointed = search in let z : Stored = search in longer-fits p (first p (z .if7 .taken) (c .if8 .taken))
+longer-requires c κs = longer-fits (first-of c .before) (first c)
 
 loop-again-5 : tie.Need-loop-again-5 Inv-loop μ-loop
-loop-again-5 c =
-    let p : Pointed = search in
-    let z : Stored = search in
-    let q = pointing p in
-    let l = loop q in
-    let t = p .point .result in (
-      again l
-          (subst (λ (g : Polygon). Goes l (All l) (l .loop .numbers) (whole (q .next .result .reader) (coreOf (l .loop .settings) (t .hand) g) (l .loop .store) Nothing) (q .next .result .at) (l .loop .count)) (sym (c .longer .ensures)) (first p (z .if7 .taken) (c .before .if8 .taken))),
-      l .loop .inv .1,
-      p .point .ensures .1,
-    )
+loop-again-5 c = points-on (first-of (c .before) .before) (c .longer .ensures) (first (c .before))
 
 cast-k : tie.Need-cast-k Inv-loop μ-loop
 cast-k c = let p : Pointed = search in omega (arith, far (loop (pointing p)) .valid .core .polygon .edges)
 
 mul-e-2 : tie.Need-mul-e-2 Inv-loop μ-loop
-mul-e-2 c =
-    let p : Pointed = search in
-    let z : Stored = search in
-    let n : Joined = search in
-    record { fits = omega (arith, edge-fits p (z .if7 .taken) (n .if8 .left)) }
+mul-e-2 c = let n : Joined = search in record { fits = omega (arith, edge-fits n) }
 
 element-set-from-e : tie.Need-element-set-from-e Inv-loop μ-loop
-element-set-from-e c =
-    let p : Pointed = search in
-    let z : Stored = search in
-    let n : Joined = search in
-    omega (arith, edge-fits p (z .if7 .taken) (n .if8 .left))
+element-set-from-e c = let n : Joined = search in omega (arith, edge-fits n)
 
 longer-requires-2 : tie.Need-longer-requires-2 Inv-loop μ-loop
-longer-requires-2 c κs =
-    let p : Pointed = search in
-    let z : Stored = search in
-    let n : Joined = search in
-    longer-fits p (joins p (z .if7 .taken) (n .if8 .left) (with-edge p) refl)
+longer-requires-2 c κs = let n : Joined = search in longer-fits (joined-of n .before) (joins n)
 
 loop-again-6 : tie.Need-loop-again-6 Inv-loop μ-loop
-loop-again-6 c =
-    let p : Pointed = search in
-    let z : Stored = search in
-    let n : Joined = search in
-    let q = pointing p in
-    let l = loop q in
-    let t = p .point .result in (
-      again l
-          (subst (λ (g : Polygon). Goes l (All l) (l .loop .numbers) (whole (q .next .result .reader) (coreOf (l .loop .settings) (t .hand) g) (with-edge p) Nothing) (q .next .result .at) (l .loop .count)) (sym (c .longer2 .ensures)) (joins p (z .if7 .taken) (n .if8 .left) (with-edge p) refl)),
-      l .loop .inv .1,
-      p .point .ensures .1,
-    )
+loop-again-6 c = let n : Joined = search in points-on (joined-of n .before) (c .longer2 .ensures) (joins n)
 
 shift-requires : tie.Need-shift-requires Inv-loop μ-loop
 shift-requires c κs =

@@ -1,8 +1,7 @@
 -- The proof of `halted`: by its tests.
 use borrow.Author.Needs.{needs}
 use borrow.Author.Tests.{eq-eqb, ne-eqb, lt-ltb, le-ltb}
-use mathlib.Core.Path.{refl, sym, _∙_}
-use Prim.Native.Nat.{_<_, _≤_}
+use mathlib.Core.Path.{refl}
 use native.Mathlib.Omega.{arith}
 use Rattle.hpgl.specs.Machine.{waiting}
 use Rattle.gathering.specs.Gather.{stuckOf, haltedOf}
