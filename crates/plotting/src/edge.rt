@@ -1,6 +1,6 @@
 // The edge: the only functions that read an input and hand a text over. Which bytes a read gives and a write takes no contract can say. These
-// functions count them in the one tally of the run, which is lent to them, and hand over nothing but the next part of what is printed
-// (specs/Ran.antt). So no read and no text can be left out: the tally has moved, and there is no older one to go on with.
+// functions count them, and hand over nothing but the next part of what is printed (specs/Ran.antt). The counts are one tally, which the run
+// lends to them: a read whose answer is thrown away has moved it all the same, and so has a text.
 ghost use mathlib.Core.Bool.{false};
 ghost use mathlib.Core.Path.{_≡_};
 ghost use Prim.Native.Nat.{_+_, _%_, _^_, _≤_, _<_};
@@ -8,7 +8,7 @@ ghost use lib.ListN.{length};
 ghost use Rattle.io.specs.Counts.{Counts};
 ghost use Rattle.plotting.specs.Compared.{common as commonOf, lineEnds};
 ghost use Rattle.plotting.specs.Ran.{Next};
-ghost use Rattle.plotting.specs.Tally.{readOf, handedOf, Kept};
+ghost use Rattle.plotting.specs.Tally.{readOf, handedOf, sameOf, Kept};
 use super::files::Sink;
 use machine::Machine;
 
@@ -39,6 +39,7 @@ pub fn read_block(file: i32, block: &mut [u8], tally: &mut Tally) -> Got
     ensures { λ r. ⌜ Counts (r .count) (now (block .exit)) ⌝ }
     ensures { λ r. ⌜ readOf (now (tally .exit)) ≡ readOf (now (tally .entry)) + r .count ⌝ }
     ensures { λ r. ⌜ handedOf (now (tally .exit)) ≡ handedOf (now (tally .entry)) ⌝ }
+    ensures { λ r. ⌜ sameOf (now (tally .exit)) ≡ sameOf (now (tally .entry)) ⌝ }
     ensures { λ r. ⌜ (r .good ≡ false → r .count ≡ 0) ⌝ }
 {
     let got = libc::read(file, block);

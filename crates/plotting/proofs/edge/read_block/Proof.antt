@@ -33,7 +33,7 @@ same-length-2 : tie.Need-same-length-2
 same-length-2 c = search needs
 
 returns-2 : tie.Need-returns-2
-returns-2 c = let n : tie.After-count = search in (n .count .ensures .0, (refl, (refl, λ e. absurd (false≢true (sym e)))))
+returns-2 c = let n : tie.After-count = search in (n .count .ensures .0, (refl, (refl, (refl, λ e. absurd (false≢true (sym e))))))
 
 pub read-block-spec : {M : Type 1} → statement M
 read-block-spec =

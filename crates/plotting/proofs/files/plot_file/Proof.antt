@@ -69,7 +69,7 @@ returns : tie.Need-returns Inv-loop μ-loop
 returns c =
     let r : tie.After-read-block Inv-loop μ-loop = search in
     let t : tie.Then1 Inv-loop μ-loop = search in
-    let i = ended r (r .read-block .ensures .1 .1 .1 (not-true _ (t .if1 .taken))) in
+    let i = ended r (r .read-block .ensures .1 .1 .1 .1 (not-true _ (t .if1 .taken))) in
     ran (r .read-block .last .1 .1 .0) (c .ended .ensures) (i .reached) (λ n. i .nothing)
 
 ended-requires-2 : tie.Need-ended-requires-2 Inv-loop μ-loop
