@@ -10,8 +10,8 @@ use lines::word::Limits;
 use lines::word::Whole;
 use lines::word::limits_of;
 use lines::word::whole_of;
-use plotting::edge::Sink;
 use plotting::files::End;
+use plotting::files::Sink;
 use plotting::files::run;
 
 // Where a word of a line starts and ends.
@@ -82,13 +82,6 @@ fn at_end(file: i32) -> bool {
     libc::read(file, &mut byte) == 0
 }
 
-fn same_lines(sink: Sink) -> u64 {
-    match sink {
-        Sink::Write(_) => 0,
-        Sink::Compare(_, lines) => lines,
-    }
-}
-
 // Prints a file's name, and what is said of so many lines.
 fn say(line: &[u8], w: Part, what: &[u8], lines: u64, after: &[u8])
     requires { ⌜ Within w (now line) ⌝ }
@@ -105,11 +98,9 @@ fn say(line: &[u8], w: Part, what: &[u8], lines: u64, after: &[u8])
 fn compare(line: &[u8], w: Part, asked: Limits, drawing: i32, stored: i32)
     requires { ⌜ Within w (now line) ⌝ }
 {
-    let finished = run(asked, drawing, Sink::Compare(stored, 0));
+    let finished = run(asked, drawing, Sink::Compare(stored));
     let end = finished.end;
-    let output = finished.output;
-    let sink = output.sink;
-    let same = same_lines(sink);
+    let same = finished.same;
     if let End::Done = end {
         if at_end(stored) {
             say(line, w, b": as stored, ", same, b" lines\n");

@@ -5,5 +5,6 @@ pub mod PlotPrinted
 pub mod PlottedLaws
 pub mod Compared
 pub mod ComparedLaws
+pub mod Tally
 pub mod Ran
 pub mod RanLaws

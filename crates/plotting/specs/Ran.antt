@@ -46,14 +46,14 @@ pub record Ran (started : State) (f : Finished) : Type 0 where
   pub bytes : List ℕ
   pub text : List ℕ
   pub rest : List ℕ
-  pub read : f .input .read ≡ length bytes
-  pub handed : f .output .handed ≡ length text % 2 ^ 64
+  pub read : f .read ≡ length bytes
+  pub handed : f .handed ≡ length text % 2 ^ 64
   pub prints : printed started bytes 0 ≡ text ++ rest
   pub whole : (f .end ≡ Undelivered → ⊥) → rest ≡ []
 
 -- nothing was read, and nothing was handed over
 abbrev pub Unbegun : End → Finished → Type 0
-Unbegun end f = (f .end ≡ end) × (f .input .read ≡ 0) × (f .output .handed ≡ 0)
+Unbegun end f = (f .end ≡ end) × (f .read ≡ 0) × (f .handed ≡ 0)
 
 -- from a fresh machine with these hard limits
 pub record Within (hard : Rect) (f : Finished) : Type 0 where

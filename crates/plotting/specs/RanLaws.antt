@@ -16,10 +16,12 @@ use Rattle.machine.specs.Calls.{startedOf}
 use Rattle.decimals.specs.Puts.{Puts}
 use Rattle.plotting.specs.declared.Plot.{Plot}
 use Rattle.plotting.specs.declared.files.Finished.{Finished}
+use Rattle.plotting.specs.declared.files.End.{End}
 use Rattle.plotting.specs.declared.files.End.the-variants.{Refused, Undelivered}
 use Rattle.plotting.specs.Printed.{printed}
 use Rattle.plotting.specs.PlotPrinted.{idle-end}
 use Rattle.plotting.specs.Plotted.{due, begunOf, emptiedOf, Ready, Plotted}
+use Rattle.plotting.specs.Tally.{readOf, handedOf, endedOf}
 use Rattle.plotting.specs.Ran.{Reached, Next, Begins, Leaves, Ran, Unbegun, Within}
 
 -- a text that was put at the start of a buffer is what stands there
@@ -41,30 +43,32 @@ module _ {started : State} {read handed : ℕ} {block : List ℕ} where
   }
 
   -- the next part is handed over
-  pub reached-then : {next : ℕ} (part : List ℕ) {rest : List ℕ → List ℕ} → Reached started read handed block (λ later. part ++ rest later)
-      → next ≡ (handed + length part) % 2 ^ 64 → Reached started read next block rest
-  reached-then part {rest} h e = record {
+  pub reached-then : {still next : ℕ} (part : List ℕ) {rest : List ℕ → List ℕ} → Reached started read handed block (λ later. part ++ rest later)
+      → still ≡ read → next ≡ (handed + length part) % 2 ^ 64 → Reached started still next block rest
+  reached-then part {rest} h s e = record {
     earlier = h .earlier;
     text = h .text ++ part;
-    bytes = h .bytes;
+    bytes = s ∙ h .bytes;
     count =
         e ∙ ap (λ (n : ℕ). (n + length part) % 2 ^ 64) (h .count) ∙ mod-add-mod (length (h .text)) (2 ^ 64) (length part)
         ∙ ap (λ (n : ℕ). n % 2 ^ 64) (sym (length-append (h .text) part));
     prints = λ later. h .prints later ∙ sym (append-assoc (h .text) part (rest later));
   }
 
-  -- a run ends where it has reached
-  pub ran : {f : Finished} {rest : List ℕ → List ℕ} → f .input .read ≡ read → f .output .handed ≡ handed → Reached started read handed block rest
-      → ((f .end ≡ Undelivered → ⊥) → rest [] ≡ []) → Ran started f
-  ran {rest} r o h w = record {
-    bytes = h .earlier ++ block;
-    text = h .text;
-    rest = rest [];
-    read = r ∙ h .bytes;
-    handed = o ∙ h .count;
-    prints = ap (λ (l : List ℕ). printed started l 0) (sym (append-nil (h .earlier ++ block))) ∙ h .prints [];
-    whole = w;
-  }
+-- a run ends where it has reached
+pub ran : {started : State} {block : List ℕ} {rest : List ℕ → List ℕ} {end : End} {f : Finished} (tally : List ℕ) → f ≡ endedOf tally end
+    → Reached started (readOf tally) (handedOf tally) block rest → ((end ≡ Undelivered → ⊥) → rest [] ≡ []) → Ran started f
+ran {started} {block} {rest} tally e h w =
+    subst (Ran started) (sym e)
+    (record {
+      bytes = h .earlier ++ block;
+      text = h .text;
+      rest = rest [];
+      read = h .bytes;
+      handed = h .count;
+      prints = ap (λ (l : List ℕ). printed started l 0) (sym (append-nil (h .earlier ++ block))) ∙ h .prints [];
+      whole = w;
+    })
 
 -- ---- a block, a bufferful at a time
 
@@ -88,14 +92,17 @@ module _ {started : State} {read handed : ℕ} {p : Plot} {block : List ℕ} (h 
     pub midway-next : Next started read handed block (take (q .length) after)
     midway-next = record { rest = λ later. due q block later; reached = fills }
 
-    module _ {next : ℕ} (e : next ≡ (handed + length (take (q .length) after)) % 2 ^ 64) where
-      pub midway-again : {r : Plot} → r ≡ emptiedOf q → Midway started read next r block
-      midway-again f =
-          subst (λ (r : Plot). Midway started read next r block) (sym f)
-          (record { place = ap (λ (n : ℕ). n + length block) (k .earlier) ∙ h .place; reached = reached-then (take (q .length) after) fills e })
+    module _ {still next : ℕ} (s : still ≡ read) (e : next ≡ (handed + length (take (q .length) after)) % 2 ^ 64) where
+      then : Reached started still next block (λ later. due q block later)
+      then = reached-then (take (q .length) after) fills s e
 
-      pub leaves-part : Leaves started (q .machine .state) read next block false
-      leaves-part = record { rest = λ later. due q block later; reached = reached-then (take (q .length) after) fills e; all = λ t. absurd (false≢true t) }
+      pub midway-again : {r : Plot} → r ≡ emptiedOf q → Midway started still next r block
+      midway-again f =
+          subst (λ (r : Plot). Midway started still next r block) (sym f)
+          (record { place = ap (λ (n : ℕ). n + length block) (k .earlier) ∙ h .place ∙ sym s; reached = then })
+
+      pub leaves-part : Leaves started (q .machine .state) still next block false
+      leaves-part = record { rest = λ later. due q block later; reached = then; all = λ t. absurd (false≢true t) }
 
   pub leaves-all : Ready p block → p .more ≡ false → Leaves started (p .machine .state) read handed block true
   leaves-all r f = record { rest = λ later. due p block later; reached = h .reached; all = λ t. (onward, sym (onward []) ∙ r .ends f .1) }
@@ -119,9 +126,9 @@ stands-first {started} {read} idle r o = record {
   nothing = idle-end started read idle;
 }
 
-pub stands-read : {started m : State} {before read handed : ℕ} {block : List ℕ} → Stands started m before handed → read ≡ before + length block
-    → Begins started m before read handed block
-stands-read {started} {block} h e =
+pub stands-read : {started m : State} {before read handed still : ℕ} {block : List ℕ} → Stands started m before handed → read ≡ before + length block
+    → still ≡ handed → Begins started m before read still block
+stands-read {started} {block} h e s =
     let r = h .reached in
     let bytes = r .earlier ++ [] in
     record {
@@ -130,10 +137,16 @@ stands-read {started} {block} h e =
         earlier = bytes;
         text = r .text;
         bytes = e ∙ ap (λ (n : ℕ). n + length block) (r .bytes) ∙ sym (length-append bytes block);
-        count = r .count;
+        count = s ∙ r .count;
         prints = λ later. ap (λ (l : List ℕ). printed started l 0) (append-assoc bytes block later) ∙ r .prints (block ++ later);
       };
     }
+
+-- a read that gave nothing
+pub stands-still : {started m : State} {before read handed still n : ℕ} → Stands started m before handed → read ≡ before + n → still ≡ handed → n ≡ 0
+    → Stands started m read still
+stands-still {started} {m} {before} {still} h e s z =
+    subst (λ (n : ℕ). Stands started m n still) (sym (e ∙ ap (λ (k : ℕ). before + k) z ∙ add-zero before)) (subst (Stands started m before) (sym s) h)
 
 pub stands-next : {started m : State} {read handed : ℕ} {block : List ℕ} {good : Bool} → Leaves started m read handed block good → good ≡ true
     → Stands started m read handed

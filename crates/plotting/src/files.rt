@@ -5,14 +5,14 @@ ghost use lib.ListN.{length};
 ghost use Rattle.hpgl.specs.Machine.{waiting};
 ghost use Rattle.hpgl.specs.Made.{Made};
 ghost use Rattle.plotting.specs.Ran.{Begins, Leaves, Ran, Unbegun, Answers};
+ghost use Rattle.plotting.specs.Tally.{readOf, handedOf, endedOf};
 use super::begun;
-use super::edge::Input;
-use super::edge::Output;
-use super::edge::Sink;
+use super::edge::HANDED;
+use super::edge::READ;
+use super::edge::SAME;
+use super::edge::Tally;
 use super::edge::bytes_read;
 use super::edge::hand;
-use super::edge::input_of;
-use super::edge::output_to;
 use super::edge::read_block;
 use super::emptied;
 use super::fill;
@@ -21,6 +21,14 @@ use machine::Machine;
 
 // A proved loop has to end: this one reads so many blocks of at most 64 KB, which no file uses up.
 const BLOCKS: u64 = 0x800000000000;
+
+// Where the lines go.
+pub enum Sink {
+    // to this file
+    Write(i32),
+    // beside the lines of this file
+    Compare(i32),
+}
 
 // How a run ended.
 pub enum End {
@@ -35,16 +43,17 @@ pub enum End {
     Undelivered,
 }
 
+// What a run counted, and how it ended.
 pub struct Finished {
-    pub input: Input,
-    pub output: Output,
+    pub read: u64,
+    pub handed: u64,
+    pub same: u64,
     pub end: End,
 }
 
 // What a block leaves: the machine, and whether its lines were delivered.
 struct Left {
     machine: Machine,
-    output: Output,
     good: bool,
 }
 
@@ -53,30 +62,28 @@ fn deliver_block(
     started: Machine,
     machine: Machine,
     before: u64,
-    input: Input,
     block: &[u8],
     text: &mut [u8],
-    output: Output,
+    sink: Sink,
+    tally: &mut Tally,
 ) -> Left
     requires { ⌜ Made (machine .state) ⌝ }
     requires { ⌜ before + length (now block) < 2 ^ 64 ⌝ }
     requires { ⌜ length (now text) ≡ 65536 ⌝ }
-    requires { ⌜ Begins (started .state) (machine .state) before (input .read) (output .handed) (now block) ⌝ }
+    requires { ⌜ Begins (started .state) (machine .state) before (readOf (now tally)) (handedOf (now tally)) (now block) ⌝ }
     ensures { λ r. ⌜ Made (r .machine .state) ⌝ }
-    ensures { λ r. ⌜ Leaves (started .state) (r .machine .state) (input .read) (r .output .handed) (now (block .entry)) (r .good) ⌝ }
+    ensures { λ r. ⌜ readOf (now (tally .exit)) ≡ readOf (now (tally .entry)) ⌝ }
+    ensures { λ r. ⌜ Leaves (started .state) (r .machine .state) (readOf (now (tally .exit))) (handedOf (now (tally .exit))) (now (block .entry)) (r .good) ⌝ }
 {
     let mut p = begun(machine, before);
-    let mut to = output;
     while p.more {
         p = fill(p, block, text);
         let n = p.length;
-        let h = hand(started, input, block, to, &text[..n]);
-        to = h.output;
-        if !h.good {
+        let good = hand(started, block, &text[..n], sink, tally);
+        if !good {
             let next = p.machine;
             return Left {
                 machine: next,
-                output: to,
                 good: false,
             };
         }
@@ -85,8 +92,19 @@ fn deliver_block(
     let next = p.machine;
     Left {
         machine: next,
-        output: to,
         good: true,
+    }
+}
+
+// A run ends.
+fn ended(tally: &Tally, end: End) -> Finished
+    ensures { λ r. ⌜ r ≡ endedOf (now (tally .entry)) end ⌝ }
+{
+    Finished {
+        read: tally[READ],
+        handed: tally[HANDED],
+        same: tally[SAME],
+        end: end,
     }
 }
 
@@ -99,52 +117,41 @@ fn plot_file(started: Machine, file: i32, sink: Sink) -> Finished
     let mut block = io::large_buffer();
     let mut text = io::large_buffer();
     let mut machine = started;
-    let mut input = input_of(file);
-    let mut to = output_to(sink);
+    let mut tally = [0; 3];
     let mut turns = BLOCKS;
     while turns > 0 {
-        let before = bytes_read(input);
-        let got = read_block(input, &mut block);
-        input = got.input;
+        let before = bytes_read(&tally);
+        let got = read_block(file, &mut block, &mut tally);
         if !got.good {
-            return Finished {
-                input: input,
-                output: to,
-                end: End::Unread,
-            };
+            return ended(&tally, End::Unread);
         }
         let n = got.count;
         if n == 0 {
-            break;
+            return ended(&tally, End::Done);
         }
-        let left = deliver_block(started, machine, before, input, &block[..n], &mut text, to);
+        let left = deliver_block(
+            started,
+            machine,
+            before,
+            &block[..n],
+            &mut text,
+            sink,
+            &mut tally,
+        );
         machine = left.machine;
-        to = left.output;
         if !left.good {
-            return Finished {
-                input: input,
-                output: to,
-                end: End::Undelivered,
-            };
+            return ended(&tally, End::Undelivered);
         }
         turns -= 1;
     }
-    Finished {
-        input: input,
-        output: to,
-        end: End::Done,
-    }
+    ended(&tally, End::Done)
 }
 
 // Nothing is read and nothing is handed over.
-fn unbegun(file: i32, sink: Sink, end: End) -> Finished
+fn unbegun(end: End) -> Finished
     ensures { λ r. ⌜ Unbegun end r ⌝ }
 {
-    Finished {
-        input: input_of(file),
-        output: output_to(sink),
-        end: end,
-    }
+    ended(&[0; 3], end)
 }
 
 // The lines of a file, from a machine with these hard limits.
@@ -152,11 +159,11 @@ pub fn run(asked: Limits, file: i32, sink: Sink) -> Finished
     ensures { λ r. ⌜ Answers asked r ⌝ }
 {
     let Limits::Four(left, bottom, right, top) = asked else {
-        return unbegun(file, sink, End::NoLimits);
+        return unbegun(End::NoLimits);
     };
     let started = Machine::fresh(left, bottom, right, top);
     if started.number != 0 {
-        return unbegun(file, sink, End::Refused);
+        return unbegun(End::Refused);
     }
     let machine = started.machine;
     plot_file(machine, file, sink)

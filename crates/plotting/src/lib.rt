@@ -7,7 +7,7 @@ ghost use lib.ListN.{length};
 ghost use Rattle.hpgl.specs.Made.{Made};
 ghost use Rattle.plotting.specs.Plotted.{Ready, Plotted, begunOf, emptiedOf, movedOf, mostMarks, most};
 
-pub mod edge;
+mod edge;
 pub mod files;
 
 use lines::LONGEST;

@@ -5,8 +5,8 @@ use desk::limits;
 use libc::STDERR_FILENO;
 use libc::STDIN_FILENO;
 use libc::STDOUT_FILENO;
-use plotting::edge::Sink;
 use plotting::files::End;
+use plotting::files::Sink;
 use plotting::files::run;
 
 // Says what went wrong, if anything did.

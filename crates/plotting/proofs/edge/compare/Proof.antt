@@ -34,8 +34,17 @@ slice-aggregate-line-ends c = sym (length-take-le _ _ (omega arith))
 line-ends-requires : tie.Need-line-ends-requires
 line-ends-requires c κs = search needs
 
+element-copy-out-wrapping-add-u64 : tie.Need-element-copy-out-wrapping-add-u64
+element-copy-out-wrapping-add-u64 c = search needs
+
 wrapping-add-u64-requires : tie.Need-wrapping-add-u64-requires
 wrapping-add-u64-requires c κs = search needs
+
+element-copy-out-t20 : tie.Need-element-copy-out-t20
+element-copy-out-t20 c = search needs
+
+element-copy-out-t25 : tie.Need-element-copy-out-t25
+element-copy-out-t25 c = search needs
 
 returns : tie.Need-returns
 returns c = search needs
@@ -53,5 +62,8 @@ compare-spec =
     common-requires
     slice-aggregate-line-ends
     line-ends-requires
+    element-copy-out-wrapping-add-u64
     wrapping-add-u64-requires
+    element-copy-out-t20
+    element-copy-out-t25
     returns)

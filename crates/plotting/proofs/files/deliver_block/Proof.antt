@@ -8,15 +8,16 @@ use lib.Seq.{length-take-le}
 use Rattle.decimals.specs.Puts.{puts-length}
 use Rattle.plotting.specs.PlottedLaws.{Between, begins, empties, left, left-less}
 use Rattle.plotting.specs.RanLaws.{Midway, midway-first, midway-next, midway-again, leaves-part, leaves-all}
+use Rattle.plotting.specs.Tally.{readOf, handedOf}
 use Rattle.plotting.proofs.files.deliver_block.Statement.{statement}
 use Rattle.plotting.proofs.files.deliver_block.Tie as tie
 
 abbrev Inv-loop : tie.InvT-loop
-Inv-loop started before input block text₀ p₀ to₀ text p to =
-    Between p block × (length text ≡ 65536) × Midway (started .state) (input .read) (to .handed) p block
+Inv-loop started before block text₀ sink tally₀ p₀ text tally p =
+    Between p block × (length text ≡ 65536) × (readOf tally ≡ readOf tally₀) × Midway (started .state) (readOf tally) (handedOf tally) p block
 
 abbrev μ-loop : tie.MeasureT-loop
-μ-loop started before input block text₀ p₀ to₀ text p to = left p block
+μ-loop started before block text₀ sink tally₀ p₀ text tally p = left p block
 
 begun-requires : tie.Need-begun-requires Inv-loop μ-loop
 begun-requires c κs = tt
@@ -26,7 +27,7 @@ loop-holds c =
     let s : tie.Start Inv-loop μ-loop = search in
     let k : tie.After-shared-slice-known Inv-loop μ-loop = search in
     let e = c .begun .ensures in
-    (begins e (λ i. k .shared-slice-known .given i .fits) (s .pre .0) (s .pre .1 .0), s .pre .1 .1 .0, midway-first e (s .pre .1 .1 .1))
+    (begins e (λ i. k .shared-slice-known .given i .fits) (s .pre .0) (s .pre .1 .0), s .pre .1 .1 .0, refl, midway-first e (s .pre .1 .1 .1))
 
 fill-requires : tie.Need-fill-requires Inv-loop μ-loop
 fill-requires c κs =
@@ -48,51 +49,61 @@ slice-aggregate-hand c = sym (length-take-le _ _ (fits (c .before .before .befor
 
 hand-requires : tie.Need-hand-requires Inv-loop μ-loop
 hand-requires c κs =
-    let f = c .before .before .before in
-    let l = f .before .before .before in (
+    let f : tie.After-fill Inv-loop μ-loop = search in
+    let l : tie.At-loop Inv-loop μ-loop = search in (
       omega (arith, fits f, wide f, length-take-le (f .fill .result .length) (f .fill .last .1 .1 .0) (fits f)),
-      midway-next (l .loop .inv .2) (f .fill .ensures .0) (l .loop .inv .0 .empty),
+      midway-next (l .loop .inv .3) (f .fill .ensures .0) (l .loop .inv .0 .empty),
     )
 
 same-length : tie.Need-same-length Inv-loop μ-loop
 same-length c =
-    let f = c .before .before .before .before .before .before .before .before in
-    let s = f .before .before .before .before .before .before .before in
+    let f : tie.After-fill Inv-loop μ-loop = search in
+    let s : tie.Start Inv-loop μ-loop = search in
     wide f ∙ sym (s .pre .1 .1 .0)
 
 returns : tie.Need-returns Inv-loop μ-loop
 returns c =
-    let f = c .before .before .before .before .before .before .before .before in
-    let l = f .before .before .before in
+    let f : tie.After-fill Inv-loop μ-loop = search in
+    let h : tie.After-hand Inv-loop μ-loop = search in
+    let l : tie.At-loop Inv-loop μ-loop = search in
     let e = f .fill .ensures .0 in
-    (e .ready .made, leaves-part (l .loop .inv .2) e (l .loop .inv .0 .empty) (c .before .before .before .before .hand .ensures))
+    (e .ready .made, (h .hand .ensures .0 ∙ l .loop .inv .2, leaves-part (l .loop .inv .3) e (l .loop .inv .0 .empty) (h .hand .ensures .0) (h .hand .ensures .1)))
 
 emptied-requires : tie.Need-emptied-requires Inv-loop μ-loop
 emptied-requires c κs = tt
 
 loop-less : tie.Need-loop-less Inv-loop μ-loop
 loop-less c =
-    let f = c .before .before .before .before .before .before .before .before in
-    let l = f .before .before .before in
+    let f : tie.After-fill Inv-loop μ-loop = search in
+    let l : tie.At-loop Inv-loop μ-loop = search in
     let e = f .fill .ensures in
     let t : tie.In-loop Inv-loop μ-loop = search in
     left-less (e .0) (t .loop-test .taken) (λ m. omega (arith, e .1 m, l .loop .inv .0 .empty, l .loop .inv .1)) (c .emptied .ensures)
 
 loop-again : tie.Need-loop-again Inv-loop μ-loop
 loop-again c =
-    let f = c .before .before .before .before .before .before .before .before in
-    let l = f .before .before .before in
+    let f : tie.After-fill Inv-loop μ-loop = search in
+    let h : tie.After-hand Inv-loop μ-loop = search in
+    let l : tie.At-loop Inv-loop μ-loop = search in
     let e = f .fill .ensures .0 in (
       empties (c .emptied .ensures) (e .ready),
       wide f,
-      midway-again (l .loop .inv .2) e (l .loop .inv .0 .empty) (c .before .before .before .before .hand .ensures) (c .emptied .ensures),
+      h .hand .ensures .0 ∙ l .loop .inv .2,
+      midway-again (l .loop .inv .3) e (l .loop .inv .0 .empty) (h .hand .ensures .0) (h .hand .ensures .1) (c .emptied .ensures),
     )
 
 same-length-2 : tie.Need-same-length-2 Inv-loop μ-loop
-same-length-2 c = let s = c .before .before .before .before .before .before in c .before .before .loop .inv .1 ∙ sym (s .pre .1 .1 .0)
+same-length-2 c =
+    let s : tie.Start Inv-loop μ-loop = search in
+    let l : tie.At-loop Inv-loop μ-loop = search in
+    l .loop .inv .1 ∙ sym (s .pre .1 .1 .0)
 
 returns-2 : tie.Need-returns-2 Inv-loop μ-loop
-returns-2 c = let i = c .before .before .loop .inv in (i .0 .ready .made, leaves-all (i .2) (i .0 .ready) (c .before .loop-test .left))
+returns-2 c =
+    let l : tie.At-loop Inv-loop μ-loop = search in
+    let t : tie.After-loop Inv-loop μ-loop = search in
+    let i = l .loop .inv in
+    (i .0 .ready .made, (i .2, leaves-all (i .3) (i .0 .ready) (t .loop-test .left)))
 
 pub deliver-block-spec : {M : Type 1} → statement M
 deliver-block-spec =
