@@ -19,7 +19,7 @@ use Rattle.hpgl.specs.declared.State.{State}
 use Rattle.hpgl.specs.declared.Stroke.{Stroke}
 use Rattle.hpgl.specs.declared.Drawn.{Drawn}
 use Rattle.hpgl.specs.declared.Drawn.the-variants as drawn
-use Rattle.hpgl.specs.Numbers.{listFull}
+use Rattle.feeding.specs.DrawOff.{listFull}
 use Rattle.hpgl.specs.Machine.{waiting}
 use Rattle.feeding.specs.Feed.{Feed, feedFrom}
 use Rattle.feeding.specs.Plot.{Mark, stroke, refusal, Plot, plotFrom, laidMarks}
