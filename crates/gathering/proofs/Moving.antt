@@ -43,7 +43,7 @@ use Rattle.basics.specs.declared.hand.Pointed.{Pointed}
 use Rattle.basics.specs.Hand.{coreOf, lineOf, pointedOf}
 use Rattle.gathering.specs.Gather.{whole, stoppedAs, Gathers, countAfter, withStroke, recordOf, putOf, outlineOf}
 use Rattle.gathering.specs.Far.{Far, Reached}
-use Rattle.gathering.proofs.Turns.{Turn, turn-valid}
+use Rattle.gathering.proofs.Turns.{leaves, Turn, turn-valid}
 use Rattle.gathering.proofs.Gathers.{far-draw, far-turn, far-refusal, far-refused}
 
 -- a name leaves the carriage where it is
@@ -59,11 +59,11 @@ unfolding stored
 outline-kept es k true = refl
 outline-kept es k false = refl
 
-outline-waits : (c : Core) → outlineOf (c .carriage .pen) (c .carriage .polygon .edges) ≡ queued (c .carriage .polygon .edges) (cond (inked c) Outline Keep)
+outline-waits : (c : Core) (es : List Edge) → outlineOf (c .carriage .pen) (c .carriage .polygon .edges) ≡ leaves es (c .carriage .polygon .edges) c (cond (inked c) Outline Keep)
 unfolding outlineOf queued inked
-outline-waits c = go (eqb (c .carriage .pen .number) 0)
+outline-waits c es = go (eqb (c .carriage .pen .number) 0)
   where
-    go : (b : Bool) → cond b Nothing (Edges 0 (c .carriage .polygon .edges)) ≡ queued (c .carriage .polygon .edges) (cond (not b) Outline Keep)
+    go : (b : Bool) → cond b Nothing (Edges 0 (c .carriage .polygon .edges)) ≡ leaves es (c .carriage .polygon .edges) c (cond (not b) Outline Keep)
     go true = refl
     go false = refl
 
@@ -88,7 +88,7 @@ module _ {on : Bool} {all : Plot} {s : List ℕ} {entry now : List ℤ} {m : Sta
 
   module _ (c : Core) where
     abbrev pub next : Segment → State
-    next g = whole (q .reader) c (m .store) (queued (c .carriage .polygon .edges) (lineOf g))
+    next g = whole (q .reader) c (m .store) (leaves (m .store .edges) (m .core .carriage .polygon .edges) c (lineOf g))
 
     moved-turn : (g : Segment) → doing c g ≡ actOn (m .core) (q .event) → Turn last byte (q .reader telling q .event) (doing c g) (next g)
     unfolding readerAfter stored queued lineOf
@@ -162,7 +162,7 @@ module _ {on : Bool} {all : Plot} {s : List ℕ} {entry now : List ℤ} {m : Sta
   next-outline {n = n} told e f free =
       let acts = ap (actOn (m .core)) (told ∙ ap (λ (k : ℕ). event.Ended k n) e) in
       let b = inked (m .core) in
-      next-turned (record { step = r .step; act = sym acts; reader = refl; core = refl; edges = outline-kept (m .store .edges) _ b; work = f ∙ outline-waits (m .core) }) refl free
+      next-turned (record { step = r .step; act = sym acts; reader = refl; core = refl; edges = outline-kept (m .store .edges) _ b; work = f ∙ outline-waits (m .core) (m .store .edges) }) refl free
 
   -- a refusal of the reader's own has a number
   pub refusal-some : {k : ℕ} → q .event ≡ event.Refused k → k ≡ 0 → ⊥

@@ -4,7 +4,7 @@ use mathlib.Core.Path.{_≡_, refl, sym, ap, ap₂, _∙_, subst}
 use mathlib.Core.Bool.{Bool, true, false, true≢false, cond}
 use mathlib.Core.List.{List, [], _∷_}
 use mathlib.Core.Logic.{⊎-elim}
-use Prim.Native.Nat.{ℕ, _+_, _≤_}
+use Prim.Native.Nat.{ℕ, _+_}
 use native.Mathlib.Omega.{arith}
 use lib.Dec.{leb}
 use borrow.Author.Tests.{eq-eqb, ne-eqb}
@@ -26,6 +26,7 @@ use Rattle.hpgl.specs.declared.Action.{Action}
 use Rattle.hpgl.specs.declared.Action.the-variants.{Keep, Line, Chords, Join, Outline, Rectangle}
 use Rattle.hpgl.proofs.Action.{the-type}
 use Rattle.hpgl.specs.declared.Edge.{Edge}
+use Rattle.hpgl.specs.declared.Work.{Work}
 use Rattle.hpgl.specs.declared.Acted.{Acted}
 use Rattle.hpgl.specs.declared.Work.the-variants.{Nothing}
 use Rattle.hpgl.specs.declared.State.{State}
@@ -41,6 +42,10 @@ use Rattle.hpgl.specs.Ends.{pairs-end}
 use Rattle.basics.specs.Hand.{carriageOf, coreOf, nameNumber, name-parts}
 use Rattle.gathering.specs.Gather.{whole, heavyOf}
 
+-- what waits after an action, from the edges es, of which the polygon had k, to the core d
+abbrev pub leaves : List Edge → ℕ → Core → Action → Work
+leaves es k d a = queued (d .settings .turn) (stored es k a) (d .carriage .polygon .edges) a
+
 -- what the calls of one turn gave: the step of the reader, what the core did, and the parts of the next machine
 pub record Turn (m : State) (b : ℕ) (q : Step) (t : Acted) (next : State) : Type 0 where
   pub step : q ≡ stepOf (m .reader) b
@@ -48,7 +53,7 @@ pub record Turn (m : State) (b : ℕ) (q : Step) (t : Acted) (next : State) : Ty
   pub reader : next .reader ≡ readerAfter (q .reader) (t .number)
   pub core : next .core ≡ t .core
   pub edges : next .store .edges ≡ stored (m .store .edges) (m .core .carriage .polygon .edges) (t .action)
-  pub work : next .work ≡ queued (t .core .carriage .polygon .edges) (t .action)
+  pub work : next .work ≡ leaves (m .store .edges) (m .core .carriage .polygon .edges) (t .core) (t .action)
 
 -- the reader goes on, or passes over the rest
 pub reader-on : (r : Reader) {n : ℕ} → n ≡ 0 → r ≡ readerAfter r n

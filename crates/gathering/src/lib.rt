@@ -1,9 +1,11 @@
 // Feed and plot of document 01's machine into a list of plain numbers: its state is taken apart once, and a part is touched by the events that change it alone.
 ghost use mathlib.Core.Path.{_≡_};
 ghost use mathlib.Core.Bool.{true};
-ghost use Prim.Native.Nat.{_/_, _*_, _+_, _^_, _<_, _≤_};
+ghost use mathlib.Core.List.{List};
+ghost use Prim.Native.Nat.{ℕ, _/_, _*_, _+_, _^_, _<_, _≤_};
 ghost use lib.ListN.{length, drop};
 ghost use Rattle.sines.specs.Table as T;
+ghost use Rattle.hpgl.specs.declared.Edge.{Edge};
 ghost use Rattle.hpgl.specs.declared.Work.the-variants.{Chords};
 ghost use Rattle.hpgl.specs.Machine.{waiting};
 ghost use Rattle.hpgl.specs.Machine as M;
@@ -287,7 +289,7 @@ struct Remade {
 
 fn carried(store: Store, edges: u8, count: u8, a: Action) -> Remade
     requires { ⌜ ValidAction edges a ⌝ }
-    ensures { λ r. ⌜ (r .store .edges ≡ M.stored (store .edges) edges a) × (r .work ≡ M.queued count a) ⌝ }
+    ensures { λ r. ⌜ (r .store .edges ≡ M.stored (store .edges) edges a) × ((t : ℕ) (es : List Edge) → r .work ≡ M.queued t es count a) ⌝ }
 {
     Remade {
         store: stored(store, edges, a),

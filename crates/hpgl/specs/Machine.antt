@@ -12,7 +12,6 @@ use Rattle.clip.specs.declared.Rect.{Rect}
 use Rattle.clip.specs.declared.Clipped.{Clipped}
 use Rattle.clip.specs.declared.Clipped.the-variants as clipped
 use Rattle.reader.specs.declared.Reader.{Reader}
-use Rattle.reader.specs.declared.Step.{Step}
 use Rattle.reader.specs.Reader.{freshReader}
 use Rattle.reader.specs.Step.{stepOf, passedOver}
 use Rattle.plane.specs.Turn.{turnedOf}
@@ -24,7 +23,6 @@ use Rattle.hpgl.specs.declared.Circle.{Circle}
 use Rattle.hpgl.specs.declared.Action.{Action}
 use Rattle.hpgl.specs.declared.Action.the-variants as action
 use Rattle.hpgl.specs.declared.Acted.{Acted}
-use Rattle.hpgl.specs.declared.Store.{Store}
 use Rattle.hpgl.specs.declared.Work.{Work}
 use Rattle.hpgl.specs.declared.Work.the-variants.{Nothing, Line, Chords, Edges}
 use Rattle.hpgl.specs.declared.State.{State}
@@ -91,26 +89,28 @@ stored es k (action.Join e) = set es k e
 stored es k action.Outline = es
 stored es k (action.Rectangle p q shown) = rectangleEdges es p q
 
--- what waits after an action; k is how many edges the polygon has
-unfoldable pub queued : ℕ → Action → Work
-queued k action.Keep = Nothing
-queued k (action.Line a b) = Line a b
-queued k (action.Chords o) = Chords o 0 (chordsOf (o .angle))
-queued k (action.Join e) = Nothing
-queued k action.Outline = Edges 0 k
-queued k (action.Rectangle p q shown) = cond shown (Edges 0 k) Nothing
+-- what waits after an action, with the turn t, the edges es that are then stored, and the count k of those that the polygon has
+unfoldable pub queued : ℕ → List Edge → ℕ → Action → Work
+queued t es k action.Keep = Nothing
+queued t es k (action.Line a b) = Line a b
+queued t es k (action.Chords o) = Chords o 0 (chordsOf (o .angle))
+queued t es k (action.Join e) = Nothing
+queued t es k action.Outline = Edges 0 k
+queued t es k (action.Rectangle p q shown) = cond shown (Edges 0 k) Nothing
 
 -- "After a refusal the rest is passed over"
 unfoldable pub readerAfter : Reader → ℕ → Reader
 readerAfter r n = cond (eqb n 0) r (passedOver r)
 
 unfoldable pub applied : State → Reader → Acted → State
-applied m r t = record {
-  reader = readerAfter r (t .number);
-  core = t .core;
-  store = record { edges = stored (m .store .edges) (m .core .carriage .polygon .edges) (t .action) };
-  work = queued (t .core .carriage .polygon .edges) (t .action);
-}
+applied m r t =
+    let es : List Edge = stored (m .store .edges) (m .core .carriage .polygon .edges) (t .action) in
+    record {
+      reader = readerAfter r (t .number);
+      core = t .core;
+      store = record { edges = es };
+      work = queued (t .core .settings .turn) es (t .core .carriage .polygon .edges) (t .action);
+    }
 
 -- what a byte does to the core
 unfoldable pub acted : State → ℕ → Acted

@@ -61,7 +61,9 @@ addedBy c d e (suc k) g = []
 pub record Matched (c d : Core) (a : Action) (es : List Edge) (g : ExactPolygon) (gs : List ExactSegment) : Type 0 where
   pub fit : Fit (d .settings) (d .carriage .polygon)
   pub linked : Linked (d .settings) (d .carriage .position) (d .carriage .polygon) (stored es (c .carriage .polygon .edges) a) g
-  pub queue : view (d .settings) (stored es (c .carriage .polygon .edges) a) (queued (d .carriage .polygon .edges) a) ≡ onPage gs
+  pub queue :
+      let after : List Edge = stored es (c .carriage .polygon .edges) a in
+      view (d .settings) after (queued (d .settings .turn) after (d .carriage .polygon .edges) a) ≡ onPage gs
 
 pub record Keeps (c : Core) (es : List Edge) (g : ExactPolygon) (e : Event) (t : Acted) : Type 0 where
   pub kept : Matched c (t .core) (t .action) es (polygonBy c (t .core) e (t .number) g) (addedBy c (t .core) e (t .number) g)
@@ -319,7 +321,7 @@ module _ (c : Core) (es : List Edge) (g : ExactPolygon) (f : Fit (c .settings) (
         kept = recast (cond-true _ _ _ o) (cond-true _ _ _ o) (record {
           fit = record { sound = f .sound; room = λ m. more-room (k .empty) (k .edges) (k .bytes) more q r };
           linked = grown (c .settings) (f .sound) (c .carriage .position) p k more (c .carriage .pen .down) es g (omega arith) o l;
-          queue = pick (λ (a : Action). view (c .settings) (stored es (k .edges) a) (queued (cond (k .empty) (k .edges) (k .edges + 1)) a) ≡ []) (k .empty) refl refl;
+          queue = pick (λ (a : Action). let after : List Edge = stored es (k .edges) a in view (c .settings) after (queued (c .settings .turn) after (cond (k .empty) (k .edges) (k .edges + 1)) a) ≡ []) (k .empty) refl refl;
         });
       })
       (λ e. refused (Pair n) 6)

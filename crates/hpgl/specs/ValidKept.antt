@@ -109,14 +109,14 @@ stored-valid k (action.Rectangle p q shown) h w =
     (put 0 (record { from = h .0; to = second })
     w)))
 
-queued-valid : (j k : ℕ) (a : Action) → ValidAction j a → k ≤ mostEdges → ValidWork (queued k a)
+queued-valid : (t : ℕ) (es : List Edge) (j k : ℕ) (a : Action) → ValidAction j a → k ≤ mostEdges → ValidWork (queued t es k a)
 unfolding queued
-queued-valid j k action.Keep h l = tt
-queued-valid j k (action.Line a b) h l = h
-queued-valid j k (action.Chords o) h l = (h, omega (arith, chords-most (h .least)))
-queued-valid j k (action.Join e) h l = tt
-queued-valid j k action.Outline h l = omega arith
-queued-valid j k (action.Rectangle p q shown) h l = pick ValidWork shown (omega arith) tt
+queued-valid t es j k action.Keep h l = tt
+queued-valid t es j k (action.Line a b) h l = h
+queued-valid t es j k (action.Chords o) h l = (h, omega (arith, chords-most (h .least)))
+queued-valid t es j k (action.Join e) h l = tt
+queued-valid t es j k action.Outline h l = omega arith
+queued-valid t es j k (action.Rectangle p q shown) h l = pick ValidWork shown (omega arith) tt
 
 -- ---- fresh
 
@@ -176,7 +176,7 @@ applied-valid {m} b w =
       core = t .core;
       edges = s .edges;
       length = s .length;
-      work = queued-valid (m .core .carriage .polygon .edges) (acted m b .core .carriage .polygon .edges) (acted m b .action) (t .action) (t .core .polygon .edges);
+      work = queued-valid _ _ (m .core .carriage .polygon .edges) (acted m b .core .carriage .polygon .edges) (acted m b .action) (t .action) (t .core .polygon .edges);
     }
 
 pub valid-take : {m : State} (b : ℕ) → Valid m → Valid (takeState m b)

@@ -1,7 +1,9 @@
 // What an action leaves in the store and in the waiting work.
 ghost use mathlib.Core.Path.{_≡_};
-ghost use Prim.Native.Nat.{_<_};
+ghost use mathlib.Core.List.{List};
+ghost use Prim.Native.Nat.{ℕ, _<_};
 ghost use lib.ListN.{set};
+ghost use Rattle.hpgl.specs.declared.Edge.{Edge};
 ghost use Rattle.hpgl.specs.Machine as M;
 ghost use Rattle.hpgl.specs.Numbers.{mostEdges};
 ghost use Rattle.hpgl.specs.Valid.{ValidAction};
@@ -62,10 +64,10 @@ pub fn stored(s: Store, count: u8, a: Action) -> Store
     }
 }
 
-// What waits after an action of a polygon that has `count` edges now. It asks only that a circle's chords can be counted.
+// What waits after an action of a polygon that has `count` edges now, whatever they are and the turn. It asks only that a circle's chords can be counted.
 pub fn queued(count: u8, a: Action) -> Work
     requires { ⌜ ValidAction 0 a ⌝ }
-    ensures { λ r. ⌜ r ≡ M.queued count a ⌝ }
+    ensures { λ r. ⌜ ((t : ℕ) (es : List Edge) → r ≡ M.queued t es count a) ⌝ }
 {
     match a {
         Action::Keep => Work::Nothing,

@@ -53,7 +53,7 @@ use Rattle.basics.specs.Hand.{frameOf, handOf, carriageOf, coreOf, lineOf, poin
 use Rattle.basics.specs.Locating.{hand-locatable}
 use Rattle.gathering.specs.Gather.{whole, stoppedAs, gatherFrom}
 use Rattle.gathering.specs.Far.{Far, Reached, Batching}
-use Rattle.gathering.proofs.Turns.{Turn, reader-on, reader-off, acting, none-acts, refused-acts, ended-acts, settled-acts, pair-acts, pair-refused, named-acts, unknown-acts, unstored}
+use Rattle.gathering.proofs.Turns.{leaves, Turn, reader-on, reader-off, acting, none-acts, refused-acts, ended-acts, settled-acts, pair-acts, pair-refused, named-acts, unknown-acts, unstored}
 use Rattle.gathering.proofs.Gathers.{waits-most, waits-less, byte-remains, none-remains, far-start, far-free, far-fits, far-halted, far-end, far-draw, far-next}
 use Rattle.gathering.proofs.Moving.{letters-position, doing, next-turned, next-waits, next-kept, next-small, next-drawn, next-first, next-edge, next-outline, refusal-some, next-refusal, next-refused}
 use Rattle.gathering.proofs.Chording.{alone-waits}
@@ -494,7 +494,7 @@ room-left f = let l = loop (shifts (unfilled f .before)) in omega (arith, far l 
 
 -- its line waits where none is
 abbrev line-waits : Full → Work
-line-waits f = let t = full f .before in let l = loop (shifts t) .loop in queued (l .polygon .edges) (lineOf (t .shift .result .segment))
+line-waits f = let t = full f .before in let l = loop (shifts t) .loop in leaves (l .store .edges) (l .polygon .edges) (coreOf (l .settings) (t .shift .result .hand) (l .polygon)) (lineOf (t .shift .result .segment))
 
 stays : (f : Full) → let t = full f .before in
     let q = shifts t in
@@ -511,7 +511,8 @@ line-left k =
     let f : Full = search in
     let n : tie.After-line-of Inv-loop μ-loop = search in
     let l = loop (shifts (full f .before)) .loop in
-    k .queued .ensures ∙ ap (queued (l .polygon .edges)) (n .line-of .ensures)
+    let c = coreOf (l .settings) (full f .before .shift .result .hand) (l .polygon) in
+    k .queued .ensures (c .settings .turn) (stored (l .store .edges) (l .polygon .edges) (n .line-of .result)) ∙ ap (leaves (l .store .edges) (l .polygon .edges) c) (n .line-of .ensures)
 
 -- ---- an instruction that ends
 
@@ -543,7 +544,7 @@ abbrev Edges : Ruled → Store → Type 0
 Edges r st = let l = loop (read r) .loop in st .edges ≡ stored (l .store .edges) (l .polygon .edges) (did r .action)
 
 abbrev Waiting : Ruled → Work → Type 0
-Waiting r w = w ≡ queued (did r .core .carriage .polygon .edges) (did r .action)
+Waiting r w = let l = loop (read r) .loop in w ≡ leaves (l .store .edges) (l .polygon .edges) (did r .core) (did r .action)
 
 turn : (r : Ruled) {x : Reader} {k : Core} {st : Store} {w : Work} → let q = read r in
     x ≡ readerAfter (q .next .result .reader) (did r .number) → k ≡ did r .core → Edges r st → Waiting r w →
@@ -581,7 +582,7 @@ passed p e =
     let c = p .before in
     let r = refusing c in
     let l = loop (read r) .loop in
-    turn r (p .passed-over .ensures ∙ reader-off _ (refused c)) e (ap (stored (l .store .edges) (l .polygon .edges)) (sym (kept c))) (ap (queued (did r .core .carriage .polygon .edges)) (sym (kept c)))
+    turn r (p .passed-over .ensures ∙ reader-off _ (refused c)) e (ap (stored (l .store .edges) (l .polygon .edges)) (sym (kept c))) (ap (leaves (l .store .edges) (l .polygon .edges) (did r .core)) (sym (kept c)))
 
 -- an edge that is joined finds its place
 joins-edge : (a : tie.After-action Inv-loop μ-loop) → let r : Ruled = search in loop (read r) .loop .polygon .edges < mostEdges
@@ -598,7 +599,7 @@ joined-edges a = let r : Ruled = search in let l = loop (read r) .loop in ap (st
 
 joined-waits : (a : tie.After-action Inv-loop μ-loop) → let r : Ruled = search in Waiting r Nothing
 unfolding queued
-joined-waits a = let r : Ruled = search in ap (queued (did r .core .carriage .polygon .edges)) (sym (a .action .given .1))
+joined-waits a = let r : Ruled = search in let l = loop (read r) .loop in ap (leaves (l .store .edges) (l .polygon .edges) (did r .core)) (sym (a .action .given .1))
 
 -- other actions leave the store
 same-edges : (h : Light) → let r : Ruled = search in Edges r (loop (read r) .loop .store)
@@ -982,14 +983,14 @@ loop-less-13 : tie.Need-loop-less-13 Inv-loop μ-loop
 loop-less-13 c =
     let a : Accepted = search in
     let k : tie.After-carried Inv-loop μ-loop = search in
-    taken-less a {st = k .carried .result .store} (k .carried .ensures .0) (k .carried .ensures .1)
+    taken-less a {st = k .carried .result .store} (k .carried .ensures .0) (k .carried .ensures .1 _ _)
 
 loop-again-13 : tie.Need-loop-again-13 Inv-loop μ-loop
 loop-again-13 c =
     let a : Accepted = search in
     let k : tie.After-carried Inv-loop μ-loop = search in
     let r = accepting a in
-    (again (loop (read r)) (taken a (k .carried .ensures .0) (k .carried .ensures .1)), hand-now r .before .frame-of2 .ensures, located-now r)
+    (again (loop (read r)) (taken a (k .carried .ensures .0) (k .carried .ensures .1 _ _)), hand-now r .before .frame-of2 .ensures, located-now r)
 
 queued-requires-2 : tie.Need-queued-requires-2 Inv-loop μ-loop
 queued-requires-2 c κs = let r : Ruled = search in action-alone (loop (read r) .loop .polygon .edges) (did r .action) (act-valid (ended r) .action)
@@ -999,7 +1000,7 @@ loop-less-14 c =
     let a : Accepted = search in
     let h : Light = search in
     let k : tie.After-queued2 Inv-loop μ-loop = search in
-    taken-less a (same-edges h) (k .queued2 .ensures)
+    taken-less a (same-edges h) (k .queued2 .ensures _ _)
 
 loop-again-14 : tie.Need-loop-again-14 Inv-loop μ-loop
 loop-again-14 c =
@@ -1007,7 +1008,7 @@ loop-again-14 c =
     let h : Light = search in
     let k : tie.After-queued2 Inv-loop μ-loop = search in
     let r = accepting a in
-    (again (loop (read r)) (taken a (same-edges h) (k .queued2 .ensures)), hand-now r .before .frame-of2 .ensures, located-now r)
+    (again (loop (read r)) (taken a (same-edges h) (k .queued2 .ensures _ _)), hand-now r .before .frame-of2 .ensures, located-now r)
 
 refusal-record-requires-2 : tie.Need-refusal-record-requires-2 Inv-loop μ-loop
 refusal-record-requires-2 c κs = let j : Met = search in place-small (met j)

@@ -44,31 +44,31 @@ enum-known-a-3 c = search needs
 
 returns : tie.Need-returns
 unfolding M.queued
-returns c = rw (c .before .before .a3 .given .1, c .if1 .taken) refl
+returns c = λ t es. rw (c .before .before .a3 .given .1, c .if1 .taken) refl
 
 returns-2 : tie.Need-returns-2
 unfolding M.queued
-returns-2 c = rw (c .enum-told .given .1) refl
+returns-2 c = λ t es. rw (c .enum-told .given .1) refl
 
 returns-3 : tie.Need-returns-3
 unfolding M.queued
-returns-3 c = rw (c .before .a .given .1) refl
+returns-3 c = λ t es. rw (c .before .a .given .1) refl
 
 returns-4 : tie.Need-returns-4
 unfolding M.queued
-returns-4 c = let o : tie.After-a2 = search in rw (o .a2 .given .1, c .chords .ensures) refl
+returns-4 c = λ t es. let o : tie.After-a2 = search in rw (o .a2 .given .1, c .chords .ensures) refl
 
 returns-5 : tie.Need-returns-5
 unfolding M.queued
-returns-5 c = rw (c .enum-told2 .given .1) refl
+returns-5 c = λ t es. rw (c .enum-told2 .given .1) refl
 
 returns-6 : tie.Need-returns-6
 unfolding M.queued
-returns-6 c = rw (c .enum-told3 .given .1) refl
+returns-6 c = λ t es. rw (c .enum-told3 .given .1) refl
 
 returns-7 : tie.Need-returns-7
 unfolding M.queued
-returns-7 c = rw (c .before .before .a3 .given .1, c .if1 .left) refl
+returns-7 c = λ t es. rw (c .before .before .a3 .given .1, c .if1 .left) refl
 
 pub queued-spec : {M : Type 1} → statement M
 queued-spec =
