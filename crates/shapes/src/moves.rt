@@ -73,45 +73,37 @@ pub fn name_number(mode: bool, op: usize) -> u8
 pub fn letters(h: Hand, op: usize) -> Hand
     ensures { λ r. ⌜ ((g : Polygon) → carriageOf r g ≡ R.letters (carriageOf h g) op) ⌝ }
 {
-    let position = h.position;
     let pen = h.pen;
+    let mut r = h;
     if op == PU {
-        return Hand {
-            position: position,
-            pen: Pen {
-                number: pen.number,
-                down: false,
-                changed: pen.down,
-            },
-            relative: h.relative,
+        let up = Pen {
+            number: pen.number,
+            down: false,
+            changed: pen.down,
         };
+        r.pen = up;
+        return r;
     }
     if op == PD {
-        return Hand {
-            position: position,
-            pen: Pen {
-                number: pen.number,
-                down: true,
-                changed: !pen.down,
-            },
-            relative: h.relative,
+        let down = Pen {
+            number: pen.number,
+            down: true,
+            changed: !pen.down,
         };
+        r.pen = down;
+        return r;
     }
     if op == PA {
-        return Hand {
-            position: position,
-            pen: spent(pen),
-            relative: false,
-        };
+        r.pen = spent(pen);
+        r.relative = false;
+        return r;
     }
     if op == PR {
-        return Hand {
-            position: position,
-            pen: spent(pen),
-            relative: true,
-        };
+        r.pen = spent(pen);
+        r.relative = true;
+        return r;
     }
-    h
+    r
 }
 
 // Whether a pen has paint: pen 0 has none.
@@ -138,11 +130,10 @@ fn moved(h: Hand, p: Position) -> Hand
     ensures { λ r. ⌜ r ≡ record { position = p; pen = R.spent (h .pen); relative = h .relative } ⌝ }
 {
     let pen = h.pen;
-    Hand {
-        position: p,
-        pen: spent(pen),
-        relative: h.relative,
-    }
+    let mut r = h;
+    r.position = p;
+    r.pen = spent(pen);
+    r
 }
 
 // A move outside polygon mode, to p with its location. The page points are computed only for a line.
@@ -195,26 +186,15 @@ pub fn longer(g: Polygon, n: u16, p: Position) -> Polygon
     requires { ⌜ (g .bytes + n ≤ polygonBytes) × (g .edges ≤ mostEdges) ⌝ }
     ensures { λ r. ⌜ r ≡ R.longer g n p ⌝ }
 {
-    let first = g.first;
-    let saved = g.saved;
+    let mut r = g;
+    r.bytes = g.bytes + n;
+    r.empty = false;
     if g.empty {
-        return Polygon {
-            mode: g.mode,
-            bytes: g.bytes + n,
-            edges: g.edges,
-            empty: false,
-            first: p,
-            saved: saved,
-        };
+        r.first = p;
+        return r;
     }
-    Polygon {
-        mode: g.mode,
-        bytes: g.bytes + n,
-        edges: g.edges + 1,
-        empty: false,
-        first: first,
-        saved: saved,
-    }
+    r.edges = g.edges + 1;
+    r
 }
 
 // The edge from the current position.

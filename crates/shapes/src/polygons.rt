@@ -107,16 +107,12 @@ fn ended_with(g: Polygon, mode: bool, n: u16, k: u8) -> Polygon
     requires { ⌜ (g .bytes + n ≤ polygonBytes) × (g .edges ≤ mostEdges) × (k ≤ 1) ⌝ }
     ensures { λ r. ⌜ r ≡ R.endedWith g mode n k ⌝ }
 {
-    let first = g.first;
-    let saved = g.saved;
-    Polygon {
-        mode: mode,
-        bytes: g.bytes + n,
-        edges: g.edges + k,
-        empty: true,
-        first: first,
-        saved: saved,
-    }
+    let mut r = g;
+    r.mode = mode;
+    r.bytes = g.bytes + n;
+    r.edges = g.edges + k;
+    r.empty = true;
+    r
 }
 
 fn lifted(p: Pen) -> Pen
@@ -184,20 +180,17 @@ fn leave(c: Core, n: u16, edges: u8) -> Core
     let g = k.polygon;
     let saved = g.saved;
     let position = saved.position;
-    let polygon = ended_with(g, false, n, edges);
-    with_carriage(
-        c,
-        Carriage {
-            position: position,
-            pen: Pen {
-                number: pen.number,
-                down: saved.down,
-                changed: false,
-            },
-            relative: saved.relative,
-            polygon: polygon,
-        },
-    )
+    let restored = Pen {
+        number: pen.number,
+        down: saved.down,
+        changed: false,
+    };
+    let mut r = k;
+    r.position = position;
+    r.pen = restored;
+    r.relative = saved.relative;
+    r.polygon = ended_with(g, false, n, edges);
+    with_carriage(c, r)
 }
 
 // PM2 in polygon mode. Where the closing point has no room the polygon stays open.
@@ -264,16 +257,12 @@ pub fn ep_rule(c: Core) -> Acted
 fn rectangular(g: Polygon) -> Polygon
     ensures { λ r. ⌜ r ≡ R.rectangular g ⌝ }
 {
-    let first = g.first;
-    let saved = g.saved;
-    Polygon {
-        mode: false,
-        bytes: RECTANGLE_BYTES,
-        edges: 4,
-        empty: true,
-        first: first,
-        saved: saved,
-    }
+    let mut r = g;
+    r.mode = false;
+    r.bytes = RECTANGLE_BYTES;
+    r.edges = 4;
+    r.empty = true;
+    r
 }
 
 // The rectangle between the current position and the opposite corner, if that is in range.

@@ -8,7 +8,7 @@ use Rattle.shapes.proofs.moves.letters.Tie as tie
 
 returns : tie.Need-returns
 unfolding letters
-returns c = λ g. simp (eq-eqb _ _ (c .if1 .taken)) refl
+returns c = let t : tie.Then1 = search in λ g. simp (eq-eqb _ _ (t .if1 .taken)) refl
 
 returns-2 : tie.Need-returns-2
 unfolding letters
@@ -21,12 +21,13 @@ returns-3 : tie.Need-returns-3
 unfolding letters
 returns-3 c =
     let t : tie.Then3 = search in
+    let s : tie.After-spent = search in
     λ g.
     simp (
       ne-eqb _ _ (t .before .before .if1 .left),
       ne-eqb _ _ (t .before .if2 .left),
       eq-eqb _ _ (t .if3 .taken),
-      c .spent .ensures,
+      s .spent .ensures,
     )
     refl
 
@@ -37,25 +38,27 @@ returns-4 : tie.Need-returns-4
 unfolding letters
 returns-4 c =
     let t : tie.Then4 = search in
+    let s : tie.After-spent2 = search in
     λ g.
     simp (
       ne-eqb _ _ (t .before .before .before .if1 .left),
       ne-eqb _ _ (t .before .before .if2 .left),
       ne-eqb _ _ (t .before .if3 .left),
       eq-eqb _ _ (t .if4 .taken),
-      c .spent2 .ensures,
+      s .spent2 .ensures,
     )
     refl
 
 returns-5 : tie.Need-returns-5
 unfolding letters
 returns-5 c =
+    let e : tie.Else4 = search in
     λ g.
     simp (
-      ne-eqb _ _ (c .before .before .before .if1 .left),
-      ne-eqb _ _ (c .before .before .if2 .left),
-      ne-eqb _ _ (c .before .if3 .left),
-      ne-eqb _ _ (c .if4 .left),
+      ne-eqb _ _ (e .before .before .before .if1 .left),
+      ne-eqb _ _ (e .before .before .if2 .left),
+      ne-eqb _ _ (e .before .if3 .left),
+      ne-eqb _ _ (e .if4 .left),
     )
     refl
 

@@ -5,22 +5,19 @@ use Rattle.hpgl.specs.Rules.{longer}
 use Rattle.shapes.proofs.moves.longer.Statement.{statement}
 use Rattle.shapes.proofs.moves.longer.Tie as tie
 
-add-t7 : tie.Need-add-t7
-add-t7 c = search needs
+add-r : tie.Need-add-r
+add-r c = search needs
 
 returns : tie.Need-returns
 unfolding longer
-returns c = simp (c .before .if1 .taken) refl
+returns c = let t : tie.Then1 = search in simp (t .if1 .taken) refl
 
-add-t8 : tie.Need-add-t8
-add-t8 c = search needs
-
-add-t9 : tie.Need-add-t9
-add-t9 c = search needs
+add-r-2 : tie.Need-add-r-2
+add-r-2 c = search needs
 
 returns-2 : tie.Need-returns-2
 unfolding longer
-returns-2 c = simp (c .before .before .if1 .left) refl
+returns-2 c = let e : tie.Else1 = search in simp (e .if1 .left) refl
 
 pub longer-spec : {M : Type 1} → statement M
-longer-spec = tie.close (tie.spec add-t7 returns add-t8 add-t9 returns-2)
+longer-spec = tie.close (tie.spec add-r returns add-r-2 returns-2)

@@ -13,7 +13,7 @@ with-carriage-requires c κs = search needs
 
 returns : tie.Need-returns
 unfolding leave
-returns c = simp (c .with-carriage .ensures, ← c .before .ended-with .ensures) refl
+returns c = let e : tie.After-ended-with = search in simp (c .with-carriage .ensures, ← e .ended-with .ensures) refl
 
 pub leave-spec : {M : Type 1} → statement M
 leave-spec = tie.close (tie.spec ended-with-requires with-carriage-requires returns)
