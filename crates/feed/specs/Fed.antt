@@ -7,7 +7,7 @@ use lib.ListN.{length, take, drop, replicate, length-replicate}
 use Rattle.hpgl.specs.Feed.{Feed, feedFrom, laid}
 use Rattle.hpgl.specs.declared.Stroke.{Stroke}
 use Rattle.hpgl.specs.PartsOfFeed.{storeAll}
-use Rattle.hpgl.specs.Made.{Made}
+use Rattle.hpgl.specs.Valid.{Usable}
 use Rattle.machine.specs.declared.Machine.{Machine}
 use Rattle.feed.specs.declared.Fed.{Fed}
 use Rattle.feed.specs.declared.Batch.{Batch}
@@ -57,4 +57,4 @@ pub record Batched (bytes : List ℕ) (room : ℕ) (f : Fed) (b : Batch) : Type 
   pub within : b .fed .stored ≤ room
   -- it stores a stroke or is the last
   pub some : b .more ≡ true → 0 < b .count
-  pub made : Made (b .fed .machine .state)
+  pub usable : Usable (b .fed .machine .state)

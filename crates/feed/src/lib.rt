@@ -6,7 +6,7 @@ ghost use lib.Dec.{eqb, ltb};
 ghost use lib.ListN.{length, take};
 ghost use Rattle.hpgl.specs.Numbers.{listFull};
 ghost use Rattle.hpgl.specs.Feed.{feedOf, laid};
-ghost use Rattle.hpgl.specs.Made.{Made};
+ghost use Rattle.hpgl.specs.Valid.{Usable};
 ghost use Rattle.feed.specs.Fed.{fedOf, start, Batched, blanks, listedOf};
 ghost use Rattle.feed.specs.Records.{strokeAt, strokesOf, PenAt, PensBefore};
 use basics::numbers::LIST_FULL;
@@ -130,7 +130,7 @@ fn zeros() -> [i64; 320]
 
 // The next strokes, at most 64, from f on; the list has `room` records.
 fn next_batch(f: Fed, bytes: &[u8], room: usize) -> Batch
-    requires { ⌜ (Made (f .machine .state)) × (f .stored ≤ room) ⌝ }
+    requires { ⌜ (Usable (f .machine .state)) × (f .stored ≤ room) ⌝ }
     ensures { λ b. ⌜ Batched (now (bytes .entry)) room f b ⌝ }
 {
     let machine = f.machine;
@@ -156,7 +156,7 @@ fn next_batch(f: Fed, bytes: &[u8], room: usize) -> Batch
 
 // Feeds bytes, up to one that is refused or a stroke for which the list has no room, and stores the strokes from the start of the list on.
 pub fn feed(machine: Machine, bytes: &[u8], out: &mut [Stroke]) -> Fed
-    requires { ⌜ Made (machine .state) ⌝ }
+    requires { ⌜ Usable (machine .state) ⌝ }
     ensures { λ r. ⌜ r ≡ fedOf (feedOf (machine .state) (now (bytes .entry)) (length (now (out .entry)))) ⌝ }
     ensures { λ r. ⌜ now (out .exit) ≡ laid (feedOf (machine .state) (now (bytes .entry)) (length (now (out .entry))) .strokes) (now (out .entry)) ⌝ }
 {
@@ -187,7 +187,7 @@ pub struct Listed {
 
 // A feed into a list of its own, for a caller that has no records to lend: such a caller is covered by the prover.
 pub fn feed_list(machine: Machine, bytes: &[u8]) -> Listed
-    requires { ⌜ Made (machine .state) ⌝ }
+    requires { ⌜ Usable (machine .state) ⌝ }
     ensures { λ r. ⌜ r ≡ listedOf (feedOf (machine .state) (now (bytes .entry)) 64) ⌝ }
 {
     let mut list = blank();

@@ -15,7 +15,7 @@ use lib.Seq.{take-suc-set, drop-set-lt, drop-drop, append-snoc, length-take-le, 
 use Rattle.hpgl.specs.declared.Stroke.{Stroke}
 use Rattle.hpgl.specs.Feed.{Feed, feedOf, feedFrom, laid}
 use Rattle.hpgl.specs.PartsOfFeed.{storeAll}
-use Rattle.hpgl.specs.Made.{Made}
+use Rattle.hpgl.specs.Valid.{Usable}
 use Rattle.machine.specs.declared.Machine.{Machine}
 use Rattle.feed.specs.declared.Fed.{Fed}
 use Rattle.feed.specs.declared.Batch.{Batch}
@@ -52,18 +52,18 @@ module _ (m : Machine) (bytes : List ℕ) (xs : List Stroke) where
     pub held : b .count ≤ 64
     pub place : at + b .count ≡ b .fed .stored + i
     pub room : b .fed .stored ≤ length xs
-    pub made : Made (b .fed .machine .state)
+    pub usable : Usable (b .fed .machine .state)
     pub front : whole ≡ storeAll (take at ys ++ slice i (b .count) (b .list)) (after b)
     pub back : drop at ys ≡ drop at xs
 
-  pub far-start : (b : Batch) → Made (m .state) → (b .fed ≡ start m) × ((b .count ≡ 0) × (b .more ≡ true)) → Far b 0 0 xs
-  far-start b made e = record {
+  pub far-start : (b : Batch) → Usable (m .state) → (b .fed ≡ start m) × ((b .count ≡ 0) × (b .more ≡ true)) → Far b 0 0 xs
+  far-start b usable e = record {
     long = refl;
     here = omega arith;
     held = omega (arith, e .1 .0);
     place = ap (λ (k : ℕ). 0 + k) (e .1 .0) ∙ sym (ap (λ (f : Fed). f .stored + 0) (e .0));
     room = subst (λ (f : Fed). f .stored ≤ length xs) (sym (e .0)) (omega arith);
-    made = subst (λ (f : Fed). Made (f .machine .state)) (sym (e .0)) made;
+    usable = subst (λ (f : Fed). Usable (f .machine .state)) (sym (e .0)) usable;
     front = sym (
         ap (λ (k : ℕ). storeAll (take k (b .list)) (after b)) (e .1 .0) ∙ ap (λ (z : Bool). storeAll [] (rest z bytes (length xs) (b .fed))) (e .1 .1)
         ∙ ap (λ (f : Fed). goesOn bytes (length xs) f) (e .0) ∙ ap (λ (k : ℕ). feedFrom (m .state) bytes 0 k) (sub-zero (length xs)));
@@ -93,7 +93,7 @@ module _ (m : Machine) (bytes : List ℕ) (xs : List Stroke) where
         held = far .held;
         place = omega (arith, far .place);
         room = far .room;
-        made = far .made;
+        usable = far .usable;
         front = far .front ∙ ap (λ (l : List Stroke). storeAll l (after b)) stored;
         back = drop-set-lt (at + 1) ys at s (omega arith) ∙ sym (drop-drop 1 at ys) ∙ ap (drop 1) (far .back) ∙ drop-drop 1 at xs;
       }
@@ -114,7 +114,7 @@ module _ (m : Machine) (bytes : List ℕ) (xs : List Stroke) where
         held = h .held;
         place = omega (arith, far .place, all, h .counted);
         room = h .within;
-        made = h .made;
+        usable = h .usable;
         front =
             past ∙ ap (λ (z : Bool). storeAll (take at ys) (rest z bytes (length xs) (b .fed))) more ∙ ap (storeAll (take at ys)) (h .next)
             ∙ ap (λ (l : List Stroke). record { state = after c .state; taken = after c .taken; strokes = l; number = after c .number }) (sym (append-assoc (take at ys) (take (c .count) (c .list)) (after c .strokes)));

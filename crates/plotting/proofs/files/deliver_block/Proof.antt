@@ -24,9 +24,8 @@ begun-requires c κs = tt
 loop-holds : tie.Need-loop-holds Inv-loop μ-loop
 loop-holds c =
     let s : tie.Start Inv-loop μ-loop = search in
-    let k : tie.After-shared-slice-known Inv-loop μ-loop = search in
     let e = c .begun .ensures in
-    (begins e (λ i. k .shared-slice-known .given i .fits) (s .pre .0) (s .pre .1 .0), s .pre .1 .1 .0, midway-first e (s .pre .1 .1 .1))
+    (begins e (s .pre .0) (s .pre .1 .0), s .pre .1 .1 .0, midway-first e (s .pre .1 .1 .1))
 
 fill-requires : tie.Need-fill-requires Inv-loop μ-loop
 fill-requires c κs =
@@ -65,7 +64,7 @@ returns c =
     let f = c .before .before .before .before .before .before .before .before in
     let l = f .before .before .before in
     let e = f .fill .ensures .0 in
-    (e .ready .made, leaves-part (l .loop .inv .2) e (l .loop .inv .0 .empty) (c .before .before .before .before .hand .ensures))
+    (e .ready .usable, leaves-part (l .loop .inv .2) e (l .loop .inv .0 .empty) (c .before .before .before .before .hand .ensures))
 
 emptied-requires : tie.Need-emptied-requires Inv-loop μ-loop
 emptied-requires c κs = tt
@@ -92,7 +91,7 @@ same-length-2 : tie.Need-same-length-2 Inv-loop μ-loop
 same-length-2 c = let s = c .before .before .before .before .before .before in c .before .before .loop .inv .1 ∙ sym (s .pre .1 .1 .0)
 
 returns-2 : tie.Need-returns-2 Inv-loop μ-loop
-returns-2 c = let i = c .before .before .loop .inv in (i .0 .ready .made, leaves-all (i .2) (i .0 .ready) (c .before .loop-test .left))
+returns-2 c = let i = c .before .before .loop .inv in (i .0 .ready .usable, leaves-all (i .2) (i .0 .ready) (c .before .loop-test .left))
 
 pub deliver-block-spec : {M : Type 1} → statement M
 deliver-block-spec =

@@ -5,7 +5,7 @@ use mathlib.Core.Path.{_≡_, refl, sym, _∙_}
 use Prim.Native.Nat.{_+_, _*_, _^_, _≤_}
 use native.Mathlib.Omega.{arith}
 use lib.ListN.{length, take}
-use Rattle.hpgl.specs.Made.{Made}
+use Rattle.hpgl.specs.Valid.{Usable}
 use Rattle.plotting.specs.Ran.{Begins}
 use Rattle.plotting.specs.RanLaws.{Stands, stands-first, stands-read, stands-next, ran}
 use Rattle.plotting.proofs.files.plot_file.Statement.{statement}
@@ -13,7 +13,7 @@ use Rattle.plotting.proofs.files.plot_file.Tie as tie
 
 abbrev Inv-loop : tie.InvT-loop
 Inv-loop started file block₀ text₀ machine₀ input₀ to₀ turns₀ block text machine input to turns =
-    (65536 ≡ length block) × (65536 ≡ length text) × Made (machine .state) × (input .read + turns * 65536 ≤ 2 ^ 63)
+    (65536 ≡ length block) × (65536 ≡ length text) × Usable (machine .state) × (input .read + turns * 65536 ≤ 2 ^ 63)
     × Stands (started .state) (machine .state) (input .read) (to .handed)
 
 abbrev μ-loop : tie.MeasureT-loop
