@@ -11,7 +11,7 @@
 
 enum { BLOCK = 65536, ROOM = 4096 };
 
-static int64_t state[VUTAROI_STATE];
+static vutaroi_machine machine;
 static uint8_t block[BLOCK];
 static int64_t records[ROOM * VUTAROI_RECORD];
 
@@ -28,13 +28,17 @@ int main(void)
     uint64_t taken = 0; /* bytes of all the input */
     size_t got;
 
-    vutaroi_fresh(-10000, -7000, 10000, 7000, state, VUTAROI_STATE);
+    vutaroi_fresh(-10000, -7000, 10000, 7000, &machine, VUTAROI_NUMBERS);
     while ((got = fread(block, 1, BLOCK, stdin)) > 0) {
         size_t at = 0;
         uint8_t number;
         do {
             uint64_t answer[2];
-            number = vutaroi_feed(state, VUTAROI_STATE, block + at, got - at, records, ROOM * VUTAROI_RECORD, answer, 2);
+            number = vutaroi_feed(&machine, VUTAROI_NUMBERS, block + at, got - at, records, ROOM * VUTAROI_RECORD, answer, 2);
+            if (number == VUTAROI_NO_MACHINE || number == VUTAROI_SHORT) {
+                fprintf(stderr, "strokes: the machine is damaged (%d)\n", number);
+                return 2;
+            }
             at += answer[0];
             taken += answer[0];
             print_strokes(answer[1]);

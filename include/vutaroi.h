@@ -1,17 +1,27 @@
 /* An HP-GL machine for painting rink lines: bytes in, strokes out. Link with libvutaroi.a, which `rt staticlib vutaroi` proves and writes.
  *
  * Who owns what. The caller owns every list and lends it for the length of a call; the library keeps nothing between calls, allocates nothing
- * and starts no thread. A list is a pointer and a count of its elements. A machine is a list of VUTAROI_STATE numbers, which vutaroi_fresh
- * writes first and each later call reads and writes anew. Two machines may be used in two threads; one machine in one call at a time.
+ * and starts no thread. A list is a pointer and a count of its elements. A machine is a vutaroi_machine, lent with the count VUTAROI_NUMBERS:
+ * vutaroi_fresh writes it first, and each later call reads and writes it anew.
  *
- * What is proved. Each call, handed lists as said below, ends, touches no other memory, and answers what the project's definitions say:
- * its number, the next state, each number of each list (crates/vutaroi/src/lib.rt has the contracts).
+ * What is proved. Each call, handed any lists of any length, ends, touches no other memory, and answers what the project's definitions say: its
+ * number, the machine, each number of each list (crates/vutaroi/specs/Calls.antt has one definition for each call, crates/vutaroi/src/lib.rt the
+ * contracts). A machine is tested before it is used. It begins with a row of five numbers: the version of the form, a sum of all that follows,
+ * 0, 0, 0; what follows has to be what the library writes of a machine that its calls can use. Otherwise the number is 40. A list that is too
+ * short, or a machine lent with another count than VUTAROI_NUMBERS, gives 41, and that is looked at first. After 40 or 41 nothing was written.
+ * Each machine that a call leaves passes. One that passes is safe: its strokes lie within its own limits and have a pen of 1 to 8. The sum tells
+ * every change of one number and every exchange of two; it is no protection against someone who means to deceive.
  *
- * What the caller owes, since nothing tests it:
- *   - a state is one that vutaroi_fresh wrote and that only these calls have changed since (it may be copied, and kept elsewhere);
- *   - no two lists of a call overlap;
- *   - each count is that of its list: `state` VUTAROI_STATE, `stroke` and `seen` at least VUTAROI_RECORD, `answer` at least 2, and `bytes` and
- *     `records` any count, also 0. A pointer is never null, not even with a count of 0.
+ * What the caller owes, since nothing can test it:
+ *   - no two lists of a call overlap, and none changes during the call;
+ *   - each count is that of its list. A pointer is never null, not even with a count of 0.
+ *
+ * Threads. Two machines may be used in two threads at the same time; one machine in one call at a time.
+ *
+ * Stack. A call needs at most VUTAROI_STACK bytes, and calls nothing of the caller's.
+ *
+ * On disk. A machine may be copied, and kept as its VUTAROI_NUMBERS numbers of 64 bits, in the order and with the byte order of the processor
+ * that wrote them. A library that writes another form has another version in the first number, and answers 40 to this one.
  *
  * Numbers. 0 stands for none; else it says why a byte or a call was refused:
  *    1  unknown byte or name, number with no instruction, not known in polygon mode
@@ -22,6 +32,8 @@
  *   10  bad hard limits
  *   20  take while a segment waits
  *   21  list of records full
+ *   40  no machine
+ *   41  a list is too short
  */
 #ifndef VUTAROI_H
 #define VUTAROI_H
@@ -33,9 +45,18 @@
 extern "C" {
 #endif
 
-/* The numbers of a state, and of a record: a stroke is pen, x0, y0, x1, y1. */
-#define VUTAROI_STATE 635
+/* The version of the library that this file belongs to: 10000 * major + 100 * minor + patch. vutaroi_version answers that of the library linked. */
+#define VUTAROI_VERSION 100
+
+/* The version of a machine's form, which is its first number. */
+#define VUTAROI_FORM 1
+
+/* The numbers of a machine, and of a record: a stroke is pen, x0, y0, x1, y1. */
+#define VUTAROI_NUMBERS 640
 #define VUTAROI_RECORD 5
+
+/* The bytes of stack that a call needs. */
+#define VUTAROI_STACK 65536
 
 /* What vutaroi_draw answers: no segment waits; one was worked off and nothing of it shows; one was worked off, and `stroke` has it. */
 #define VUTAROI_IDLE 0
@@ -45,27 +66,41 @@ extern "C" {
 /* The number of a call that stopped because no record was free; hand it the bytes after those it took, and a free list. */
 #define VUTAROI_FULL 21
 
-/* Writes a machine with these hard limits over `state`, whatever stood there. Each limit is -32768 to 32767, left < right, bottom < top; others
- * give 10 and a machine with the limits 0, 0, 1, 1. */
-uint8_t vutaroi_fresh(int64_t left, int64_t bottom, int64_t right, int64_t top, int64_t *state, size_t state_count);
+/* The numbers of a call that was handed what is no machine, or a list that is too short. */
+#define VUTAROI_NO_MACHINE 40
+#define VUTAROI_SHORT 41
+
+/* A machine. Only the calls write it. */
+typedef struct vutaroi_machine {
+    int64_t numbers[VUTAROI_NUMBERS];
+} vutaroi_machine;
+
+/* 10000 * major + 100 * minor + patch. */
+uint32_t vutaroi_version(void);
+
+/* Writes a machine with these hard limits, whatever stood there. Each limit is -32768 to 32767, left < right, bottom < top; others give 10 and a
+ * machine with the limits 0, 0, 1, 1. 0, 10 or 41. */
+uint8_t vutaroi_fresh(int64_t left, int64_t bottom, int64_t right, int64_t top, vutaroi_machine *machine, size_t machine_count);
 
 /* Takes one byte. While a segment waits: 20, and the machine stays. */
-uint8_t vutaroi_take(int64_t *state, size_t state_count, uint8_t byte);
+uint8_t vutaroi_take(vutaroi_machine *machine, size_t machine_count, uint8_t byte);
 
-/* Works off one waiting segment. Where it answers VUTAROI_STROKE, the first five numbers of `stroke` are the stroke; else `stroke` stays. */
-uint8_t vutaroi_draw(int64_t *state, size_t state_count, int64_t *stroke, size_t stroke_count);
+/* Works off one waiting segment. Where it answers VUTAROI_STROKE, the first five numbers of `stroke` are the stroke; else `stroke` stays.
+ * `stroke` has at least VUTAROI_RECORD numbers. */
+uint8_t vutaroi_draw(vutaroi_machine *machine, size_t machine_count, int64_t *stroke, size_t stroke_count);
 
-/* Stores x, y, pen, down (1 or 0) and the polygon's bytes in `seen`. It changes nothing else. */
-void vutaroi_look(const int64_t *state, size_t state_count, int64_t *seen, size_t seen_count);
+/* Stores x, y, pen, down (1 or 0) and the polygon's bytes in `seen`, which has at least 5 numbers. It changes nothing else. 0, 40 or 41. */
+uint8_t vutaroi_look(const vutaroi_machine *machine, size_t machine_count, int64_t *seen, size_t seen_count);
 
 /* Feeds bytes: while a segment waits, draws it into the next record, or stops with 21 if none is free; when idle, takes the next byte. Stops after
  * a byte that is refused, which counts as taken, with its number; else with 0 once all bytes are taken and none waits.
- * answer[0] is how many bytes were taken, answer[1] how many records were stored. The other numbers of `records` stay. */
-uint8_t vutaroi_feed(int64_t *state, size_t state_count, const uint8_t *bytes, size_t bytes_count, int64_t *records, size_t records_count, uint64_t *answer, size_t answer_count);
+ * answer[0] is how many bytes were taken, answer[1] how many records were stored; `answer` has at least 2 numbers, and is not written with 40 or
+ * 41. The other numbers of `records` stay. */
+uint8_t vutaroi_feed(vutaroi_machine *machine, size_t machine_count, const uint8_t *bytes, size_t bytes_count, int64_t *records, size_t records_count, uint64_t *answer, size_t answer_count);
 
 /* As vutaroi_feed, but a refused byte is stored as a record among the strokes, and the bytes after it are taken: 0, number, place of the byte
  * among `bytes`, counted from 1, 0, 0. (No stroke has pen 0.) A byte waits for a free record too, since it may be refused; without one: 21. */
-uint8_t vutaroi_plot(int64_t *state, size_t state_count, const uint8_t *bytes, size_t bytes_count, int64_t *records, size_t records_count, uint64_t *answer, size_t answer_count);
+uint8_t vutaroi_plot(vutaroi_machine *machine, size_t machine_count, const uint8_t *bytes, size_t bytes_count, int64_t *records, size_t records_count, uint64_t *answer, size_t answer_count);
 
 #ifdef __cplusplus
 }

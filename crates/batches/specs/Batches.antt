@@ -5,7 +5,7 @@ use mathlib.Core.List.{List, []}
 use Prim.Native.Nat.{ℕ, _+_, _-_, _≤_, _<_}
 use lib.ListN.{length, take, drop, replicate, length-replicate}
 use Rattle.hpgl.specs.declared.Stroke.{Stroke}
-use Rattle.hpgl.specs.Made.{Made}
+use Rattle.hpgl.specs.Valid.{Usable}
 use Rattle.feeding.specs.Feed.{Feed, feedFrom}
 use Rattle.feeding.specs.PartsOfFeed.{storeAll}
 use Rattle.machine.specs.declared.Machine.{Machine}
@@ -50,4 +50,4 @@ pub record Batched (bytes : List ℕ) (room : ℕ) (f : Fed) (b : Batch) : Type 
   pub within : b .fed .stored ≤ room
   -- it stores a stroke or is the last
   pub some : b .more ≡ true → 0 < b .count
-  pub made : Made (b .fed .machine .state)
+  pub usable : Usable (b .fed .machine .state)

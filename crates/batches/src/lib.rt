@@ -4,7 +4,7 @@ ghost use mathlib.Core.Bool.{_&&_};
 ghost use Prim.Native.Nat.{_+_, _*_, _≤_, _<_};
 ghost use lib.Dec.{eqb, ltb};
 ghost use lib.ListN.{length, take};
-ghost use Rattle.hpgl.specs.Made.{Made};
+ghost use Rattle.hpgl.specs.Valid.{Usable};
 ghost use Rattle.feeding.specs.DrawOff.{listFull};
 ghost use Rattle.batches.specs.Batches.{Batched, blanks, begun};
 ghost use Rattle.batches.specs.Records.{strokeAt, strokesOf, PenAt, PensBefore};
@@ -129,7 +129,7 @@ fn zeros() -> [i64; 320]
 
 // The next strokes, at most 64, from f on; the list has `room` records.
 pub fn next_batch(f: Fed, bytes: &[u8], room: usize) -> Batch
-    requires { ⌜ (Made (f .machine .state)) × (f .stored ≤ room) ⌝ }
+    requires { ⌜ (Usable (f .machine .state)) × (f .stored ≤ room) ⌝ }
     ensures { λ b. ⌜ Batched (now (bytes .entry)) room f b ⌝ }
 {
     let machine = f.machine;

@@ -1,19 +1,19 @@
 // Feed (document 01, "The calls"): bytes in, strokes out into a lent list of records.
 ghost use mathlib.Core.Path.{_≡_};
 ghost use lib.ListN.{length};
-ghost use Rattle.hpgl.specs.Made.{Made};
 ghost use Rattle.feeding.specs.Feed.{feedOf, laid};
 ghost use Rattle.feed.specs.Fed.{fedOf, listedOf};
 pub use batches::Fed;
 use batches::begin;
 use batches::blank;
 use batches::next_batch;
+ghost use Rattle.hpgl.specs.Valid.{Usable};
 use hpgl::Stroke;
 use machine::Machine;
 
 // Feeds bytes, up to one that is refused or a stroke for which the list has no room, and stores the strokes from the start of the list on.
 pub fn feed(machine: Machine, bytes: &[u8], out: &mut [Stroke]) -> Fed
-    requires { ⌜ Made (machine .state) ⌝ }
+    requires { ⌜ Usable (machine .state) ⌝ }
     ensures { λ r. ⌜ r ≡ fedOf (feedOf (machine .state) (now (bytes .entry)) (length (now (out .entry)))) ⌝ }
     ensures { λ r. ⌜ now (out .exit) ≡ laid (feedOf (machine .state) (now (bytes .entry)) (length (now (out .entry))) .strokes) (now (out .entry)) ⌝ }
 {
@@ -44,7 +44,7 @@ pub struct Listed {
 
 // A feed into a list of its own, for a caller that has no records to lend: such a caller is covered by the prover.
 pub fn feed_list(machine: Machine, bytes: &[u8]) -> Listed
-    requires { ⌜ Made (machine .state) ⌝ }
+    requires { ⌜ Usable (machine .state) ⌝ }
     ensures { λ r. ⌜ r ≡ listedOf (feedOf (machine .state) (now (bytes .entry)) 64) ⌝ }
 {
     let mut list = blank();

@@ -6,7 +6,6 @@ use Prim.Native.Nat.{ℕ, zero, suc, _+_, _≤_, _<_}
 use native.Mathlib.Omega.{arith}
 use borrow.Author.Tests.{ne-eqb}
 use lib.Dec.{eqb}
-use lib.ListN.{length, getD}
 use Rattle.hpgl.specs.declared.Work.{Work}
 use Rattle.hpgl.specs.declared.Work.the-variants.{Nothing, Line, Chords, Edges}
 use Rattle.hpgl.specs.declared.State.{State}
@@ -15,7 +14,9 @@ use Rattle.hpgl.specs.declared.Drawn.{Drawn}
 use Rattle.hpgl.specs.declared.Drawn.the-variants as drawn
 use Rattle.hpgl.specs.Machine.{waiting, workAfter, takeState, drawWork, drawState, drawAnswer}
 use Rattle.feeding.specs.DrawOff.{drewBy, drawOffBy}
-use Rattle.hpgl.specs.Made as made
+use lib.ListN.{length}
+use Rattle.hpgl.specs.Valid.{Usable}
+use Rattle.hpgl.specs.ValidKept.{usable-take, usable-draw}
 
 -- ---- how many segments wait, and what draw answers
 
@@ -93,31 +94,28 @@ drew-all store P k drawn.Idle r next h = h (suc r)
 -- ---- what is left
 
 -- from the machine m, with t bytes taken, n left, which are bytes where B holds, and r records free, to the machine i, with k bytes taken and j records used
-pub record Kept (m : State) (t n r : ℕ) (B : Type 0) (i : State) (k j : ℕ) : Type 0 where
+pub record Kept (m : State) (t n r : ℕ) (i : State) (k j : ℕ) : Type 0 where
   pub least : t ≤ k
   pub most : k ≤ t + n
   pub stored : j ≤ r
-  pub made : B → made.Made m → made.Made i
+  pub usable : Usable m → Usable i
 
-abbrev pub Bytes : List ℕ → Type 0
-Bytes bs = (i : ℕ) → getD bs i 0 < 256
+module _ {t n : ℕ} {i : State} {k j : ℕ} where
+  pub stored-kept : {m : State} {r : ℕ} → Kept m t n r i k j → Kept m t n (suc r) i k (suc j)
+  stored-kept h = record { least = h .least; most = h .most; stored = omega (arith, h .stored); usable = h .usable }
 
-module _ {t n : ℕ} {B : Type 0} {i : State} {k j : ℕ} where
-  pub stored-kept : {m : State} {r : ℕ} → Kept m t n r B i k j → Kept m t n (suc r) B i k (suc j)
-  stored-kept h = record { least = h .least; most = h .most; stored = omega (arith, h .stored); made = h .made }
+  pub drawn-kept : {m : State} {r : ℕ} → Kept (drawState m) t n r i k j → Kept m t n r i k j
+  drawn-kept h = record { least = h .least; most = h .most; stored = h .stored; usable = λ w. h .usable (usable-draw w) }
 
-  pub drawn-kept : {m : State} {r : ℕ} → Kept (drawState m) t n r B i k j → Kept m t n r B i k j
-  drawn-kept h = record { least = h .least; most = h .most; stored = h .stored; made = λ b w. h .made b (made.draw w) }
-
-pub stop-kept : (m : State) (t n r : ℕ) (B : Type 0) → Kept m t n r B m t 0
-stop-kept m t n r B = record { least = omega arith; most = omega arith; stored = omega arith; made = λ b w. w }
+pub stop-kept : (m : State) (t n r : ℕ) → Kept m t n r m t 0
+stop-kept m t n r = record { least = omega arith; most = omega arith; stored = omega arith; usable = λ w. w }
 
 -- a byte is taken, and what is left follows
-pub byte-kept : {i : State} {k j : ℕ} (m : State) (b : ℕ) (bs : List ℕ) (t r : ℕ) → Kept (takeState m b) (t + 1) (length bs) r (Bytes bs) i k j →
-    Kept m t (suc (length bs)) r (Bytes (b ∷ bs)) i k j
+pub byte-kept : {i : State} {k j : ℕ} (m : State) (b : ℕ) (bs : List ℕ) (t r : ℕ) → Kept (takeState m b) (t + 1) (length bs) r i k j →
+    Kept m t (suc (length bs)) r i k j
 byte-kept m b bs t r h = record {
   least = omega (arith, h .least);
   most = omega (arith, h .most);
   stored = h .stored;
-  made = λ c w. h .made (λ j. c (suc j)) (made.take w b (c 0));
+  usable = λ w. h .usable (usable-take b w);
 }

@@ -1,10 +1,10 @@
 -- The marks of a plot: a stroke's pen is not 0, which tells it from a refusal, and a refusal's place is within the bytes.
--- Why: where a segment waits the pen has paint (`made-inked`), and a stroke has that pen; and a place is the count of bytes taken.
+-- Why: where a segment waits the pen has paint (`Usable`), and a stroke has that pen; and a place is the count of bytes taken.
 use mathlib.Core.Path.{_≡_, refl}
 use mathlib.Core.List.{List, [], _∷_}
 use Prim.Native.Nat.{ℕ, zero, suc, _+_, _≤_, _<_}
 use native.Mathlib.Omega.{arith}
-use lib.ListN.{length, getD}
+use lib.ListN.{length}
 use Rattle.clip.specs.Clip.{clip}
 use Rattle.clip.specs.declared.Rect.{Rect}
 use Rattle.clip.specs.declared.Clipped.{Clipped}
@@ -17,10 +17,9 @@ use Rattle.hpgl.specs.declared.Drawn.the-variants as drawn
 use Rattle.hpgl.specs.Machine.{waiting, takeState, takeNumber, strokeOf, drawState, drawAnswer}
 use Rattle.feeding.specs.DrawOffLaws.{draw-less}
 use Rattle.feeding.specs.Plot.{Mark, stroke, refusal, Plot, drew, took, drawOff, takeOn, plotFrom}
-use Rattle.hpgl.specs.Made.{Made, take, draw}
-use Rattle.hpgl.specs.Valid.{Every, none, more}
 use Rattle.hpgl.specs.Segment.{drawnOf, segment-drawn}
-use Rattle.hpgl.specs.Condition3Proof.{made-inked}
+use Rattle.hpgl.specs.Valid.{Every, none, more, Usable}
+use Rattle.hpgl.specs.ValidKept.{usable-take, usable-draw}
 
 -- ---- a draw: a stroke has the pen's number
 
@@ -41,8 +40,8 @@ module _ (r : Rect) (pen : ℕ) (h : pen ≡ 0 → ⊥) where
   drawn-inked segment.PenUp = tt
   drawn-inked (segment.Line a b) = clipped-inked (clip r a b)
 
-answer-inked : {m : State} → Made m → 0 < waiting (m .work) → DrawnInked (drawAnswer m)
-answer-inked {m} v w = rw (segment-drawn m) (drawn-inked _ _ (made-inked v w) _)
+answer-inked : {m : State} → Usable m → 0 < waiting (m .work) → DrawnInked (drawAnswer m)
+answer-inked {m} v w = rw (segment-drawn m) (drawn-inked _ _ (v .inked .pen w) _)
 
 -- ---- a plot
 
@@ -63,14 +62,14 @@ module _ (end : ℕ) where
   took-told zero t r next l h = h (suc r)
   took-told (suc n) t r next l h = more l (h r)
 
-  off-told : (k : ℕ) (m : State) (t r : ℕ) (idle : State → ℕ → Plot) → waiting (m .work) ≡ k → Made m → ((i : State) (q : ℕ) → Made i → Every (Told end) (idle i q .marks))
+  off-told : (k : ℕ) (m : State) (t r : ℕ) (idle : State → ℕ → Plot) → waiting (m .work) ≡ k → Usable m → ((i : State) (q : ℕ) → Usable i → Every (Told end) (idle i q .marks))
       → Every (Told end) (drawOff k m t r idle .marks)
   unfolding drawOff
   off-told zero m t r idle w v h = h m r v
   off-told (suc k) m t zero idle w v h = none
   off-told (suc k) m t (suc r) idle w v h =
       drew-told (drawAnswer m) r (λ q. drawOff k (drawState m) t q idle) (answer-inked v (omega (arith, w)))
-      (λ q. off-told k (drawState m) t q idle (draw-less m k w) (draw v) h)
+      (λ q. off-told k (drawState m) t q idle (draw-less m k w) (usable-draw v) h)
 
   take-told : (m : State) (b t r : ℕ) (next : State → ℕ → Plot) → t + 1 ≤ end → ((q : ℕ) → Every (Told end) (next (takeState m b) q .marks))
       → Every (Told end) (takeOn m b t r next .marks)
@@ -78,9 +77,9 @@ module _ (end : ℕ) where
   take-told m b t zero next l h = none
   take-told m b t (suc r) next l h = took-told (takeNumber m b) (t + 1) r (λ q. next (takeState m b) q) l h
 
-  pub plot-told : (m : State) (bs : List ℕ) (t r : ℕ) → t + length bs ≤ end → ((i : ℕ) → getD bs i 0 < 256) → Made m → Every (Told end) (plotFrom m bs t r .marks)
+  pub plot-told : (m : State) (bs : List ℕ) (t r : ℕ) → t + length bs ≤ end → Usable m → Every (Told end) (plotFrom m bs t r .marks)
   unfolding plotFrom
-  plot-told m [] t r l k v = off-told (waiting (m .work)) m t r _ refl v (λ i q w. none)
-  plot-told m (b ∷ bs) t r l k v =
+  plot-told m [] t r l v = off-told (waiting (m .work)) m t r _ refl v (λ i q w. none)
+  plot-told m (b ∷ bs) t r l v =
       off-told (waiting (m .work)) m t r _ refl v
-      (λ i q w. take-told i b t q (λ j p. plotFrom j bs (t + 1) p) (omega arith) (λ p. plot-told (takeState i b) bs (t + 1) p (omega arith) (λ i. k (suc i)) (take w b (k 0))))
+      (λ i q w. take-told i b t q (λ j p. plotFrom j bs (t + 1) p) (omega arith) (λ p. plot-told (takeState i b) bs (t + 1) p (omega arith) (usable-take b w)))

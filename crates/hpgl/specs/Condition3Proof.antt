@@ -29,7 +29,6 @@ use Rattle.hpgl.specs.Machine.{hardLimits, noEdge, freshState, waiting, 
 use Rattle.hpgl.specs.ExactModel.{ExactPolygon, ExactSegment, Model, noPoints, freshModel, coreAfter, numberOf, taken, takeWhen, takeModel, rest, drawModel}
 use Rattle.hpgl.specs.Condition3.{Call, take, draw, stateAfter, modelAfter, Holds, HoldsAt, HoldsAll, Condition3}
 use Rattle.hpgl.specs.Valid.{Knows}
-use Rattle.hpgl.specs.Made as made
 use Rattle.hpgl.specs.Related.{edgesFrom, polygonEdges, edgesOf, allEdges, PageSegment, turnedEdges, chordsFrom, view, onPage, AllLocated, none, more, Related}
 use Rattle.hpgl.specs.Near.{keeps-promise}
 use Rattle.hpgl.specs.SegmentsLocated.{located-by}
@@ -215,27 +214,3 @@ fresh-related r = record {
 pub condition-3 : Condition3
 unfolding freshModel freshState
 condition-3 r calls = from (freshState r) noPoints [] calls (fresh-related r)
-
--- every machine that the calls make is related to some polygon and queue
-pub record Shadowed (m : State) : Type 0 where
-  pub polygon : ExactPolygon
-  pub queue : List ExactSegment
-  pub related : Related m polygon queue
-
-pub made-related : {m : State} → made.Made m → Shadowed m
-unfolding stateAfter
-made-related (made.fresh r) = record { polygon = noPoints; queue = []; related = fresh-related r }
-made-related (made.take {m} h b l) = let s = made-related h in let n = next m (s .polygon) (s .queue) (take b l) (s .related) in record { polygon = n .polygon; queue = n .queue; related = n .related }
-made-related (made.draw {m} h) = let s = made-related h in let n = next m (s .polygon) (s .queue) draw (s .related) in record { polygon = n .polygon; queue = n .queue; related = n .related }
-
--- where a segment waits, the pen has paint: the queue has a segment, and the model queues none with pen 0
-pub related-inked : {m : State} {g : ExactPolygon} {q : List ExactSegment} → Related m g q → 0 < waiting (m .work) → m .core .carriage .pen .number ≡ 0 → ⊥
-unfolding onPage
-related-inked {m} {q = q} r w = go q (r .located) (waits (m .core .settings) (m .store .edges) (m .work) ∙ ap length (r .queue))
-  where
-    go : (q : List ExactSegment) → AllLocated (m .core .carriage .pen .number) q → waiting (m .work) ≡ length (onPage q) → m .core .carriage .pen .number ≡ 0 → ⊥
-    go q none e = absurd (omega (arith, w, e))
-    go q (more l h) e = l .ink
-
-pub made-inked : {m : State} → made.Made m → 0 < waiting (m .work) → m .core .carriage .pen .number ≡ 0 → ⊥
-made-inked h = related-inked (made-related h .related)

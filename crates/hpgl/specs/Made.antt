@@ -1,5 +1,5 @@
 -- "A machine comes only from these calls": fresh, with any four numbers, bad ones too; take, with any byte; draw.
--- `made-valid` (ValidKept.antt) proves that each of them is valid, so that the precondition of the calls keeps nobody out.
+-- `made-usable` (ValidKept.antt) proves that each of them is usable, so that the precondition of the calls keeps nobody out.
 use Prim.Native.Nat.{ℕ, _<_}
 use Rattle.clip.specs.declared.Rect.{Rect}
 use Rattle.hpgl.specs.declared.State.{State}

@@ -16,11 +16,11 @@ use Rattle.hpgl.specs.declared.Polygon.{Polygon}
 use Rattle.hpgl.specs.declared.Settings.{Settings}
 use Rattle.hpgl.specs.Numbers.{outOfRange, tooFar, polygonFull, polygonBytes, modeBytes, pointBytes, mostEdges}
 use Rattle.hpgl.specs.Place.{rounded, location, inRange}
-use Rattle.hpgl.specs.Rules.{inked, begun, pm0, closes, endedWith, ended, pm1In, pm1, leave, pm2In, pm2, pmRule, epRule, rectangular, rectangleTo, eaRule, erRule}
+use Rattle.hpgl.specs.Rules.{inked, edgeTo, begun, pm0, closes, endedWith, ended, pm1In, pm1, leave, pm2In, pm2, pmRule, epRule, rectangular, rectangleTo, eaRule, erRule}
 use Rattle.hpgl.specs.Valid.{LocatablePosition, Placed, ValidPolygon, ValidCore, ValidAction, ValidActed}
-use Rattle.hpgl.specs.ValidFacts.{absolute-locatable, relative-locatable, located-placed, edge-room}
+use Rattle.hpgl.specs.ValidFacts.{absolute-locatable, relative-locatable, located-placed, placed-kept, edge-room}
 use Rattle.hpgl.specs.Cases.{pick}
-use Rattle.hpgl.specs.KeptCases.{when, valid-core, closed-polygon, refuses, acts, keeps}
+use Rattle.hpgl.specs.KeptCases.{Inks, when, valid-core, closed-polygon, joins, with-ink, rectangle-with-ink, refuses, acts, keeps}
 use Rattle.hpgl.specs.PositionKept.{edge-valid}
 
 -- ---- PM
@@ -35,6 +35,8 @@ valid-pm0 {c} w =
       room = λ h. omega arith;
       first = λ h. w .position;
       saved = λ h. w .position;
+      first-kept = placed-kept (w .settings) (w .position);
+      saved-kept = placed-kept (w .settings) (w .position);
     })))
 
 -- in polygon mode
@@ -52,7 +54,13 @@ module _ {c : Core} (w : ValidCore c) (o : c .carriage .polygon .mode ≡ true) 
     room = λ q. omega (arith, w .polygon .room o);
     first = λ q. w .polygon .first o;
     saved = λ q. w .polygon .saved o;
+    first-kept = w .polygon .first-kept;
+    saved-kept = w .polygon .saved-kept;
   })
+
+  edge-quiet : (d : Core) → Inks d (edgeTo c (c .carriage .polygon .first))
+  unfolding edgeTo
+  edge-quiet d = joins d _
 
   valid-pm1-in : ValidActed c (pm1In c)
   unfolding pm1In
@@ -62,7 +70,7 @@ module _ {c : Core} (w : ValidCore c) (o : c .carriage .polygon .mode ≡ true) 
       (when (ValidActed c) (leb (b + (modeBytes + pointBytes)) polygonBytes)
       (λ e. let r = room-of (modeBytes + pointBytes) (omega arith) e in
       acts c _ _ (edge-valid w (w .polygon .first o) r)
-      (ended-valid (modeBytes + pointBytes) 1 (c .carriage .polygon .first) (w .polygon .first o) e (omega (arith, r)) (omega arith)))
+      (ended-valid (modeBytes + pointBytes) 1 (c .carriage .polygon .first) (w .polygon .first o) e (omega (arith, r)) (omega arith)) (edge-quiet _))
       (λ e. refuses c c polygonFull (omega arith) w))
       (when (ValidActed c) (leb (b + modeBytes) polygonBytes)
       (λ e. keeps c _ (ended-valid modeBytes 0 (c .carriage .position) (w .position) e (omega (arith, w .polygon .edges)) (omega arith)))
@@ -70,7 +78,7 @@ module _ {c : Core} (w : ValidCore c) (o : c .carriage .polygon .mode ≡ true) 
 
   leave-valid : (n k : ℕ) → c .carriage .polygon .bytes + n ≤ polygonBytes → c .carriage .polygon .edges + k ≤ mostEdges → ValidCore (leave c n k)
   unfolding leave endedWith
-  leave-valid n k h l = valid-core (w .settings) (w .polygon .saved o) (w .pen) (closed-polygon refl h l)
+  leave-valid n k h l = valid-core (w .settings) (w .polygon .saved o) (w .pen) (closed-polygon refl h l (w .polygon .first-kept) (w .polygon .saved-kept))
 
   valid-pm2-in : ValidActed c (pm2In c)
   unfolding pm2In
@@ -80,7 +88,7 @@ module _ {c : Core} (w : ValidCore c) (o : c .carriage .polygon .mode ≡ true) 
       pick (ValidActed c) (closes c)
       (when (ValidActed c) (leb (b + pointBytes) polygonBytes)
       (λ e. let r = room-of pointBytes (omega arith) e in
-      acts c _ _ (edge-valid w (w .polygon .first o) r) (leave-valid pointBytes 1 (leb-true (b + pointBytes) polygonBytes e) (omega (arith, r))))
+      acts c _ _ (edge-valid w (w .polygon .first o) r) (leave-valid pointBytes 1 (leb-true (b + pointBytes) polygonBytes e) (omega (arith, r))) (edge-quiet _))
       (λ e. refuses c _ polygonFull (omega arith) plain))
       (keeps c _ plain)
 
@@ -105,17 +113,17 @@ valid-pm {c} n w =
 
 pub valid-ep : {c : Core} → ValidCore c → ValidActed c (epRule c)
 unfolding epRule
-valid-ep {c} w = acts c _ _ (pick (ValidAction (c .carriage .polygon .edges)) (inked c) tt tt) w
+valid-ep {c} w = acts c _ _ (pick (ValidAction (c .carriage .polygon .edges)) (inked c) tt tt) w (with-ink c _)
 
-rectangular-valid : {s : Settings} (g : Polygon) → ValidPolygon s (rectangular g)
+rectangular-valid : {s : Settings} {g : Polygon} → ValidPolygon s g → ValidPolygon s (rectangular g)
 unfolding rectangular
-rectangular-valid g = closed-polygon refl (omega arith) (omega arith)
+rectangular-valid w = closed-polygon refl (omega arith) (omega arith) (w .first-kept) (w .saved-kept)
 
 pub valid-rectangle : {c : Core} {p : Position} → ValidCore c → LocatablePosition (c .settings) p → ValidActed c (rectangleTo c p)
-unfolding rectangleTo
+unfolding rectangleTo inked
 valid-rectangle {c} {p} w h =
     when (ValidActed c) (inRange (location (c .settings) p))
-    (λ e. acts c _ _ (w .position .near, located-placed h e .near) (valid-core (w .settings) (w .position) (w .pen) (rectangular-valid (c .carriage .polygon))))
+    (λ e. acts c _ _ (w .position .near, located-placed h e .near) (valid-core (w .settings) (w .position) (w .pen) (rectangular-valid (w .polygon))) (rectangle-with-ink _ _ _))
     (λ e. refuses c c tooFar (omega arith) w)
 
 pub valid-ea : {c : Core} {n : Numbers} → ValidCore c → Small n → ValidActed c (eaRule c n)

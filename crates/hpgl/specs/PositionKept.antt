@@ -9,20 +9,22 @@ use Rattle.reader.specs.declared.Coordinates.{Coordinates}
 use Rattle.reader.specs.Sizes.{SmallPair}
 use Rattle.hpgl.specs.declared.Position.{Position}
 use Rattle.hpgl.specs.declared.Core.{Core}
+use Rattle.hpgl.specs.declared.Action.the-variants.{Keep}
 use Rattle.hpgl.specs.Numbers.{tooFar, polygonFull, polygonBytes, modeBytes, pointBytes, mostEdges}
 use Rattle.hpgl.specs.Place.{location, inRange}
 use Rattle.hpgl.specs.Rules.{inked, moveTo, pointCost, longer, edgeTo, storePoint, goTo, pairRule}
-use Rattle.hpgl.specs.Valid.{LocatablePosition, Placed, ValidCore, ValidAction, ValidActed}
-use Rattle.hpgl.specs.ValidFacts.{page-small, aimed-locatable, located-placed, cost-least, edge-room}
+use Rattle.hpgl.specs.Valid.{LocatablePosition, Placed, KeptPosition, ValidCore, ValidAction, ValidActed}
+use Rattle.hpgl.specs.ValidFacts.{page-small, aimed-locatable, located-placed, placed-kept, cost-least, edge-room}
 use Rattle.hpgl.specs.Cases.{pick}
-use Rattle.hpgl.specs.KeptCases.{when, valid-core, refuses, acts}
+use Rattle.hpgl.specs.KeptCases.{Inks, when, valid-core, quiet, joins, down-with-ink, refuses, acts}
 
 pub valid-move : {c : Core} {p : Position} → ValidCore c → Placed (c .settings) p → ValidActed c (moveTo c p)
-unfolding moveTo
+unfolding moveTo inked
 valid-move {c} {p} w h =
     acts c _ _
     (pick (ValidAction (c .carriage .polygon .edges)) (c .carriage .pen .down && inked c) (page-small (w .settings) (w .position), page-small (w .settings) h) tt)
     (valid-core (w .settings) h (w .pen) (w .polygon))
+    (down-with-ink _ (c .carriage .pen .down) _)
 
 -- ---- the polygon with one point more
 
@@ -31,6 +33,11 @@ pub edge-valid : {c : Core} {p : Position} → ValidCore c → Placed (c .settin
     ValidAction (c .carriage .polygon .edges) (edgeTo c p)
 unfolding edgeTo
 edge-valid w h l = (record { from = w .position .near; to = h .near }, l)
+
+joins-next : (c d : Core) (p : Position) (empty : Bool) → Inks d (cond empty Keep (edgeTo c p))
+unfolding edgeTo
+joins-next c d p true = quiet d
+joins-next c d p false = joins d _
 
 more-edges : (empty : Bool) (k : ℕ) → k < mostEdges → cond empty k (k + 1) ≤ mostEdges
 more-edges true k h = omega arith
@@ -56,7 +63,9 @@ valid-store {c} {p} w o h =
       room = λ q. more-room (g .empty) (g .edges) (g .bytes) n l (w .polygon .room o);
       first = λ q. pick (Placed (c .settings)) (g .empty) h (w .polygon .first o);
       saved = w .polygon .saved;
-    })))
+      first-kept = pick KeptPosition (g .empty) (placed-kept (w .settings) h) (w .polygon .first-kept);
+      saved-kept = w .polygon .saved-kept;
+    })) (joins-next c _ p (g .empty)))
     (λ e. refuses c c polygonFull (omega arith) w)
 
 -- ---- pairs

@@ -24,7 +24,7 @@ use Rattle.hpgl.specs.Place.{limits}
 use Rattle.hpgl.specs.Machine.{noEdge, strokeOf, shown, vertex, chordShown, edgeShown, drawWork, drawAnswer}
 use Rattle.hpgl.specs.Values.{Out, stroke, hidden, idle, drawnValues}
 use Rattle.hpgl.specs.Valid.{ValidSettings, SmallEdge, ValidCircle, ValidWork, Valid}
-use Rattle.hpgl.specs.ValidFacts.{edge-small}
+use Rattle.hpgl.specs.ValidFacts.{edge-small, vertices}
 
 -- chord i
 unfoldable pub chordSegment : Settings → Circle → ℕ → Segment
@@ -114,7 +114,7 @@ SmallSegment (Line a b) = SmallPoint a × SmallPoint b
 module _ {s : Settings} (v : ValidSettings s) where
   pub chord-small : {o : Circle} → ValidCircle o → (i : ℕ) → SmallSegment (chordSegment s o i)
   unfolding chordSegment vertex
-  chord-small h i = (turned-small (h .vertices i) (v .turn), turned-small (h .vertices (i + 1)) (v .turn))
+  chord-small h i = (turned-small (vertices h i) (v .turn), turned-small (vertices h (i + 1)) (v .turn))
 
   pub page-small : {e : Edge} → SmallEdge e → SmallSegment (edgeSegment s e)
   unfolding edgeSegment

@@ -6,7 +6,7 @@ use Prim.Native.Nat.{ℕ, _≤_, _<_}
 use native.Mathlib.Omega.{arith}
 use lib.Dec.{eqb}
 use lib.IntN.{ℤ, pos, natAbs}
-use Rattle.exact.specs.Whole.{_≤?_, _≡?_, ≡?-false}
+use Rattle.exact.specs.Whole.{_≤?_, _<ᶻ_, _≡?_, ≡?-false, ord}
 use Rattle.exact.specs.Int16.{int16-size}
 use Rattle.exact.specs.Fit.{Bd, bd-lit}
 use Rattle.clip.specs.declared.Point.{Point}
@@ -25,10 +25,10 @@ use Rattle.hpgl.specs.declared.Settings.{Settings}
 use Rattle.hpgl.specs.declared.Carriage.{Carriage}
 use Rattle.hpgl.specs.declared.Core.{Core}
 use Rattle.hpgl.specs.Numbers.{unknown, outOfRange, mostPen, quarterAngle}
-use Rattle.hpgl.specs.Place.{rounded, axisX, axisY, location, inRange}
+use Rattle.hpgl.specs.Place.{rounded, axisX, axisY, location, inRange, restAt}
 use Rattle.hpgl.specs.Change.{withSettings, withCarriage, withCorners, withScale, withTurn, withWindow, withRelative}
-use Rattle.hpgl.specs.Rules.{unscaled, noWindow, freshSettings, noPolygon, freshCarriage, letters, nameRule, rebased, inRule, dfRule, int16, goodCorners, setCorners, ipRule, scRule, setTurn, roRule, setWindow, iwRule, setPen, spRule}
-use Rattle.hpgl.specs.Valid.{ShortPoint, ShortRect, ValidRange, ValidSettings, Placed, ValidPolygon, ValidCore, ValidActed}
+use Rattle.hpgl.specs.Rules.{origin, unscaled, noWindow, freshSettings, noPolygon, freshCarriage, letters, nameRule, rebased, inRule, dfRule, int16, goodCorners, setCorners, ipRule, scRule, setTurn, roRule, setWindow, iwRule, setPen, spRule}
+use Rattle.hpgl.specs.Valid.{ShortPoint, ShortRect, ValidRange, ValidSettings, Placed, KeptPosition, ValidPolygon, ValidCore, ValidActed}
 use Rattle.hpgl.specs.ValidFacts.{and-both, from-to, in-range-small, rest-placed, page-small, back-small, relative-valid}
 use Rattle.hpgl.specs.Cases.{never, pick}
 use Rattle.hpgl.specs.KeptCases.{when, valid-core, closed-polygon, refuses, keeps}
@@ -51,8 +51,8 @@ valid-name {c} op w =
 
 record Limits (r : Rect) : Type 0 where
   short : ShortRect r
-  apart-x : r .left ≡ r .right → ⊥
-  apart-y : r .bottom ≡ r .top → ⊥
+  across : r .left <ᶻ r .right
+  upward : r .bottom <ᶻ r .top
 
 record Corners (p q : Point) : Type 0 where
   p1 : ShortPoint p
@@ -68,8 +68,8 @@ valid-settings : {r : Rect} {p q : Point} {k : Scale} {t : ℕ} {a : Window} →
     ValidSettings (record { hard = r; p1 = p; p2 = q; scale = k; turn = t; window = a })
 valid-settings h c k t a = record {
   hard = h .short;
-  hard-x = h .apart-x;
-  hard-y = h .apart-y;
+  hard-x = h .across;
+  hard-y = h .upward;
   p1 = c .p1;
   p2 = c .p2;
   apart-x = c .apart-x;
@@ -89,17 +89,20 @@ no-ranges = record { x = none; y = none }
 no-window : SmallRect (noWindow .area)
 no-window = record { left = bd-lit tt; bottom = bd-lit tt; right = bd-lit tt; top = bd-lit tt }
 
-pub fresh-settings : {r : Rect} → ShortRect r → (r .left ≡ r .right → ⊥) → (r .bottom ≡ r .top → ⊥) → ValidSettings (freshSettings r)
+pub fresh-settings : {r : Rect} → ShortRect r → r .left <ᶻ r .right → r .bottom <ᶻ r .top → ValidSettings (freshSettings r)
 unfolding freshSettings
 fresh-settings h x y =
-    valid-settings (record { short = h; apart-x = x; apart-y = y })
-    (record { p1 = record { x = h .left; y = h .bottom }; p2 = record { x = h .right; y = h .top }; apart-x = x; apart-y = y })
+    valid-settings (record { short = h; across = x; upward = y })
+    (record { p1 = record { x = h .left; y = h .bottom }; p2 = record { x = h .right; y = h .top }; apart-x = apart x; apart-y = apart y })
     no-ranges (omega arith) no-window
+  where
+    apart : {a b : ℤ} → a <ᶻ b → a ≡ b → ⊥
+    apart h e = omega (arith, ord)
 
 -- with one part changed
 module _ {s : Settings} (w : ValidSettings s) where
   its-limits : Limits (s .hard)
-  its-limits = record { short = w .hard; apart-x = w .hard-x; apart-y = w .hard-y }
+  its-limits = record { short = w .hard; across = w .hard-x; upward = w .hard-y }
 
   its-corners : Corners (s .p1) (s .p2)
   its-corners = record { p1 = w .p1; p2 = w .p2; apart-x = w .apart-x; apart-y = w .apart-y }
@@ -147,7 +150,7 @@ good-corners p q e =
 
 rebased-valid : (c : Core) {s : Settings} → ValidCore c → c .carriage .polygon .mode ≡ false → ValidSettings s → ValidCore (rebased c s)
 unfolding rebased
-rebased-valid c w o h = valid-core h (rest-placed h (back-small (w .settings) (w .position) (h .turn))) (w .pen) (closed-polygon o (w .polygon .bytes) (w .polygon .edges))
+rebased-valid c w o h = valid-core h (rest-placed h (back-small (w .settings) (w .position) (h .turn))) (w .pen) (closed-polygon o (w .polygon .bytes) (w .polygon .edges) (w .polygon .first-kept) (w .polygon .saved-kept))
 
 -- the window moves no location
 placed-under : {s : Settings} {k : Window} {p : Position} → Placed s p → Placed (withWindow s k) p
@@ -155,11 +158,15 @@ unfolding axisX axisY location
 placed-under h = record { x = h .x; y = h .y; near = h .near }
 
 window-valid : (c : Core) {k : Window} → ValidCore c → c .carriage .polygon .mode ≡ false → SmallRect (k .area) → ValidCore (withSettings c (withWindow (c .settings) k))
-window-valid c w o h = valid-core (with-window (w .settings) h) (placed-under (w .position)) (w .pen) (closed-polygon o (w .polygon .bytes) (w .polygon .edges))
+window-valid c w o h = valid-core (with-window (w .settings) h) (placed-under (w .position)) (w .pen) (closed-polygon o (w .polygon .bytes) (w .polygon .edges) (w .polygon .first-kept) (w .polygon .saved-kept))
+
+at-origin : KeptPosition (restAt origin)
+unfolding restAt
+at-origin = record { x-base = bd-lit tt; x-offset = bd-lit tt; y-base = bd-lit tt; y-offset = bd-lit tt }
 
 pub no-polygon : {s : Settings} → ValidPolygon s noPolygon
 unfolding noPolygon
-no-polygon = closed-polygon refl (omega arith) (omega arith)
+no-polygon = closed-polygon refl (omega arith) (omega arith) at-origin at-origin
 
 -- ---- the instructions
 

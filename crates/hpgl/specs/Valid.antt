@@ -1,14 +1,17 @@
 -- What holds of every machine that the calls make, so that no number of the code leaves its width and no index its array. Definitions only:
--- Made.antt says which machines the calls make, and ValidKept.antt proves that each of them is valid. ValidFacts.antt has what follows for the code.
+-- What the calls ask for is `Usable`; Made.antt says which machines the calls make, and ValidKept.antt proves that each of them is usable. ValidFacts.antt has what
+-- follows for the code.
 use mathlib.Core.Path.{_≡_}
 use mathlib.Core.Bool.{Bool, true}
 use mathlib.Core.List.{List, [], _∷_}
 use Prim.Native.Nat.{ℕ, _+_, _*_, _≤_, _<_}
+use lib.IntN.{pos, negℤ, _*ℤ_}
 use lib.ListN.{length}
+use Rattle.exact.specs.Whole.{_<ᶻ_}
 use Rattle.exact.specs.Fit.{Bd}
 use Rattle.clip.specs.declared.Point.{Point}
 use Rattle.clip.specs.declared.Rect.{Rect}
-use Rattle.clip.specs.Reach.{SmallPoint, SmallRect}
+use Rattle.clip.specs.Reach.{reach, SmallPoint, SmallRect}
 use Rattle.reader.specs.declared.Event.{Event}
 use Rattle.reader.specs.declared.Event.the-variants.{Nothing, Named, Pair, Ended, Refused}
 use Rattle.reader.specs.declared.Reader.{Reader}
@@ -16,8 +19,8 @@ use Rattle.mnemonics.specs.Table.{rows, knownInPolygon}
 use Rattle.reader.specs.Inside.{inside}
 use Rattle.reader.specs.Sizes.{Readable, SmallPair, Fitting}
 use Rattle.plane.specs.Turn.{turnCount}
-use Rattle.plane.specs.Bounds.{mostNumber, mostPoint, mostAngle, Locatable, Storable, WayBounds, CentreBounds}
-use Rattle.plane.specs.Circle.{angleOf, pointFromCentre}
+use Rattle.plane.specs.Bounds.{mostNumber, mostPoint, mostAngle, mostProduct, Locatable, Storable, WayBounds, CentreBounds}
+use Rattle.plane.specs.Circle.{fromCentre}
 use Rattle.hpgl.specs.declared.Position.{Position}
 use Rattle.hpgl.specs.declared.Range.{Range}
 use Rattle.hpgl.specs.declared.Settings.{Settings}
@@ -33,6 +36,7 @@ use Rattle.hpgl.specs.declared.Work.the-variants as work
 use Rattle.hpgl.specs.declared.State.{State}
 use Rattle.hpgl.specs.Numbers.{polygonBytes, modeBytes, pointBytes, mostEdges, mostPen, leastAngle}
 use Rattle.hpgl.specs.Place.{axisX, axisY, location}
+use Rattle.hpgl.specs.Machine.{waiting, queued}
 
 -- the chord angle is at least 5 tenths of a degree: so a circle has at most 3600 / 5 chords
 abbrev pub mostChords : ℕ
@@ -58,11 +62,11 @@ pub record ValidRange (on : Bool) (r : Range) : Type 0 where
   pub max : Bd (r .max) mostNumber
   pub differ : on ≡ true → r .min ≡ r .max → ⊥
 
--- P1 and P2 "differ in x and in y", and so do the corners of the hard limits, which IN makes P1 and P2
+-- P1 and P2 "differ in x and in y"; the hard limits are in order, so their corners, which IN makes P1 and P2, differ too
 pub record ValidSettings (s : Settings) : Type 0 where
   pub hard : ShortRect (s .hard)
-  pub hard-x : s .hard .left ≡ s .hard .right → ⊥
-  pub hard-y : s .hard .bottom ≡ s .hard .top → ⊥
+  pub hard-x : s .hard .left <ᶻ s .hard .right
+  pub hard-y : s .hard .bottom <ᶻ s .hard .top
   pub p1 : ShortPoint (s .p1)
   pub p2 : ShortPoint (s .p2)
   pub apart-x : s .p1 .x ≡ s .p2 .x → ⊥
@@ -85,6 +89,13 @@ pub record Placed (s : Settings) (p : Position) : Type 0 where
   pub y : Storable (axisY s) (p .y)
   pub near : SmallPoint (location s p)
 
+-- a position that was kept under some settings: its numbers are small, whatever the settings are now
+pub record KeptPosition (p : Position) : Type 0 where
+  pub x-base : Bd (p .x .base) reach
+  pub x-offset : Bd (p .x .offset) mostProduct
+  pub y-base : Bd (p .y .base) reach
+  pub y-offset : Bd (p .y .offset) mostProduct
+
 -- ---- the core
 
 -- in polygon mode the bytes of PM0 and of all edges are counted, and the first point and the saved position may be gone to
@@ -94,6 +105,8 @@ pub record ValidPolygon (s : Settings) (g : Polygon) : Type 0 where
   pub room : g .mode ≡ true → modeBytes + pointBytes + pointBytes * g .edges ≤ g .bytes
   pub first : g .mode ≡ true → Placed s (g .first)
   pub saved : g .mode ≡ true → Placed s (g .saved .position)
+  pub first-kept : KeptPosition (g .first)
+  pub saved-kept : KeptPosition (g .saved .position)
 
 pub record ValidCore (c : Core) : Type 0 where
   pub settings : ValidSettings (c .settings)
@@ -115,14 +128,18 @@ pub record SmallEdge (e : Edge) : Type 0 where
   pub from : SmallPoint (e .from)
   pub to : SmallPoint (e .to)
 
--- a circle whose vertices are all in range
+-- a circle that goes by its radius, and whose points at 0, 90, 180 and 270 degrees are in range: so are all its vertices (ValidFacts.antt, `vertices`)
 pub record ValidCircle (o : Circle) : Type 0 where
   pub x : CentreBounds (o .x)
   pub y : CentreBounds (o .y)
   pub radius : WayBounds (o .radius)
   pub least : leastAngle ≤ o .angle
   pub most : o .angle ≤ mostAngle
-  pub vertices : (i : ℕ) → SmallPoint (pointFromCentre (o .x) (o .y) (o .radius) (angleOf (o .angle) i))
+  pub flat : o .radius .v ≡ pos 0
+  pub right : Bd (fromCentre (o .x) (o .radius .u *ℤ pos 100000)) reach
+  pub left : Bd (fromCentre (o .x) (negℤ (o .radius .u) *ℤ pos 100000)) reach
+  pub up : Bd (fromCentre (o .y) (o .radius .u *ℤ pos 100000)) reach
+  pub down : Bd (fromCentre (o .y) (negℤ (o .radius .u) *ℤ pos 100000)) reach
 
 -- an action that a core may hand on; k is how many edges its polygon had, and an edge that joins them finds a place in the store
 abbrev pub ValidAction : ℕ → Action → Type 0
@@ -133,11 +150,16 @@ ValidAction k (action.Join e) = SmallEdge e × (k < mostEdges)
 ValidAction k action.Outline = Unit {0}
 ValidAction k (action.Rectangle p q shown) = SmallPoint p × SmallPoint q
 
+-- where a segment waits, the pen is not 0
+pub record Inked (c : Core) (w : Work) : Type 0 where
+  pub pen : 0 < waiting w → c .carriage .pen .number ≡ 0 → ⊥
+
 -- what an event may do to the core c
 pub record ValidActed (c : Core) (t : Acted) : Type 0 where
   pub core : ValidCore (t .core)
   pub action : ValidAction (c .carriage .polygon .edges) (t .action)
   pub number : t .number < 256
+  pub inked : (turn : ℕ) (es : List Edge) (k : ℕ) → Inked (t .core) (queued turn es k (t .action))
 
 -- the waiting segments end within the circle, or within the store
 abbrev pub ValidWork : Work → Type 0
@@ -163,3 +185,8 @@ pub record Valid (m : State) : Type 0 where
   pub edges : Every SmallEdge (m .store .edges)
   pub length : length (m .store .edges) ≡ mostEdges
   pub work : ValidWork (m .work)
+
+-- what each call asks of the machine that it is handed, and nothing else: no history, so a machine that is read back may be used as one that comes from the calls
+pub record Usable (m : State) : Type 0 where
+  pub valid : Valid m
+  pub inked : Inked (m .core) (m .work)

@@ -18,7 +18,7 @@ use Rattle.reader.specs.Sizes.{SmallPair}
 use Rattle.plane.specs.Turn.{turnCount, turnedBackOf, rebasedOf}
 use Rattle.plane.specs.Position.{axisOf, inRangeOf}
 use Rattle.plane.specs.Bounds.{mostNumber, mostPoint, mostProduct, mostAngle, AxisBounds}
-use Rattle.plane.specs.Circle.{chordsOf, angleOf, vertexPointOf}
+use Rattle.plane.specs.Circle.{chordsOf, angleOf, pointFromCentre}
 use Rattle.plane.specs.TurnLaws.{turned-small, rebased-small}
 use Rattle.plane.specs.PositionLaws as axis
 use Rattle.plane.specs.CircleLaws as round
@@ -30,12 +30,13 @@ use Rattle.hpgl.specs.declared.Pen.{Pen}
 use Rattle.hpgl.specs.declared.Polygon.{Polygon}
 use Rattle.hpgl.specs.declared.Core.{Core}
 use Rattle.hpgl.specs.declared.Edge.{Edge}
+use Rattle.hpgl.specs.declared.Circle.{Circle}
 use Rattle.hpgl.specs.Numbers.{polygonBytes, pointBytes, penBytes, leastAngle, mostEdges}
 use Rattle.hpgl.specs.Place.{rounded, axisX, axisY, location, inRange, absolutePosition, relativePosition, restAt, pagePoint, limits}
 use Rattle.hpgl.specs.Change.{withRelative, withCarriage}
 use Rattle.hpgl.specs.Rules.{origin, carried, aimed, pointCost, circleFits, circle}
 use Rattle.hpgl.specs.Machine.{noEdge}
-use Rattle.hpgl.specs.Valid.{mostChords, ShortPoint, ValidRange, ValidSettings, LocatablePosition, Placed, ValidPolygon, ValidCore, SmallEdge, ValidCircle, Every, none, more}
+use Rattle.hpgl.specs.Valid.{mostChords, ShortPoint, ValidRange, ValidSettings, LocatablePosition, Placed, KeptPosition, ValidPolygon, ValidCore, SmallEdge, ValidCircle, Every, none, more}
 
 pub and-both : (x y : Bool) → x && y ≡ true → (x ≡ true) × (y ≡ true)
 and-both true y e = (refl, e)
@@ -122,6 +123,9 @@ placed-locatable w h = record { x = axis.storable-locatable (axis-bounds-x w) (h
 
 pub placed-offset : {s : Settings} {p : Position} → ValidSettings s → Placed s p → Bd (p .x .offset) mostProduct × Bd (p .y .offset) mostProduct
 placed-offset w h = (axis.storable-offset (axis-bounds-x w) (h .x), axis.storable-offset (axis-bounds-y w) (h .y))
+
+pub placed-kept : {s : Settings} {p : Position} → ValidSettings s → Placed s p → KeptPosition p
+placed-kept w h = let o = placed-offset w h in record { x-base = h .x .base; x-offset = o .0; y-base = h .y .base; y-offset = o .1 }
 
 -- what a pair of numbers gives may be located
 pub absolute-locatable : {s : Settings} {n : Coordinates} → ValidSettings s → SmallPair n → LocatablePosition s (absolutePosition s n)
@@ -215,47 +219,34 @@ along-x h = record { x = h; y = bd-lit tt }
 pub along-y : {r : ℤ} → Bd r mostNumber → SmallPair (record { x = pos 0; y = r })
 along-y h = record { x = bd-lit tt; y = h }
 
--- a circle whose four points are in range: every vertex is, and it may be drawn
-vertex-in-range : {c : Core} (r : ℤ) → ValidCore c → circleFits c r ≡ true → (angle : ℤ) →
-    SmallPoint (vertexPointOf (axisX (c .settings)) (axisY (c .settings)) (c .carriage .position .x) (c .carriage .position .y) (round.radius r) angle)
-unfolding circleFits location relativePosition
-vertex-in-range {c} r w e angle =
-    let s = c .settings in
-    let p = c .carriage .position in
-    let bx = axis-bounds-x (w .settings) in
-    let by = axis-bounds-y (w .settings) in
-    let k = placed-locatable (w .settings) (w .position) in
-    let o = w .position .near in
-    let south = and-both _ (inRange (location s (relativePosition p (record { x = pos 0; y = negℤ r })))) e in
-    let west = and-both _ (inRange (location s (relativePosition p (record { x = negℤ r; y = pos 0 })))) (south .0) in
-    let north = and-both (inRange (location s (relativePosition p (record { x = r; y = pos 0 })))) (inRange (location s (relativePosition p (record { x = pos 0; y = r })))) (west .0) in
-    round.circle-small (axisX s) (axisY s) (p .x) (p .y) r angle bx by (k .x) (k .y)
-    (small (round.point-0 (axisX s) (axisY s) (p .x) (p .y) r (bx .some) (by .some)) (in-range-small (north .0) .x) (o .y))
-    (small (round.point-90 (axisX s) (axisY s) (p .x) (p .y) r (bx .some) (by .some)) (o .x) (in-range-small (north .1) .y))
-    (small (round.point-180 (axisX s) (axisY s) (p .x) (p .y) r (bx .some) (by .some)) (in-range-small (west .1) .x) (o .y))
-    (small (round.point-270 (axisX s) (axisY s) (p .x) (p .y) r (bx .some) (by .some)) (o .x) (in-range-small (south .1) .y))
-  where
-    small : {p q : Point} → p ≡ q → Bd (q .x) reach → Bd (q .y) reach → SmallPoint p
-    small e x y = subst SmallPoint (sym e) (record { x = x; y = y })
-
+-- a circle whose four points are in range may be drawn
 pub circle-valid : {c : Core} {r : ℤ} {a : ℕ} → ValidCore c → Bd r mostNumber → leastAngle ≤ a → a ≤ mostAngle → circleFits c r ≡ true → ValidCircle (circle c r a)
-unfolding circle
+unfolding circle circleFits location relativePosition
 circle-valid {c} {r} {a} w h l u e =
     let s = c .settings in
     let p = c .carriage .position in
     let bx = axis-bounds-x (w .settings) in
     let by = axis-bounds-y (w .settings) in
     let k = placed-locatable (w .settings) (w .position) in
+    let south = and-both _ (inRange (location s (relativePosition p (record { x = pos 0; y = negℤ r })))) e in
+    let west = and-both _ (inRange (location s (relativePosition p (record { x = negℤ r; y = pos 0 })))) (south .0) in
+    let north = and-both (inRange (location s (relativePosition p (record { x = r; y = pos 0 })))) (inRange (location s (relativePosition p (record { x = pos 0; y = r })))) (west .0) in
     record {
       x = round.centre-bounds (axisX s) (p .x) bx (k .x);
       y = round.centre-bounds (axisY s) (p .y) by (k .y);
       radius = record { u = h; v = bd-lit tt };
       least = l;
       most = u;
-      vertices = λ i.
-          subst SmallPoint (sym (round.vertex-point-split (axisX s) (axisY s) (p .x) (p .y) (round.radius r) (angleOf a i) (bx .some) (by .some)))
-          (vertex-in-range r w e (angleOf a i));
+      flat = refl;
+      right = round.end-range (axisX s) (p .x) r reach (bx .some) (in-range-small (north .0) .x);
+      left = round.end-range (axisX s) (p .x) (negℤ r) reach (bx .some) (in-range-small (west .1) .x);
+      up = round.end-range (axisY s) (p .y) r reach (by .some) (in-range-small (north .1) .y);
+      down = round.end-range (axisY s) (p .y) (negℤ r) reach (by .some) (in-range-small (south .1) .y);
     }
+
+-- and then so is every vertex
+pub vertices : {o : Circle} → ValidCircle o → (i : ℕ) → SmallPoint (pointFromCentre (o .x) (o .y) (o .radius) (angleOf (o .angle) i))
+vertices {o} w i = round.ends-small (o .x) (o .y) (o .radius) (angleOf (o .angle) i) (w .flat) (w .x .some) (w .y .some) (w .right) (w .left) (w .up) (w .down)
 
 -- how many chords
 pub chords-most : {a : ℕ} → leastAngle ≤ a → chordsOf a ≤ mostChords

@@ -1,4 +1,4 @@
--- Every machine that the calls make is valid: fresh, take and draw. Why: each rule keeps the core valid and its action valid (the other files ..Kept.antt),
+-- Every machine that the calls make is usable: fresh, take and draw keep it. Why: each rule keeps the core valid and its action valid (the other files ..Kept.antt),
 -- the reader keeps its numbers small, and an action puts into store and work what it holds.
 use mathlib.Core.Path.{_≡_, refl, ap, _∙_}
 use mathlib.Core.Bool.{Bool, true, false}
@@ -6,9 +6,8 @@ use mathlib.Core.List.{List}
 use Prim.Native.Nat.{ℕ, zero, suc, _≤_, _<_}
 use native.Mathlib.Omega.{arith}
 use lib.Dec.{eqb}
-use lib.IntN.{ℤ, natAbs}
 use lib.ListN.{length, set, replicate, length-set, length-replicate}
-use Rattle.exact.specs.Whole.{_<?_, <?-true, _<ᶻ_, ord}
+use Rattle.exact.specs.Whole.{_<?_, <?-true, ord}
 use Rattle.exact.specs.Fit.{bd-lit}
 use Rattle.clip.specs.declared.Rect.{Rect}
 use Rattle.clip.specs.Reach.{SmallPoint}
@@ -32,7 +31,7 @@ use Rattle.hpgl.specs.Ends.{Works, by-end}
 use Rattle.hpgl.specs.Rules.{freshSettings, noPolygon, freshCarriage, freshCore, int16, endRule, actOn}
 use Rattle.hpgl.specs.Machine.{goodLimits, hardLimits, noEdge, freshState, waiting, rectangleEdges, stored, queued, applied, acted, takeState, workAfter, drawState}
 use Rattle.hpgl.specs.Numbers.{mostEdges}
-use Rattle.hpgl.specs.Valid.{ValidSettings, ValidCore, ValidEvent, SmallEdge, ValidAction, ValidActed, ValidWork, Every, none, more, Knows, Valid}
+use Rattle.hpgl.specs.Valid.{ValidSettings, ValidCore, ValidEvent, SmallEdge, ValidAction, ValidActed, ValidWork, Every, none, more, Inked, Knows, Valid, Usable}
 use Rattle.hpgl.specs.Made as made
 use Rattle.hpgl.specs.ValidFacts.{and-both, rest-placed, origin-small, unknown-outside, chords-most}
 use Rattle.hpgl.specs.Cases.{never, pick}
@@ -135,17 +134,14 @@ good-limits r e =
       right = int16-short (r .right) (b4 .1);
       top = int16-short (r .top) (b3 .1);
     })
-    (apart (<?-true (r .left) (r .right) (b2 .1)))
-    (apart (<?-true (r .bottom) (r .top) (b1 .1)))
-  where
-    apart : {a b : ℤ} → a <ᶻ b → a ≡ b → ⊥
-    apart h e = omega (arith, ord)
+    (<?-true (r .left) (r .right) (b2 .1))
+    (<?-true (r .bottom) (r .top) (b1 .1))
 
 hard-valid : (r : Rect) → ValidSettings (freshSettings (hardLimits r))
 unfolding hardLimits
 hard-valid r =
     when (λ (q : Rect). ValidSettings (freshSettings q)) (goodLimits r) (good-limits r)
-    (λ e. fresh-settings (record { left = bd-lit tt; bottom = bd-lit tt; right = bd-lit tt; top = bd-lit tt }) (λ e. omega (arith, ap natAbs e)) (λ e. omega (arith, ap natAbs e)))
+    (λ e. fresh-settings (record { left = bd-lit tt; bottom = bd-lit tt; right = bd-lit tt; top = bd-lit tt }) (omega (arith, ord)) (omega (arith, ord)))
 
 -- with bad limits too
 pub valid-fresh : (r : Rect) → Valid (freshState r)
@@ -203,8 +199,34 @@ valid-draw {m} w = record {
   work = work-after (m .work) (w .work);
 }
 
+-- ---- usable: each call keeps it
+
+pub usable-fresh : (r : Rect) → Usable (freshState r)
+unfolding freshState waiting
+usable-fresh r = record { valid = valid-fresh r; inked = record { pen = λ h e. omega (arith, h) } }
+
+pub usable-take : {m : State} (b : ℕ) → Usable m → Usable (takeState m b)
+unfolding takeState applied
+usable-take {m} b w = record {
+  valid = valid-take b (w .valid);
+  inked = pick (λ (n : State). Inked (n .core) (n .work)) (eqb (waiting (m .work)) 0) (valid-acted b (w .valid) .inked _ _ _) (w .inked);
+}
+
+waited : (x : Work) → 0 < waiting (workAfter x) → 0 < waiting x
+unfolding workAfter waiting
+waited work.Nothing h = h
+waited (work.Line a b) h = omega arith
+waited (work.Chords o i zero) h = h
+waited (work.Chords o i (suc n)) h = omega arith
+waited (work.Edges i zero) h = h
+waited (work.Edges i (suc n)) h = omega arith
+
+pub usable-draw : {m : State} → Usable m → Usable (drawState m)
+unfolding drawState
+usable-draw {m} w = record { valid = valid-draw (w .valid); inked = record { pen = λ h e. w .inked .pen (waited (m .work) h) e } }
+
 -- THE THEOREM: what the calls ask of a machine holds of each that they make
-pub made-valid : {m : State} → made.Made m → Valid m
-made-valid (made.fresh r) = valid-fresh r
-made-valid (made.take h b l) = valid-take b (made-valid h)
-made-valid (made.draw h) = valid-draw (made-valid h)
+pub made-usable : {m : State} → made.Made m → Usable m
+made-usable (made.fresh r) = usable-fresh r
+made-usable (made.take h b l) = usable-take b (made-usable h)
+made-usable (made.draw h) = usable-draw (made-usable h)

@@ -1,4 +1,4 @@
--- The calls fresh, take and look, pinned by document 01's numbers and words: for every machine that the calls make and every byte, take answers the number of Refusals.antt
+-- The calls fresh, take and look, pinned by document 01's numbers and words: for every usable machine, and so for each that the calls make, and every byte, take answers the number of Refusals.antt
 -- and changes what Effects.antt names, and nothing else. Why: a byte that is taken means an event of the sixteen, and of events it is proved rule by rule.
 use mathlib.Core.Path.{_≡_, refl, ap}
 use mathlib.Core.Bool.{Bool, false, cond}
@@ -16,10 +16,8 @@ use Rattle.hpgl.specs.declared.State.{State}
 use Rattle.hpgl.specs.Place.{point, location, restAt}
 use Rattle.hpgl.specs.Rules.{freshSettings, noPolygon, freshCarriage, freshCore}
 use Rattle.hpgl.specs.Machine.{rect, freshState, freshNumber, waiting, readerAfter, applied, acted, takeState, takeNumber, lookAt}
-use Rattle.hpgl.specs.Made.{Made}
-use Rattle.hpgl.specs.Valid.{ValidEvent, ValidSettings}
+use Rattle.hpgl.specs.Valid.{ValidEvent, ValidSettings, Usable}
 use Rattle.hpgl.specs.ValidFacts.{axis-bounds-x, axis-bounds-y}
-use Rattle.hpgl.specs.ValidKept.{made-valid}
 use Rattle.hpgl.specs.ReaderKept.{step-event}
 use Rattle.hpgl.specs.Related.{Sound}
 use Rattle.hpgl.specs.Instruction.{instruction}
@@ -51,7 +49,7 @@ of-sixteen c (Refused k) h = refusal k
 sound : {s : Settings} → ValidSettings s → Sound s
 sound w = record { x = axis-bounds-x w .some; y = axis-bounds-y w .some; turn = w .turn }
 
-pub take-does : (m : State) → Made m → (b : ℕ) → Does m b
+pub take-does : (m : State) → Usable m → (b : ℕ) → Does m b
 unfolding takeNumber takeState applied acted readerAfter
 take-does m h b = record {
   busy = λ w. let e = ne-eqb (waiting (m .work)) 0 w in
@@ -63,10 +61,10 @@ take-does m h b = record {
 }
   where
     event : Happens (stepOf (m .reader) b .event)
-    event = of-sixteen (m .core) _ (step-event b (made-valid h))
+    event = of-sixteen (m .core) _ (step-event b (h .valid))
 
     valid : Sound (m .core .settings)
-    valid = sound (made-valid h .core .settings)
+    valid = sound (h .valid .core .settings)
 
 -- ---- Fresh
 

@@ -1,4 +1,4 @@
--- What a run of bytes leaves: a machine that the calls make, a place within the input, and why it ended there; and that it is a feed with no room.
+-- What a run of bytes leaves: a machine that may be used, a place within the input, and why it ended there; and that it is a feed with no room.
 -- Why: each by the bytes that are taken, one after the other.
 use mathlib.Core.Path.{_≡_, refl, sym, ap, _∙_}
 use mathlib.Core.Bool.{Bool, true, false, cond}
@@ -7,35 +7,29 @@ use Prim.Native.Nat.{ℕ, zero, suc, _+_, _≤_, _<_}
 use native.Mathlib.Omega.{arith}
 use borrow.Author.Tests.{eq-eqb, ne-eqb, eqb-true, eqb-false}
 use lib.Dec.{eqb}
-use lib.ListN.{length, getD, drop}
-use lib.Seq.{getD-drop}
+use lib.ListN.{length}
 use Rattle.hpgl.specs.declared.State.{State}
 use Rattle.hpgl.specs.Machine.{waiting, takeState, takeNumber}
-use Rattle.hpgl.specs.Made.{Made, take}
 use Rattle.feeding.specs.DrawOff.{listFull}
 use Rattle.feeding.specs.Feed.{Feed, feedFrom}
 use Rattle.feeding.specs.FeedLaws.{at-end, at-byte, at-refused, at-full}
 use Rattle.feeding.specs.PartsOfFeed.{take-not-full}
+use Rattle.hpgl.specs.Valid.{Usable}
+use Rattle.hpgl.specs.ValidKept.{usable-take}
 use Rattle.machine.specs.declared.Ran.{Ran}
 use Rattle.machine.specs.Run.{ranOf, runOf}
 
-made-from : (m : State) (bs : List ℕ) (at : ℕ) → Made m → ((i : ℕ) → getD bs i 0 < 256) → Made (runOf m bs at .machine .state)
-unfolding runOf
-made-from m [] at h k = h
-made-from m (b ∷ bs) at h k = go (eqb (waiting (m .work)) 0) (eqb (takeNumber m b) 0) (made-from (takeState m b) bs (at + 1) next (λ i. k (suc i)))
-  where
-    next : Made (takeState m b)
-    next = take h b (k 0)
-
-    go : (s t : Bool) → Made (runOf (takeState m b) bs (at + 1) .machine .state) →
-        Made (cond s (cond t (runOf (takeState m b) bs (at + 1)) (ranOf (takeState m b) (at + 1) (takeNumber m b))) (ranOf m at 0) .machine .state)
-    go true true r = r
-    go true false r = next
-    go false t r = h
-
 -- the machine after a run may be drawn, looked at and run again
-pub run-made : (m : State) (s : List ℕ) (from : ℕ) → Made m → ((i : ℕ) → getD s i 0 < 256) → Made (runOf m (drop from s) from .machine .state)
-run-made m s from h k = made-from m (drop from s) from h (λ i. rw getD-drop (k (from + i)))
+pub run-usable : (m : State) (bs : List ℕ) (at : ℕ) → Usable m → Usable (runOf m bs at .machine .state)
+unfolding runOf
+run-usable m [] at h = h
+run-usable m (b ∷ bs) at h = go (eqb (waiting (m .work)) 0) (eqb (takeNumber m b) 0) (run-usable (takeState m b) bs (at + 1) (usable-take b h))
+  where
+    go : (s t : Bool) → Usable (runOf (takeState m b) bs (at + 1) .machine .state) →
+        Usable (cond s (cond t (runOf (takeState m b) bs (at + 1)) (ranOf (takeState m b) (at + 1) (takeNumber m b))) (ranOf m at 0) .machine .state)
+    go true true r = r
+    go true false r = usable-take b h
+    go false t r = h
 
 -- no byte is taken twice, and none past the end
 pub run-place : (m : State) (bs : List ℕ) (at : ℕ) → (at ≤ runOf m bs at .at) × (runOf m bs at .at ≤ at + length bs)

@@ -7,9 +7,8 @@ ghost use Rattle.hpgl.specs.Values.{drawnValues};
 ghost use Rattle.hpgl.specs.Segment.{segmentOf, drawValues};
 ghost use Rattle.feeding.specs.Feed.{feedFrom, laidNumbers};
 ghost use Rattle.feeding.specs.Plot.{plotFrom, laidMarks};
-ghost use Rattle.hpgl.specs.Made.{Made};
+ghost use Rattle.hpgl.specs.Valid.{Usable};
 ghost use Rattle.saved.specs.Saved.{stateNumbers, savedOf, loadedOf};
-ghost use Rattle.saved.specs.SavedLaws.{Held};
 ghost use Rattle.machine.specs.Calls.{startedOf, takenOf, workedOf};
 ghost use Rattle.machine.specs.Run.{runOf};
 ghost use Rattle.machine.specs.Gather.{gatheredOf, plottedOf, gatheredBy};
@@ -110,7 +109,7 @@ impl Machine {
 
     // One byte: a run of one.
     pub fn take(self, byte: u8) -> Taken
-        requires { ⌜ Made (self .state) ⌝ }
+        requires { ⌜ Usable (self .state) ⌝ }
         ensures { λ r. ⌜ r ≡ takenOf (self .state) byte ⌝ }
     {
         let m = self.state;
@@ -132,7 +131,7 @@ impl Machine {
 
     // Works off one waiting segment. What it answers is also told in 01's values: a stroke (pen, x0, y0, x1, y1), hidden, or idle.
     pub fn draw(self) -> Worked
-        requires { ⌜ Made (self .state) ⌝ }
+        requires { ⌜ Usable (self .state) ⌝ }
         ensures { λ r. ⌜ r ≡ workedOf (self .state) ⌝ }
         ensures { λ r. ⌜ drawnValues (r .drawn) ≡ drawValues (self .state) ⌝ }
     {
@@ -160,7 +159,7 @@ impl Machine {
 
     // The segment that waits first, before it is clipped. It changes nothing.
     pub fn segment(self) -> Segment
-        requires { ⌜ Made (self .state) ⌝ }
+        requires { ⌜ Usable (self .state) ⌝ }
         ensures { λ r. ⌜ r ≡ segmentOf (self .state) ⌝ }
     {
         let m = self.state;
@@ -174,7 +173,7 @@ impl Machine {
 
     // Where the carriage is, and with what. It changes nothing.
     pub fn look(self) -> Look
-        requires { ⌜ Made (self .state) ⌝ }
+        requires { ⌜ Usable (self .state) ⌝ }
         ensures { λ r. ⌜ r ≡ M.lookAt (self .state) ⌝ }
     {
         let m = self.state;
@@ -195,7 +194,7 @@ impl Machine {
 
     // Bytes from a place of the input on, up to the first that is refused or makes a segment wait.
     pub fn run(self, bytes: &[u8], from: usize) -> Ran
-        requires { ⌜ Made (self .state) ⌝ }
+        requires { ⌜ Usable (self .state) ⌝ }
         ensures { λ r. ⌜ r ≡ runOf (self .state) (drop from (now (bytes .entry))) from ⌝ }
     {
         let m = self.state;
@@ -219,7 +218,7 @@ impl Machine {
 
     // Feed into a lent list of plain numbers, five for each stroke: pen, x0, y0, x1, y1.
     pub fn gather(self, bytes: &[u8], from: usize, numbers: &mut [i64]) -> Gathered
-        requires { ⌜ Made (self .state) ⌝ }
+        requires { ⌜ Usable (self .state) ⌝ }
         ensures { λ r. ⌜ r ≡ gatheredOf (feedFrom (self .state) (drop from (now (bytes .entry))) from (length (now (numbers .entry)) / 5)) ⌝ }
         ensures { λ r. ⌜ now (numbers .exit) ≡ laidNumbers (feedFrom (self .state) (drop from (now (bytes .entry))) from (length (now (numbers .entry)) / 5) .strokes) (now (numbers .entry)) ⌝ }
     {
@@ -229,7 +228,7 @@ impl Machine {
 
     // A feed that goes on after a refused byte, and stores the refusal among the strokes: 0, its number, its place counted from 1, 0, 0.
     pub fn plot(self, bytes: &[u8], from: usize, numbers: &mut [i64]) -> Gathered
-        requires { ⌜ Made (self .state) ⌝ }
+        requires { ⌜ Usable (self .state) ⌝ }
         ensures { λ r. ⌜ r ≡ plottedOf (plotFrom (self .state) (drop from (now (bytes .entry))) from (length (now (numbers .entry)) / 5)) ⌝ }
         ensures { λ r. ⌜ now (numbers .exit) ≡ laidMarks (plotFrom (self .state) (drop from (now (bytes .entry))) from (length (now (numbers .entry)) / 5) .marks) (now (numbers .entry)) ⌝ }
     {
@@ -239,18 +238,17 @@ impl Machine {
 
     // Writes the machine over a lent list of numbers, as a caller in another language keeps it.
     pub fn save(self, numbers: &mut [i64])
-        requires { ⌜ Made (self .state) × (length (now numbers) ≡ stateNumbers) ⌝ }
+        requires { ⌜ Usable (self .state) × (length (now numbers) ≡ stateNumbers) ⌝ }
         ensures { λ _. ⌜ now (numbers .exit) ≡ savedOf (self .state) ⌝ }
     {
         let m = self.state;
         save(m, numbers);
     }
 
-    // The machine that a list of numbers holds: such a list as `save` writes, so that the machine comes from the calls.
+    // The machine that a list of numbers holds. `save` writes such lists; whether another one holds a machine that may be used, the crate soundness decides.
     pub fn load(numbers: &[i64]) -> Machine
-        requires { ⌜ Held (now numbers) ⌝ }
+        requires { ⌜ length (now numbers) ≡ stateNumbers ⌝ }
         ensures { λ r. ⌜ r .state ≡ loadedOf (now (numbers .entry)) ⌝ }
-        ensures { λ r. ⌜ Made (r .state) ⌝ }
     {
         Machine {
             state: load(numbers),

@@ -259,3 +259,19 @@ circle-small ax ay px py r angle h k lx ly e n w s =
       x = vertex-range ax px (t .u) r reach h lx (z .0) (subst SmallPoint (point-0 ax ay px py r (h .some) (k .some)) e .x) (subst SmallPoint (point-180 ax ay px py r (h .some) (k .some)) w .x);
       y = vertex-range ay py (t .v) r reach k ly (z .1) (subst SmallPoint (point-90 ax ay px py r (h .some) (k .some)) n .y) (subst SmallPoint (point-270 ax ay px py r (h .some) (k .some)) s .y);
     }
+
+-- the same of a centre that is at hand: where its two points on each axis are in range, so is every vertex
+pub end-range : (a : Axis) (p : ExactPosition) (r : ℤ) (N : ℕ) → (a .width ≡ pos 0 → ⊥) → Bd (locationOf a (relativeOf p r)) N → Bd (fromCentre (centreOf a p) (r *ℤ pos 100000)) N
+end-range a p r N z = subst (λ (x : ℤ). Bd x N) (sym (at-radius a p r z) ∙ sym (vertex-split a p (r *ℤ pos 100000) z))
+
+pub ends-small : (cx cy : Centre) (w : Way) (angle : ℤ) → w .v ≡ pos 0 → pos 0 <ᶻ cx .width → pos 0 <ᶻ cy .width →
+    Bd (fromCentre cx (w .u *ℤ pos 100000)) reach → Bd (fromCentre cx (negℤ (w .u) *ℤ pos 100000)) reach →
+    Bd (fromCentre cy (w .u *ℤ pos 100000)) reach → Bd (fromCentre cy (negℤ (w .u) *ℤ pos 100000)) reach → SmallPoint (pointFromCentre cx cy w angle)
+unfolding pointFromCentre
+ends-small cx cy w angle flat hx hy right left up down =
+    let same : radius (w .u) ≡ w = λ i. record { u = w .u; v = sym flat i } in
+    let z = radius-size (w .u) angle in
+    record {
+      x = centre-range cx (rotatedOf w angle .u) (w .u) reach hx (subst (λ (q : Way). natAbs (rotatedOf q angle .u) ≤ 100000 * natAbs (w .u)) same (z .0)) right left;
+      y = centre-range cy (rotatedOf w angle .v) (w .u) reach hy (subst (λ (q : Way). natAbs (rotatedOf q angle .v) ≤ 100000 * natAbs (w .u)) same (z .1)) up down;
+    }

@@ -3,8 +3,8 @@ use mathlib.Core.Bool.{Bool, true, false}
 use mathlib.Core.List.{List, [], _++_}
 use mathlib.Core.Path.{_≡_}
 use Prim.Native.Nat.{ℕ, _+_, _*_, _^_, _≤_, _<_}
-use lib.ListN.{length, getD, drop}
-use Rattle.hpgl.specs.Made.{Made}
+use lib.ListN.{length, drop}
+use Rattle.hpgl.specs.Valid.{Usable}
 use Rattle.machine.specs.declared.Machine.{Machine}
 use Rattle.machine.specs.declared.Gathered.{Gathered}
 use Rattle.lines.specs.Text.{longest}
@@ -26,11 +26,10 @@ emptiedOf p = record { machine = p .machine; before = p .before; at = p .at; len
 abbrev pub movedOf : Plot → Gathered → ℕ → Bool → Plot
 movedOf p g n more = record { machine = g .machine; before = p .before; at = g .at; length = n; more = more }
 
--- a plot that may go on with a block of bytes: its machine comes from the calls, its place is in the block, no count of bytes leaves 64 bits, and
+-- a plot that may go on with a block of bytes: its machine may be used, its place is in the block, no count of bytes leaves 64 bits, and
 -- where there is no more all of the block is printed
 pub record Ready (p : Plot) (block : List ℕ) : Type 0 where
-  pub bytes : (i : ℕ) → getD block i 0 < 256
-  pub made : Made (p .machine .state)
+  pub usable : Usable (p .machine .state)
   pub place : p .at ≤ length block
   pub count : p .before + length block < 2 ^ 64
   pub ends : p .more ≡ false → (p .at ≡ length block) × (due p block [] ≡ [])

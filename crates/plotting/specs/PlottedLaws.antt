@@ -7,15 +7,16 @@ use native.Mathlib.Omega.{arith}
 use borrow.Author.Tests.{eqb-true, eqb-false, not-true, not-false}
 use lib.Dec.{eqb}
 use lib.IntN.{ℤ}
-use lib.ListN.{length, getD, drop, length-append, length-drop}
-use lib.Seq.{getD-drop, drop-length}
+use lib.ListN.{length, drop, length-append, length-drop}
+use lib.Seq.{drop-length}
 use Rattle.clip.specs.declared.Rect.{Rect}
 use Rattle.hpgl.specs.Machine.{freshState, waiting}
-use Rattle.hpgl.specs.Made.{Made, fresh}
 use Rattle.feeding.specs.Plot.{plotFrom, numbersOf}
 use Rattle.feeding.specs.Plot.{Plot as Marked}
-use Rattle.feeding.specs.PlotLaws.{plot-place, plot-made}
 use Rattle.feeding.specs.WhatMarksTell.{plot-told}
+use Rattle.hpgl.specs.Valid.{Usable}
+use Rattle.hpgl.specs.ValidKept.{usable-fresh}
+use Rattle.feeding.specs.PlotLaws.{plot-place, plot-usable}
 use Rattle.machine.specs.declared.Machine.{Machine}
 use Rattle.machine.specs.declared.Started.{Started}
 use Rattle.machine.specs.Calls.{startedOf}
@@ -40,9 +41,9 @@ plotted-then {r} {block} h k = record {
 }
 
 -- fresh makes a machine that may be used
-pub started-made : {s : Started} (r : Rect) → s ≡ startedOf r → Made (s .machine .state)
+pub started-usable : {s : Started} (r : Rect) → s ≡ startedOf r → Usable (s .machine .state)
 unfolding startedOf
-started-made r e = subst (λ (s : Started). Made (s .machine .state)) (sym e) (fresh r)
+started-usable r e = subst (λ (s : Started). Usable (s .machine .state)) (sym e) (usable-fresh r)
 
 -- and nothing waits
 pub started-idle : {s : Started} (r : Rect) → s ≡ startedOf r → waiting (s .machine .state .work) ≡ 0
@@ -56,16 +57,16 @@ pub record Between (p : Plot) (block : List ℕ) : Type 0 where
   pub ready : Ready p block
   pub empty : p .length ≡ 0
 
-pub begins : {p : Plot} {m : Machine} {n : ℕ} {block : List ℕ} → p ≡ begunOf m n → ((i : ℕ) → getD block i 0 < 256) → Made (m .state) → n + length block < 2 ^ 64
+pub begins : {p : Plot} {m : Machine} {n : ℕ} {block : List ℕ} → p ≡ begunOf m n → Usable (m .state) → n + length block < 2 ^ 64
     → Between p block
-begins {block} e b h c =
+begins {block} e h c =
     subst (λ (p : Plot). Between p block) (sym e)
-    (record { ready = record { bytes = b; made = h; place = omega arith; count = c; ends = λ z. absurd (false≢true (sym z)) }; empty = refl })
+    (record { ready = record { usable = h; place = omega arith; count = c; ends = λ z. absurd (false≢true (sym z)) }; empty = refl })
 
 pub empties : {p q : Plot} {block : List ℕ} → q ≡ emptiedOf p → Ready p block → Between q block
 empties {block} e h =
     subst (λ (q : Plot). Between q block) (sym e)
-    (record { ready = record { bytes = h .bytes; made = h .made; place = h .place; count = h .count; ends = h .ends }; empty = refl })
+    (record { ready = record { usable = h .usable; place = h .place; count = h .count; ends = h .ends }; empty = refl })
 
 -- what a block still asks for: lines, or to be told that there is no more
 abbrev pub left : Plot → List ℕ → ℕ
@@ -109,7 +110,7 @@ module _ (p : Plot) (block : List ℕ) (r : ℕ) (h : Ready p block) where
   pub marks-lines : (xs : List ℤ) → marksBelow (p .before) (numbersOf (got .marks) ++ xs) (length (got .marks)) ≡ markLines (p .before) (got .marks)
   marks-lines xs =
       numbers-lines (p .before) (length block) (h .count) xs (got .marks)
-      (plot-told (length block) (p .machine .state) (drop (p .at) block) (p .at) r (omega (arith, rest)) (λ i. rw getD-drop (h .bytes (p .at + i))) (h .made))
+      (plot-told (length block) (p .machine .state) (drop (p .at) block) (p .at) r (omega (arith, rest)) (h .usable))
 
   -- what the code makes of it: there is more where the number is not 0
   pub steps : {q : Plot} {before after : List ℕ} (end : ℕ) → q ≡ movedOf p (plottedOf got) end (not (eqb (got .number) 0)) → 0 < r
@@ -120,8 +121,7 @@ module _ (p : Plot) (block : List ℕ) (r : ℕ) (h : Ready p block) where
       prints = λ later. plot-prints block later (p .before) (p .machine .state) (drop (p .at) block) (p .at) r refl;
       puts = puts;
       ready = record {
-        bytes = h .bytes;
-        made = plot-made (p .machine .state) (drop (p .at) block) (p .at) r (λ i. rw (getD-drop (p .at) block i 0) (h .bytes (p .at + i))) (h .made);
+        usable = plot-usable (p .machine .state) (drop (p .at) block) (p .at) r (h .usable);
         place = omega (arith, rest, plot-place (p .machine .state) (drop (p .at) block) (p .at) r .1);
         count = h .count;
         ends = λ z. let n = eqb-true (got .number) 0 (not-false _ z) in (ended .taken n ∙ rest, nothing-due n);

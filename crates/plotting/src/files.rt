@@ -3,7 +3,7 @@ ghost use mathlib.Core.Path.{_≡_};
 ghost use Prim.Native.Nat.{_+_, _^_, _<_};
 ghost use lib.ListN.{length};
 ghost use Rattle.hpgl.specs.Machine.{waiting};
-ghost use Rattle.hpgl.specs.Made.{Made};
+ghost use Rattle.hpgl.specs.Valid.{Usable};
 ghost use Rattle.plotting.specs.Ran.{Begins, Leaves, Ran, Unbegun, Answers};
 ghost use Rattle.plotting.specs.Tally.{readOf, handedOf, endedOf};
 use super::begun;
@@ -67,11 +67,11 @@ fn deliver_block(
     sink: Sink,
     tally: &mut Tally,
 ) -> Left
-    requires { ⌜ Made (machine .state) ⌝ }
+    requires { ⌜ Usable (machine .state) ⌝ }
     requires { ⌜ before + length (now block) < 2 ^ 64 ⌝ }
     requires { ⌜ length (now text) ≡ 65536 ⌝ }
     requires { ⌜ Begins (started .state) (machine .state) before (readOf (now tally)) (handedOf (now tally)) (now block) ⌝ }
-    ensures { λ r. ⌜ Made (r .machine .state) ⌝ }
+    ensures { λ r. ⌜ Usable (r .machine .state) ⌝ }
     ensures { λ r. ⌜ readOf (now (tally .exit)) ≡ readOf (now (tally .entry)) ⌝ }
     ensures { λ r. ⌜ Leaves (started .state) (r .machine .state) (readOf (now (tally .exit))) (handedOf (now (tally .exit))) (now (block .entry)) (r .good) ⌝ }
 {
@@ -110,7 +110,7 @@ fn ended(tally: &Tally, end: End) -> Finished
 
 // Reads the input to its end. No segment waits at first.
 fn plot_file(started: Machine, file: i32, sink: Sink) -> Finished
-    requires { ⌜ Made (started .state) ⌝ }
+    requires { ⌜ Usable (started .state) ⌝ }
     requires { ⌜ waiting (started .state .work) ≡ 0 ⌝ }
     ensures { λ r. ⌜ Ran (started .state) r ⌝ }
 {

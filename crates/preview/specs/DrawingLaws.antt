@@ -1,6 +1,6 @@
 -- Laws of a drawing's steps.
 --     dots-more                  one stroke more
---     step-made, step-within     after a feed the machine may be used, and the place is one of the block
+--     step-usable, step-within     after a feed the machine may be used, and the place is one of the block
 use mathlib.Core.Path.{_≡_, ap, _∙_}
 use mathlib.Core.Bool.{Bool, true, false, cond}
 use mathlib.Core.List.{List, [], _∷_, _++_}
@@ -8,10 +8,10 @@ use Prim.Native.Nat.{ℕ, _+_, _≤_, _<_}
 use native.Mathlib.Numerals.{add-one}
 use native.Mathlib.Omega.{arith}
 use lib.ListN.{length, take, drop, getD, length-drop}
-use lib.Seq.{take-suc, getD-drop}
+use lib.Seq.{take-suc}
 use Rattle.hpgl.specs.declared.Stroke.{Stroke}
-use Rattle.hpgl.specs.Made.{Made}
-use Rattle.feeding.specs.FeedLaws.{feed-made, feed-place}
+use Rattle.hpgl.specs.Valid.{Usable}
+use Rattle.feeding.specs.FeedLaws.{feed-usable, feed-place}
 use Rattle.drive.specs.Drive.{endsEqualOf}
 use Rattle.preview.specs.declared.strokes.Drawing.{Drawing}
 use Rattle.preview.specs.Drawing.{dotCount, dotsOf, stepOf}
@@ -33,8 +33,8 @@ pub dots-more : (ss : List Stroke) (i : ℕ) (none : Stroke) → i < length ss �
 dots-more ss i none h = ap (λ (k : ℕ). dotsOf (take k ss)) (add-one i) ∙ ap dotsOf (take-suc ss i none h) ∙ dots-last (take i ss) (getD ss i none)
 
 module _ (d : Drawing) (block : List ℕ) where
-  pub step-made : ((i : ℕ) → getD block i 0 < 256) → Made (d .machine .state) → Made (stepOf d block .machine .state)
-  step-made small made = feed-made (d .machine .state) (drop (d .at) block) 0 64 (λ i. rw (getD-drop (d .at) block i 0) (small (d .at + i))) made
+  pub step-usable : Usable (d .machine .state) → Usable (stepOf d block .machine .state)
+  step-usable h = feed-usable (d .machine .state) (drop (d .at) block) 0 64 h
 
   pub step-within : d .at ≤ length block → stepOf d block .at ≤ length block
   step-within h = omega (arith, h, feed-place (d .machine .state) (drop (d .at) block) 0 64 .1, length-drop (d .at) block)

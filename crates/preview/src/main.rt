@@ -1,7 +1,7 @@
 // The program preview: HP-GL on standard input, a picture of its strokes as SVG on standard output, with the refusals beside the sheet.
 //
 // With four arguments the hard limits are these: left, bottom, right, top.
-ghost use Rattle.hpgl.specs.Made.{Made};
+ghost use Rattle.hpgl.specs.Valid.{Usable};
 use lines::word::Limits;
 use machine::Machine;
 
@@ -19,7 +19,7 @@ use sheet::sheet_of;
 use strokes::paint;
 
 fn page(machine: Machine, s: Sheet)
-    requires { ⌜ Made (machine .state) ⌝ }
+    requires { ⌜ Usable (machine .state) ⌝ }
 {
     head(s);
     let p = paint(machine, s.dot);

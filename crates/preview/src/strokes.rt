@@ -3,7 +3,7 @@ ghost use Prim.Native.Nat.{_+_, _≤_};
 ghost use lib.ListN.{length, take};
 ghost use mathlib.Core.Path.{_≡_};
 ghost use Rattle.desk.specs.Sums.{largest};
-ghost use Rattle.hpgl.specs.Made.{Made};
+ghost use Rattle.hpgl.specs.Valid.{Usable};
 ghost use Rattle.preview.specs.Drawing.{dotCount, dotsOf, afterOf, stepOf, begunOf};
 use super::refusals::Refusals;
 use super::refusals::none;
@@ -143,7 +143,7 @@ fn after(d: Drawing, l: Listed) -> Drawing
 
 // One feed.
 fn step(d: Drawing, block: &[u8], text: &mut [u8; 65536], radius: u64) -> Drawing
-    requires { ⌜ Made (d .machine .state) ⌝ }
+    requires { ⌜ Usable (d .machine .state) ⌝ }
     requires { ⌜ d .at ≤ length (now block) ⌝ }
     ensures { λ r. ⌜ r ≡ stepOf d (now (block .entry)) ⌝ }
 {
@@ -174,8 +174,8 @@ fn begun(d: Drawing, before: u64) -> Drawing
 
 // A block, with so many bytes before it.
 fn paint_block(d: Drawing, before: u64, block: &[u8], radius: u64) -> Drawing
-    requires { ⌜ Made (d .machine .state) ⌝ }
-    ensures { λ r. ⌜ Made (r .machine .state) ⌝ }
+    requires { ⌜ Usable (d .machine .state) ⌝ }
+    ensures { λ r. ⌜ Usable (r .machine .state) ⌝ }
 {
     let mut text = io::large_buffer();
     let mut q = begun(d, before);
@@ -192,7 +192,7 @@ fn paint_block(d: Drawing, before: u64, block: &[u8], radius: u64) -> Drawing
 
 // Paints standard input to its end.
 pub fn paint(machine: Machine, radius: u64) -> Painted
-    requires { ⌜ Made (machine .state) ⌝ }
+    requires { ⌜ Usable (machine .state) ⌝ }
 {
     let mut block = io::large_buffer();
     let mut d = Drawing {

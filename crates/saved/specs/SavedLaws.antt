@@ -20,8 +20,6 @@ use Rattle.hpgl.specs.declared.Work.the-variants.{Nothing, Line, Chords, Edges}
 use Rattle.hpgl.specs.declared.State.{State}
 use Rattle.hpgl.specs.Numbers.{mostEdges}
 use Rattle.hpgl.specs.Valid.{ValidSettings, ValidCore, ValidWork, Valid}
-use Rattle.hpgl.specs.Made.{Made}
-use Rattle.hpgl.specs.ValidKept.{made-valid}
 use Rattle.saved.specs.Saved.{stateNumbers, flagIn, smallIn, limitsRow, cornersRow, scaleRow, windowRow, boxOf, fromOf, toOf, rangeX, rangeY, settingsOf, settingsAt, positionRow, penRow, polygonRow, positionOf, penOf, pm0Of, polygonOf, carriageOf, carriageAt, blankRow, lineRow, chordsRow, edgesRow, acrossRow, alongRow, workRow, workAcross, workAlong, centreOf, wayOf, angleIn, circleOf, workOf, workAt, edgeRow, edgesNumbers, edgeOf, edgesFrom, storeAt, savedOf, loadedOf}
 
 -- ---- the parts, each from its place on
@@ -126,19 +124,3 @@ saved-back m v = λ i. record {
 pub saved-length : (m : State) → length (m .store .edges) ≡ mostEdges → length (savedOf m) ≡ stateNumbers
 unfolding savedOf
 saved-length m e = let h = edges-length (m .store .edges) in omega (arith, h, e)
-
--- ---- a list that holds a machine which the calls make: what a call that reads it asks
-
-pub record Held (zs : List ℤ) : Type 0 where
-  pub machine : State
-  pub made : Made machine
-  pub is : zs ≡ savedOf machine
-
-pub held-machine : (zs : List ℤ) → (h : Held zs) → loadedOf zs ≡ h .machine
-held-machine zs h = ap loadedOf (h .is) ∙ saved-back (h .machine) (made-valid (h .made))
-
-pub held-made : (zs : List ℤ) → Held zs → Made (loadedOf zs)
-held-made zs h = rw (held-machine zs h) (h .made)
-
-pub held-length : (zs : List ℤ) → Held zs → length zs ≡ stateNumbers
-held-length zs h = ap length (h .is) ∙ saved-length (h .machine) (made-valid (h .made) .length)

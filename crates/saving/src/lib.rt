@@ -8,7 +8,7 @@ ghost use Rattle.saved.specs.Saved.{stateNumbers, savedOf, loadedOf};
 mod carriage;
 mod edges;
 mod reading;
-mod sheet;
+pub mod sheet;
 mod work;
 
 use carriage::carriage_at;

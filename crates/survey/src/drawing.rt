@@ -1,6 +1,6 @@
 // A drawing from its first byte to its last: the machine runs up to a refusal or a waiting segment, and each segment is counted as it is drawn.
 ghost use mathlib.Core.Path.{_≡_};
-ghost use Rattle.hpgl.specs.Made.{Made};
+ghost use Rattle.hpgl.specs.Valid.{Usable};
 ghost use Rattle.survey.specs.Drawing as S;
 use counting::names::Letters;
 use counting::names::letters_before;
@@ -124,8 +124,8 @@ fn ended(d: Drawing, block: &[u8]) -> Drawing
 
 // One step: a waiting segment is drawn, else the machine runs on, else the block has ended.
 fn step(d: Drawing, block: &[u8]) -> Drawing
-    requires { ⌜ Made (d .machine .state) ⌝ }
-    ensures { λ r. ⌜ (r ≡ S.stepOf d (now (block .entry))) × Made (r .machine .state) ⌝ }
+    requires { ⌜ Usable (d .machine .state) ⌝ }
+    ensures { λ r. ⌜ (r ≡ S.stepOf d (now (block .entry))) × Usable (r .machine .state) ⌝ }
 {
     let machine = d.machine;
     let s = machine.segment();
@@ -159,8 +159,8 @@ fn begun(d: Drawing) -> Drawing
 
 // A block, step by step.
 fn block_of(d: Drawing, block: &[u8]) -> Drawing
-    requires { ⌜ Made (d .machine .state) ⌝ }
-    ensures { λ r. ⌜ (r ≡ S.stepsOf S.mostTurns (S.begunOf d) (now (block .entry))) × Made (r .machine .state) ⌝ }
+    requires { ⌜ Usable (d .machine .state) ⌝ }
+    ensures { λ r. ⌜ (r ≡ S.stepsOf S.mostTurns (S.begunOf d) (now (block .entry))) × Usable (r .machine .state) ⌝ }
 {
     let mut q = begun(d);
     let mut turns = TURNS;
@@ -176,7 +176,7 @@ fn block_of(d: Drawing, block: &[u8]) -> Drawing
 
 // Whether the last instruction is open: with one more semicolon something would be painted or refused.
 fn open_end(machine: Machine) -> bool
-    requires { ⌜ Made (machine .state) ⌝ }
+    requires { ⌜ Usable (machine .state) ⌝ }
     ensures { λ r. ⌜ r ≡ S.openEnd (machine .state) ⌝ }
 {
     let t = machine.take(b';');
@@ -189,7 +189,7 @@ fn open_end(machine: Machine) -> bool
 
 // What there is to say of a drawing that has been read, or could not be.
 fn finished(d: Drawing, unread: bool) -> Surveyed
-    requires { ⌜ Made (d .machine .state) ⌝ }
+    requires { ⌜ Usable (d .machine .state) ⌝ }
     ensures { λ r. ⌜ r ≡ S.finishedOf d unread ⌝ }
 {
     let machine = d.machine;
@@ -205,7 +205,7 @@ fn finished(d: Drawing, unread: bool) -> Surveyed
 
 // Standard input to its end.
 pub fn survey(machine: Machine) -> Surveyed
-    requires { ⌜ Made (machine .state) ⌝ }
+    requires { ⌜ Usable (machine .state) ⌝ }
 {
     let mut block = io::large_buffer();
     let mut d = Drawing {

@@ -1,5 +1,5 @@
 // The calls take, draw and look over a sequence, with their outcomes.
-ghost use Rattle.hpgl.specs.Made.{Made};
+ghost use Rattle.hpgl.specs.Valid.{Usable};
 use crate::outcome::put_drawn;
 use crate::outcome::put_look;
 use crate::outcome::put_refusal;
@@ -27,8 +27,8 @@ fn is_idle(drawn: Drawn) -> bool {
 
 // Draws until nothing waits, and at most so many times.
 fn draw_some(c: Course, most: u64, out: &mut [u8; 65536]) -> Course
-    requires { ⌜ Made (c .machine .state) ⌝ }
-    ensures { λ r. ⌜ Made (r .machine .state) ⌝ }
+    requires { ⌜ Usable (c .machine .state) ⌝ }
+    ensures { λ r. ⌜ Usable (r .machine .state) ⌝ }
 {
     let mut m = c.machine;
     let mut used = c.used;
@@ -51,8 +51,8 @@ fn draw_some(c: Course, most: u64, out: &mut [u8; 65536]) -> Course
 
 // One code: a byte is taken, and all that waits is drawn unless draws are held back.
 fn go(c: Course, code: u16, out: &mut [u8; 65536]) -> Course
-    requires { ⌜ Made (c .machine .state) ⌝ }
-    ensures { λ r. ⌜ Made (r .machine .state) ⌝ }
+    requires { ⌜ Usable (c .machine .state) ⌝ }
+    ensures { λ r. ⌜ Usable (r .machine .state) ⌝ }
 {
     let m = c.machine;
     if code < MARKS {
@@ -80,8 +80,8 @@ fn go(c: Course, code: u16, out: &mut [u8; 65536]) -> Course
 }
 
 pub fn run(c: Course, codes: &[u16; ROOM], count: usize, out: &mut [u8; 65536]) -> Course
-    requires { ⌜ Made (c .machine .state) ⌝ }
-    ensures { λ r. ⌜ Made (r .machine .state) ⌝ }
+    requires { ⌜ Usable (c .machine .state) ⌝ }
+    ensures { λ r. ⌜ Usable (r .machine .state) ⌝ }
 {
     let mut course = c;
     for i in 0..count {
@@ -95,7 +95,7 @@ pub fn run(c: Course, codes: &[u16; ROOM], count: usize, out: &mut [u8; 65536]) 
 
 // What look says, and whether a segment waits.
 pub fn look_at(m: Machine, out: &mut [u8; 65536], used: usize) -> usize
-    requires { ⌜ Made (m .state) ⌝ }
+    requires { ⌜ Usable (m .state) ⌝ }
 {
     let worked = m.draw();
     let drawn = worked.drawn;

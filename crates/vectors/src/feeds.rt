@@ -1,6 +1,6 @@
 // The call feed, into a lent list of plain numbers, five for each stroke, with its outcomes.
 ghost use mathlib.Core.Path.{_≡_};
-ghost use Rattle.hpgl.specs.Made.{Made};
+ghost use Rattle.hpgl.specs.Valid.{Usable};
 ghost use Prim.Native.Nat.{_<_, _≤_};
 ghost use lib.ListN.{length};
 use crate::outcome::put_number;
@@ -108,7 +108,7 @@ fn fitting(room: u64) -> usize
 
 // One feed into a list of so many records: its answer, and all of these records.
 pub fn feed_once(m: Machine, bytes: &[u8], room: u64, out: &mut [u8; 65536], used: usize) -> usize
-    requires { ⌜ Made (m .state) ⌝ }
+    requires { ⌜ Usable (m .state) ⌝ }
 {
     let mut numbers = marked();
     let records = fitting(room);
@@ -123,8 +123,8 @@ pub fn feed_once(m: Machine, bytes: &[u8], room: u64, out: &mut [u8; 65536], use
 
 // One feed of what is left: its strokes, and a refusal.
 fn feed_part(f: Fed, bytes: &[u8], out: &mut [u8; 65536]) -> Fed
-    requires { ⌜ Made (f .machine .state) ⌝ }
-    ensures { λ r. ⌜ Made (r .machine .state) ⌝ }
+    requires { ⌜ Usable (f .machine .state) ⌝ }
+    ensures { λ r. ⌜ Usable (r .machine .state) ⌝ }
 {
     let mut numbers = marked();
     let m = f.machine;
@@ -142,7 +142,7 @@ fn feed_part(f: Fed, bytes: &[u8], out: &mut [u8; 65536]) -> Fed
 
 // Feed after feed, as the program strokes does. A proved loop has to end: it counts its turns down, from a number that no run uses up.
 pub fn feed_all(m: Machine, bytes: &[u8], out: &mut [u8; 65536], used: usize) -> usize
-    requires { ⌜ Made (m .state) ⌝ }
+    requires { ⌜ Usable (m .state) ⌝ }
 {
     let mut f = Fed {
         machine: m,

@@ -1,6 +1,6 @@
 // Runs byte sequences over the machine. Each line of standard input names the calls to make, and its outcome is printed in one line.
 // The head of the stored `stdin` says how a line is written, docs/VECTORS.md where the outcomes in the stored `stdout` come from.
-ghost use Rattle.hpgl.specs.Made.{Made};
+ghost use Rattle.hpgl.specs.Valid.{Usable};
 
 mod calls;
 mod drives;
@@ -81,7 +81,7 @@ fn put_limits(limits: Limits, out: &mut [u8; 65536], used: usize) -> usize {
 }
 
 fn fresh_machine(limits: Limits) -> Machine
-    ensures { λ r. ⌜ Made (r .state) ⌝ }
+    ensures { λ r. ⌜ Usable (r .state) ⌝ }
 {
     let started = Machine::fresh(limits.left, limits.bottom, limits.right, limits.top);
     started.machine

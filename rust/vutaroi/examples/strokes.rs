@@ -20,7 +20,7 @@ fn main() -> io::Result<()> {
         }
         let mut at = 0;
         loop {
-            let fed = machine.plot(&block[at..got], &mut marks);
+            let fed = machine.plot(&block[at..got], &mut marks).map_err(io::Error::other)?;
             for mark in &marks[..fed.stored] {
                 print(&mut output, mark, before + at)?;
             }

@@ -1,12 +1,15 @@
 //! The calls of the library, each behind a safe function. This file has the only `unsafe` code of
-//! the crate. What makes it sound: a slice crosses as its pointer and its length; every state was
-//! written by `fresh` and since then by the calls alone, since `Machine` keeps it private; every
-//! other list is as long as the library's header asks.
+//! the crate. What makes it sound: a slice crosses as its pointer and its length, no two overlap, and
+//! the library is proved for all lists: one that is no machine is refused.
 
-use crate::{Fed, Mark, Stroke};
+use crate::{Fed, Mark, NoMachine, Stroke};
 
-/// The numbers of a state: `VUTAROI_STATE` of `include/vutaroi.h`.
-pub const STATE_NUMBERS: usize = 635;
+/// The numbers of a machine: `VUTAROI_NUMBERS` of `include/vutaroi.h`.
+pub const NUMBERS: usize = 640;
+
+/// The numbers of a call that was handed no machine, or a list that is too short.
+const NO_MACHINE: u8 = 40;
+const SHORT: u8 = 41;
 
 /// The numbers of a stroke or a mark.
 const RECORD_NUMBERS: usize = 5;
@@ -15,6 +18,7 @@ const _: () = assert!(size_of::<Stroke>() == RECORD_NUMBERS * size_of::<i64>());
 const _: () = assert!(size_of::<Mark>() == RECORD_NUMBERS * size_of::<i64>());
 
 extern "C" {
+    fn vutaroi_version() -> u32;
     fn vutaroi_fresh(
         left: i64,
         bottom: i64,
@@ -25,7 +29,12 @@ extern "C" {
     ) -> u8;
     fn vutaroi_take(state: *mut i64, state_len: usize, byte: u8) -> u8;
     fn vutaroi_draw(state: *mut i64, state_len: usize, stroke: *mut i64, stroke_len: usize) -> u8;
-    fn vutaroi_look(state: *const i64, state_len: usize, seen: *mut i64, seen_len: usize);
+    fn vutaroi_look(
+        state: *const i64,
+        state_len: usize,
+        seen: *mut i64,
+        seen_len: usize,
+    ) -> u8;
     fn vutaroi_feed(
         state: *mut i64,
         state_len: usize,
@@ -48,38 +57,51 @@ extern "C" {
     ) -> u8;
 }
 
-type State = [i64; STATE_NUMBERS];
+type State = [i64; NUMBERS];
+
+/// The number of a call, unless the library found no machine.
+fn gone(number: u8) -> Result<u8, NoMachine> {
+    match number {
+        NO_MACHINE | SHORT => Err(NoMachine),
+        _ => Ok(number),
+    }
+}
+
+pub fn version() -> u32 {
+    // SAFETY: the call takes nothing.
+    unsafe { vutaroi_version() }
+}
 
 pub fn fresh(left: i64, bottom: i64, right: i64, top: i64, state: &mut State) -> u8 {
-    // SAFETY: the list is as long as asked, and any content will do.
-    unsafe { vutaroi_fresh(left, bottom, right, top, state.as_mut_ptr(), STATE_NUMBERS) }
+    // SAFETY: the count is the list's.
+    unsafe { vutaroi_fresh(left, bottom, right, top, state.as_mut_ptr(), NUMBERS) }
 }
 
-pub fn take(state: &mut State, byte: u8) -> u8 {
-    // SAFETY: the state is one that the calls left.
-    unsafe { vutaroi_take(state.as_mut_ptr(), STATE_NUMBERS, byte) }
+pub fn take(state: &mut State, byte: u8) -> Result<u8, NoMachine> {
+    // SAFETY: the count is the list's.
+    gone(unsafe { vutaroi_take(state.as_mut_ptr(), NUMBERS, byte) })
 }
 
-pub fn draw(state: &mut State, stroke: &mut Stroke) -> u8 {
+pub fn draw(state: &mut State, stroke: &mut Stroke) -> Result<u8, NoMachine> {
     let numbers: *mut Stroke = stroke;
-    // SAFETY: the state is one that the calls left, and a stroke is five numbers.
-    unsafe { vutaroi_draw(state.as_mut_ptr(), STATE_NUMBERS, numbers.cast(), RECORD_NUMBERS) }
+    // SAFETY: the counts are the lists', and a stroke is five numbers.
+    gone(unsafe { vutaroi_draw(state.as_mut_ptr(), NUMBERS, numbers.cast(), RECORD_NUMBERS) })
 }
 
-pub fn look(state: &State) -> [i64; 5] {
+pub fn look(state: &State) -> Result<[i64; 5], NoMachine> {
     let mut seen = [0; 5];
-    // SAFETY: the state is one that the calls left; the call only reads it.
-    unsafe { vutaroi_look(state.as_ptr(), STATE_NUMBERS, seen.as_mut_ptr(), seen.len()) };
-    seen
+    // SAFETY: the counts are the lists'; the call only reads the state.
+    gone(unsafe { vutaroi_look(state.as_ptr(), NUMBERS, seen.as_mut_ptr(), seen.len()) })?;
+    Ok(seen)
 }
 
-pub fn feed(state: &mut State, bytes: &[u8], strokes: &mut [Stroke]) -> Fed {
+pub fn feed(state: &mut State, bytes: &[u8], strokes: &mut [Stroke]) -> Result<Fed, NoMachine> {
     let mut answer = [0u64; 2];
-    // SAFETY: the state is one that the calls left; a stroke is five numbers, and any will do.
+    // SAFETY: the counts are the lists'; a stroke is five numbers, and any will do.
     let number = unsafe {
         vutaroi_feed(
             state.as_mut_ptr(),
-            STATE_NUMBERS,
+            NUMBERS,
             bytes.as_ptr(),
             bytes.len(),
             strokes.as_mut_ptr().cast(),
@@ -91,13 +113,13 @@ pub fn feed(state: &mut State, bytes: &[u8], strokes: &mut [Stroke]) -> Fed {
     fed(answer, number)
 }
 
-pub fn plot(state: &mut State, bytes: &[u8], marks: &mut [Mark]) -> Fed {
+pub fn plot(state: &mut State, bytes: &[u8], marks: &mut [Mark]) -> Result<Fed, NoMachine> {
     let mut answer = [0u64; 2];
-    // SAFETY: the state is one that the calls left; a mark is five numbers, and any will do.
+    // SAFETY: the counts are the lists'; a mark is five numbers, and any will do.
     let number = unsafe {
         vutaroi_plot(
             state.as_mut_ptr(),
-            STATE_NUMBERS,
+            NUMBERS,
             bytes.as_ptr(),
             bytes.len(),
             marks.as_mut_ptr().cast(),
@@ -109,6 +131,6 @@ pub fn plot(state: &mut State, bytes: &[u8], marks: &mut [Mark]) -> Fed {
     fed(answer, number)
 }
 
-fn fed([taken, stored]: [u64; 2], number: u8) -> Fed {
-    Fed { taken: taken as usize, stored: stored as usize, number }
+fn fed([taken, stored]: [u64; 2], number: u8) -> Result<Fed, NoMachine> {
+    Ok(Fed { taken: taken as usize, stored: stored as usize, number: gone(number)? })
 }

@@ -9,20 +9,47 @@
 //!
 //! let (mut machine, _) = Machine::fresh(-10000, -7000, 10000, 7000);
 //! let mut marks = [Mark::default(); 64];
-//! let fed = machine.plot(b"IN;SP1;PA0,0;PD100,50;", &mut marks);
+//! let fed = machine.plot(b"IN;SP1;PA0,0;PD100,50;", &mut marks)?;
 //! for mark in &marks[..fed.stored] {
 //!     println!("{mark:?}");
 //! }
+//! # Ok::<(), vutaroi::NoMachine>(())
 //! ```
+//!
+//! The library tests a machine before it uses it, so every call but [`Machine::fresh`] answers a
+//! `Result`: a machine that was changed in memory is [`NoMachine`], and nothing is painted of it.
 
 mod calls;
 
-use calls::STATE_NUMBERS;
+use std::error::Error;
+use std::fmt;
 
-/// The machine. It comes only from [`Machine::fresh`], and only the calls change it.
+pub use calls::NUMBERS;
+
+/// The machine. It comes from [`Machine::fresh`], or from numbers that were kept, and only the calls
+/// change it.
 #[derive(Clone)]
 pub struct Machine {
-    state: [i64; STATE_NUMBERS],
+    state: [i64; NUMBERS],
+}
+
+/// What was handed to the library is no machine: it was changed where it was kept, or it has another
+/// form.
+#[derive(Clone, Copy, Debug, PartialEq, Eq, Hash)]
+pub struct NoMachine;
+
+impl fmt::Display for NoMachine {
+    fn fmt(&self, f: &mut fmt::Formatter<'_>) -> fmt::Result {
+        f.write_str("no machine, or one that was changed")
+    }
+}
+
+impl Error for NoMachine {}
+
+/// The version of the library that is linked: 10000 times its major number, 100 times its minor
+/// number, and its patch.
+pub fn version() -> u32 {
+    calls::version()
 }
 
 /// A stroke: the pen and both ends, in plotter units on the page.
@@ -113,43 +140,88 @@ impl Machine {
     /// A machine with hard limits, each -32768 to 32767, `left < right`, `bottom < top`. Others give
     /// the number 10 and a machine with the limits 0, 0, 1, 1.
     pub fn fresh(left: i64, bottom: i64, right: i64, top: i64) -> (Machine, u8) {
-        let mut state = [0; STATE_NUMBERS];
+        let mut state = [0; NUMBERS];
         let number = calls::fresh(left, bottom, right, top, &mut state);
         (Machine { state }, number)
     }
 
+    /// The machine that numbers hold which [`Machine::numbers`] gave, on this kind of processor.
+    pub fn from_numbers(numbers: [i64; NUMBERS]) -> Result<Machine, NoMachine> {
+        calls::look(&numbers)?;
+        Ok(Machine { state: numbers })
+    }
+
+    /// The machine as numbers, to be kept.
+    pub fn numbers(&self) -> &[i64; NUMBERS] {
+        &self.state
+    }
+
     /// Takes one byte. While a segment waits the number is 20, and nothing changes.
-    pub fn take(&mut self, byte: u8) -> u8 {
+    pub fn take(&mut self, byte: u8) -> Result<u8, NoMachine> {
         calls::take(&mut self.state, byte)
     }
 
     /// Works off one waiting segment.
-    pub fn draw(&mut self) -> Drawn {
+    pub fn draw(&mut self) -> Result<Drawn, NoMachine> {
         let mut stroke = Stroke::default();
-        match calls::draw(&mut self.state, &mut stroke) {
+        Ok(match calls::draw(&mut self.state, &mut stroke)? {
             0 => Drawn::Idle,
             1 => Drawn::Hidden,
             _ => Drawn::Stroke(stroke),
-        }
+        })
     }
 
     /// Where the carriage is, and with what. It changes nothing.
-    pub fn look(&self) -> Look {
-        let [x, y, pen, down, bytes] = calls::look(&self.state);
-        Look { x, y, pen, down: down != 0, bytes }
+    pub fn look(&self) -> Result<Look, NoMachine> {
+        let [x, y, pen, down, bytes] = calls::look(&self.state)?;
+        Ok(Look { x, y, pen, down: down != 0, bytes })
     }
 
     /// Bytes in, strokes out: draws while a segment waits and a record is free, else takes the next
     /// byte. Stops after a byte that is refused, which counts as taken; with 21 where a segment waits
     /// and no record is free; or with 0 where all bytes are taken and no segment waits.
-    pub fn feed(&mut self, bytes: &[u8], strokes: &mut [Stroke]) -> Fed {
+    pub fn feed(&mut self, bytes: &[u8], strokes: &mut [Stroke]) -> Result<Fed, NoMachine> {
         calls::feed(&mut self.state, bytes, strokes)
     }
 
     /// As [`Machine::feed`], but a refused byte is stored as a mark among the strokes, and the bytes
     /// after it are taken. A byte is taken only while a record is free, since it may be refused:
     /// without one the number is 21.
-    pub fn plot(&mut self, bytes: &[u8], marks: &mut [Mark]) -> Fed {
+    pub fn plot(&mut self, bytes: &[u8], marks: &mut [Mark]) -> Result<Fed, NoMachine> {
         calls::plot(&mut self.state, bytes, marks)
+    }
+}
+
+#[cfg(test)]
+mod tests {
+    use super::*;
+
+    fn drawn() -> Machine {
+        let (mut machine, _) = Machine::fresh(-10000, -7000, 10000, 7000);
+        assert_eq!(machine.plot(b"SP1;PA0,0;PD100,5", &mut [Mark::default(); 8]).map(|f| f.number), Ok(0));
+        machine
+    }
+
+    #[test]
+    fn a_machine_is_kept_as_numbers() {
+        let mut kept = Machine::from_numbers(*drawn().numbers()).expect("a machine of the calls");
+        let mut marks = [Mark::default(); 8];
+        let fed = kept.plot(b"0;", &mut marks).expect("a machine of the calls");
+        assert_eq!((fed.stored, marks[0].numbers), (1, [1, 0, 0, 100, 50]));
+    }
+
+    #[test]
+    fn every_changed_number_is_told() {
+        let good = *drawn().numbers();
+        for i in 0..NUMBERS {
+            let mut bad = good;
+            bad[i] ^= 1;
+            assert_eq!(Machine::from_numbers(bad).err(), Some(NoMachine), "number {i}");
+        }
+    }
+
+    #[test]
+    fn the_library_is_this_version() {
+        assert_eq!(version(), 100);
     }
 }

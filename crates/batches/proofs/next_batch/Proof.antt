@@ -13,11 +13,10 @@ use lib.Seq.{drop-drop, getD-drop, length-take-le, length-front}
 use Rattle.hpgl.specs.declared.Stroke.{Stroke}
 use Rattle.feeding.specs.DrawOff.{listFull}
 use Rattle.feeding.specs.Feed.{Feed, feedFrom, laidNumbers}
-use Rattle.feeding.specs.FeedLaws.{feed-place, feed-stored, feed-made}
 use Rattle.feeding.specs.PartsOfFeed.{storeAll, Roomier, feed-room}
 use Rattle.feeding.specs.StrokePens.{feed-pens}
-use Rattle.hpgl.specs.Made.{Made}
-use Rattle.hpgl.specs.ValidKept.{made-valid}
+use Rattle.feeding.specs.FeedLaws.{feed-place, feed-stored, feed-usable}
+use Rattle.hpgl.specs.Valid.{Usable}
 use Rattle.machine.specs.declared.Gathered.{Gathered}
 use Rattle.machine.specs.Gather.{gatheredOf}
 use Rattle.batches.specs.declared.Fed.{Fed}
@@ -89,9 +88,9 @@ module _ (f : Fed) (bytes : List ℕ) (room most : ℕ) where
       some-is true false e h k = absurd (false≢true k)
       some-is false y e h k = absurd (false≢true k)
 
-      batched : (list : List Stroke) → take (length (part .strokes)) list ≡ part .strokes → most ≤ 64 → Made (f .machine .state) → ((i : ℕ) → getD bytes i 0 < 256) →
+      batched : (list : List Stroke) → take (length (part .strokes)) list ≡ part .strokes → most ≤ 64 → Usable (f .machine .state) →
           Batched bytes room f (batchOf (gatheredOf part) (eqb (part .number) listFull && ltb (f .stored + length (part .strokes)) room) list)
-      batched list e small made fits =
+      batched list e small h =
           let stored = feed-stored (f .machine .state) (drop (f .taken) bytes) (f .taken) most in
           record {
             next = next-is (eqb (part .number) listFull) (ltb (f .stored + length (part .strokes)) room) refl refl
@@ -100,7 +99,7 @@ module _ (f : Fed) (bytes : List ℕ) (room most : ℕ) where
             held = omega (arith, stored, small);
             within = omega (arith, stored, within, enough);
             some = some-is (eqb (part .number) listFull) (ltb (f .stored + length (part .strokes)) room) refl refl;
-            made = feed-made (f .machine .state) (drop (f .taken) bytes) (f .taken) most (λ i. rw getD-drop (fits (f .taken + i))) made;
+            usable = feed-usable (f .machine .state) (drop (f .taken) bytes) (f .taken) most h;
           }
 
 -- ---- the code
@@ -171,7 +170,7 @@ module _ (g : tie.After-gather) where
   penned i h =
       subst (λ (l : List ℤ). PenAt l i) (sym numbers-are)
       (pens-back (did .strokes) (take (most * 5) zeros) (drop (most * 5) zeros)
-      (feed-pens (f .machine .state) (drop (f .taken) bytes) (f .taken) most (made-valid (s .pre .0))) i (omega (arith, h, counted)))
+      (feed-pens (f .machine .state) (drop (f .taken) bytes) (f .taken) most (s .pre .0 .valid)) i (omega (arith, h, counted)))
 
   -- the records are the strokes
   listed : (list : List Stroke) → take (g .gather .result .stored) list ≡ strokesOf numbers (g .gather .result .stored) → take (length (did .strokes)) list ≡ did .strokes
@@ -182,16 +181,13 @@ module _ (g : tie.After-gather) where
   abbrev goes : Gathered → Bool
   goes r = eqb (r .number) listFull && ltb (f .stored + r .stored) (s .args .room)
 
-  small-bytes : (i : ℕ) → getD bytes i 0 < 256
-  small-bytes i = omega (arith, g .before .before .before .before .before .before .shared-slice-known .given i)
-
   -- the batch that is answered
   answer : (more : Bool) (list : List Stroke) → more ≡ goes (g .gather .result) → take (g .gather .result .stored) list ≡ strokesOf numbers (g .gather .result .stored) →
       Batched bytes (s .args .room) f (batchOf f bytes (s .args .room) most (g .gather .result) more list)
   answer more list e h =
       subst (Batched bytes (s .args .room) f)
       (ap (λ (r : Gathered). batchOf f bytes (s .args .room) most r (goes r) list) (sym gathered) ∙ ap (λ (z : Bool). batchOf f bytes (s .args .room) most (g .gather .result) z list) (sym e))
-      (batched f bytes (s .args .room) most (s .pre .1) (sized .1 .0) (sized .1 .1) list (listed list h) (sized .0) (s .pre .0) small-bytes)
+      (batched f bytes (s .args .room) most (s .pre .1) (sized .1 .0) (sized .1 .1) list (listed list h) (sized .0) (s .pre .0))
 
 sub-batch-room : tie.Need-sub-batch-room
 sub-batch-room c = search needs

@@ -57,7 +57,7 @@ use denote.Exit.{yes}
 use borrow.Table.OneValue.{part-in, part-out}
 use Rattle.hpgl.specs.declared.Stroke.{Stroke}
 use Rattle.feeding.specs.Feed.{feedOf, laid}
-use Rattle.hpgl.specs.Made.{Made}
+use Rattle.hpgl.specs.Valid.{Usable}
 use Rattle.hpgl.proofs.Stroke as St
 use Rattle.hpgl.proofs.Stroke.Laws as St′
 use Rattle.machine.specs.declared.Machine.{Machine}
@@ -266,7 +266,7 @@ module _ {M : Type 1} (𝓤 : URA M) (H : Heap 𝓤) (A : Atoms 𝓤) (W : Given
   abbrev to-batch : Fed → Nexts 𝓤 H A mem run .Ghost
   to-batch f = (((κ, tt), (q, tt), tt, (f, (d, (n, tt))), (fed-val f ∷ [], (vb ∷ [], (vint w64 n ∷ [], tt)))), tt)
 
-  goes-batch : (f : Fed) → Is Fd.the-row f (fed-val f ∷ []) → n < 2 ^ 64 → Made (f .machine .state) × (f .stored ≤ n)
+  goes-batch : (f : Fed) → Is Fd.the-row f (fed-val f ∷ []) → n < 2 ^ 64 → Usable (f .machine .state) × (f .stored ≤ n)
       → ent 𝓤 (sep 𝓤 (sep 𝓤 (A .lft κ q) (sem 𝓤 H A ftrue)) (sem 𝓤 H A OwnB)) (Nexts 𝓤 H A mem run .pre (to-batch f))
   goes-batch f is n-fits pre =
       qed W ((‵ (flft κ q) ⊛ ‵ ftrue) ∷ ‵ OwnB ∷ []) ∵ says ! pre $ frame ! $
@@ -276,7 +276,7 @@ module _ {M : Type 1} (𝓤 : URA M) (H : Heap 𝓤) (A : Atoms 𝓤) (W : Given
   said-batch : (f : Fed) (b : Batch) → ent 𝓤 (ensured 𝓤 H A next-batch.ended (next-batch.clauses 𝓤 H A mem run) (κ, tt) (f, (d, (n, tt))) tt b) (fact 𝓤 (Batched bs n f b))
   said-batch f b = exE 𝓤 _ (λ ws. snd∗ 𝓤 (sem 𝓤 H A (lasts next-batch.ended (κ, tt) (f, (d, (n, tt))) ws)) (fact 𝓤 (Batched bs n f b)))
 
-  module _ (𝓣 : Tables 𝓤 H) (known-begin : Triple 𝓤 (𝓣 .C #batches·begin) (Begins 𝓤 H A mem run)) (known-batch : Triple 𝓤 (𝓣 .C #batches·next-batch) (Nexts 𝓤 H A mem run)) (is-m : Is Mc.the-row m (machine-val m ∷ [])) (made : Made (m .state)) (room : Room R n) (l₀ l₁ l₂ l₃ l₄ l₅ l₆ l₇ l₈ l₉ l₁₀ l₁₁ l₁₂ l₁₃ l₁₄ l₁₅ l₁₆ : ℕ) where
+  module _ (𝓣 : Tables 𝓤 H) (known-begin : Triple 𝓤 (𝓣 .C #batches·begin) (Begins 𝓤 H A mem run)) (known-batch : Triple 𝓤 (𝓣 .C #batches·next-batch) (Nexts 𝓤 H A mem run)) (is-m : Is Mc.the-row m (machine-val m ∷ [])) (usable : Usable (m .state)) (room : Room R n) (l₀ l₁ l₂ l₃ l₄ l₅ l₆ l₇ l₈ l₉ l₁₀ l₁₁ l₁₂ l₁₃ l₁₄ l₁₅ l₁₆ : ℕ) where
     abbrev C : Calls 𝓤 H
     C = 𝓣 .C
 
@@ -352,7 +352,7 @@ module _ {M : Type 1} (𝓤 : URA M) (H : Heap 𝓤) (A : Atoms 𝓤) (W : Given
         assigns ! (of-opd ! (load ! (from ! (fld ! refl (stop !))) (look-in ! 18 (sub ! 1 refl (whole !))))) (from ! (stop !)) (init ! 15 refl (tt, record { fits = room .0 })) $
         -- `next_batch`
         move ! (3 ∷ []) $ use1 W (‵ OwnB ⊛ ‵ OwnB) (shr-slice-copy 𝓤 H A W (named 0) κ u8 .twice d (vb ∷ [])) $ split ! $ nothing ! $ move ! (5 ∷ 0 ∷ []) $ join ! $
-        use2 W (raw (Nexts 𝓤 H A mem run .pre (to-batch (b .fed)))) (goes-batch (b .fed) is-fed (room .0) (far .made, far .room)) $
+        use2 W (raw (Nexts 𝓤 H A mem run .pre (to-batch (b .fed)))) (goes-batch (b .fed) is-fed (room .0) (far .usable, far .room)) $
         calls-at ! (fmOf 𝓤 H (W .laws) 𝓣) (Nexts 𝓤 H A mem run) known-batch (to-batch (b .fed)) (and-then ! (load ! (from ! (fld ! refl (stop !))) (look-in ! 4 (sub ! 3 refl (whole !)))) (and-then ! (load ! (from ! (stop !)) (look ! 17 refl)) (and-then ! (load ! (from ! (stop !)) (look ! 15 refl)) (no-more !)))) (λ u.
         use1 W (later (some (λ (c : Batch). ((‵ (flft κ q) ⊛ ‵ ftrue) ⊛ ‵ (Bt.the-row .own c (u ∷ []))) ⊛ raw (ensured 𝓤 H A next-batch.ended (next-batch.clauses 𝓤 H A mem run) (κ, tt) (b .fed, (d, (n, tt))) tt c)))) (id⊢ 𝓤 _) $ await ! tt $ pick ! (λ c.
         split ! $ move ! (1 ∷ []) $ use1 W (raw (fact 𝓤 (Batched bs n (b .fed) c))) (said-batch (b .fed) c) $ heard ! (Batched bs n (b .fed) c) (λ e.
@@ -410,7 +410,7 @@ module _ {M : Type 1} (𝓤 : URA M) (H : Heap 𝓤) (A : Atoms 𝓤) (W : Given
         (λ no more c is-c e. below k c 0 at ys (subst (λ (j : ℕ). left n c 0 < j) (g .0) (fewer-batch n bs b c i more e)) is-c (far-batch m bs xs b i at ys far no more c e))))
 
     loops : (b : Batch) → Is Bt.the-row b (batch-val b ∷ []) → Begun b → ent 𝓤 (⋆ 𝓤 H A (At b 0 0 xs)) (Wp 𝓤 H C Λ En (loop Mir.turn-1) Left)
-    loops b is e = via 𝓤 (Inv (left n b 0)) (holds-at b 0 0 xs is (far-start m bs xs b made e)) (loop-rule 𝓤 H (W .laws) 𝓣 _<_ (Nat·lt-wfRel .wf) En Mir.turn-1 Left Inv turns (left n b 0))
+    loops b is e = via 𝓤 (Inv (left n b 0)) (holds-at b 0 0 xs is (far-start m bs xs b usable e)) (loop-rule 𝓤 H (W .laws) 𝓣 _<_ (Nat·lt-wfRel .wf) En Mir.turn-1 Left Inv turns (left n b 0))
 
     -- once the parameters are passed
     abbrev Begin : List (Item 𝓤)
@@ -443,22 +443,22 @@ module _ {M : Type 1} (𝓤 : URA M) (H : Heap 𝓤) (A : Atoms 𝓤) (W : Given
         keep ! (1 ∷ 0 ∷ 6 ∷ 7 ∷ 31 ∷ 28 ∷ 26 ∷ 24 ∷ 22 ∷ 20 ∷ 18 ∷ 16 ∷ 14 ∷ 12 ∷ 10 ∷ 8 ∷ 37 ∷ 35 ∷ 33 ∷ 39 ∷ 2 ∷ 3 ∷ 4 ∷ 40 ∷ 38 ∷ 36 ∷ 34 ∷ 32 ∷ 30 ∷ 29 ∷ 27 ∷ 25 ∷ 23 ∷ 21 ∷ 19 ∷ 17 ∷ 15 ∷ 13 ∷ 11 ∷ 9 ∷ []) $
         by ! (loops b is e)))))
 
-  walk : (𝓣 : Tables 𝓤 H) → Triple 𝓤 (𝓣 .C #batches·begin) (Begins 𝓤 H A mem run) → Triple 𝓤 (𝓣 .C #batches·next-batch) (Nexts 𝓤 H A mem run) → Is Mc.the-row m (machine-val m ∷ []) → Is (ShrSlice (named 0) κ u8) d (vb ∷ []) → Made (m .state) → Room R n
+  walk : (𝓣 : Tables 𝓤 H) → Triple 𝓤 (𝓣 .C #batches·begin) (Begins 𝓤 H A mem run) → Triple 𝓤 (𝓣 .C #batches·next-batch) (Nexts 𝓤 H A mem run) → Is Mc.the-row m (machine-val m ∷ []) → Is (ShrSlice (named 0) κ u8) d (vb ∷ []) → Usable (m .state) → Room R n
       → ent 𝓤 (onEntry 𝓤 H A feed.signature (κ, (κ′, tt)) (q, (q′, tt)) a vals) (WpFn 𝓤 H (𝓣 .C) (𝓣 .Λ) fn (machine-val m ∷ vb ∷ vo ∷ []) Post)
-  walk 𝓣 known-begin known-batch is-m is-d made room =
+  walk 𝓣 known-begin known-batch is-m is-d usable room =
       qed W ((‵ (flft κ q) ⊛ ‵ (flft κ′ q′) ⊛ ‵ ftrue) ∷ ‵ (owns (Mc.the-row ∷ ShrSlice (named 0) κ u8 ∷ MutSlice (named 1) κ′ R ∷ []) a vals) ∷ []) ∵
       enter ! (𝓣 .C) (𝓣 .Λ) fn (machine-val m ∷ vb ∷ vo ∷ []) _ $
       alloc1 ! (λ l₀. alloc1 ! (λ l₁. alloc1 ! (λ l₂. alloc1 ! (λ l₃. alloc1 ! (λ l₄. alloc1 ! (λ l₅. alloc1 ! (λ l₆. alloc1 ! (λ l₇. alloc1 ! (λ l₈. alloc1 ! (λ l₉. alloc1 ! (λ l₁₀. alloc1 ! (λ l₁₁. alloc1 ! (λ l₁₂. alloc1 ! (λ l₁₃. alloc1 ! (λ l₁₄. alloc1 ! (λ l₁₅. alloc1 ! (λ l₁₆. alloc0 ! $ params1 ! $
       pass1 ! (init ! 30 refl (LL.lawful Mc.the-type Mc′.the-laws 𝓤 H A W .typed m _ is-m .0)) $ pass1 ! (init ! 28 refl (shr-slice-lawful 𝓤 H A W (named 0) κ u8 .typed d (vb ∷ []) is-d .0)) $
       pass1 ! (init ! 26 refl (tt, (tt, (record { fits = room .0 }, tt)))) $ pass0 ! $
-      by ! (begins 𝓣 known-begin known-batch is-m made room l₀ l₁ l₂ l₃ l₄ l₅ l₆ l₇ l₈ l₉ l₁₀ l₁₁ l₁₂ l₁₃ l₁₄ l₁₅ l₁₆))))))))))))))))))
+      by ! (begins 𝓣 known-begin known-batch is-m usable room l₀ l₁ l₂ l₃ l₄ l₅ l₆ l₇ l₈ l₉ l₁₀ l₁₁ l₁₂ l₁₃ l₁₄ l₁₅ l₁₆))))))))))))))))))
 
 module _ {M : Type 1} (𝓤 : URA M) (H : Heap 𝓤) (A : Atoms 𝓤) (W : Given 𝓤 H A) (mem : Memory → SProp 𝓤) (run : Routine → Fun 𝓤) (𝓣 : Tables 𝓤 H) (known-begin : Triple 𝓤 (𝓣 .C #batches·begin) (Begins 𝓤 H A mem run)) (known-batch : Triple 𝓤 (𝓣 .C #batches·next-batch) (Nexts 𝓤 H A mem run)) where
   feed-walks : Walks 𝓤 H A feed.ended stayed (WpFn 𝓤 H (𝓣 .C) (𝓣 .Λ) fn) (feed.clauses 𝓤 H A mem run)
   feed-walks = walked 𝓤 H A feed.ended stayed (feed.clauses 𝓤 H A mem run) (WpFn 𝓤 H (𝓣 .C) (𝓣 .Λ) fn)
       (λ κs. (LL.vals Mc.the-type Mc′.the-laws, (slice-vals, (slice-vals, tt)))) (λ κs. (LL.tells Mc.the-type Mc′.the-laws, (shr-slice-tells (named 0) (κs .0) u8, (mut-slice-tells (named 1) (κs .1 .0) R, tt))))
-      (λ κs qs bounds a g are. needs 𝓤 (Made (a .0 .state)) _ (λ made.
-      walk 𝓤 H A W mem run (κs .0) (κs .1 .0) (qs .0) (qs .1 .0) (a .0) (a .1 .0) (a .1 .1 .0 .ptr .0) (a .1 .1 .0 .ptr .1) (a .1 .1 .0 .name) (a .1 .1 .0 .now) 𝓣 known-begin known-batch (are .0) (are .1 .0) made (are .1 .1 .0 .0 .1)))
+      (λ κs qs bounds a g are. needs 𝓤 (Usable (a .0 .state)) _ (λ usable.
+      walk 𝓤 H A W mem run (κs .0) (κs .1 .0) (qs .0) (qs .1 .0) (a .0) (a .1 .0) (a .1 .1 .0 .ptr .0) (a .1 .1 .0 .ptr .1) (a .1 .1 .0 .name) (a .1 .1 .0 .now) 𝓣 known-begin known-batch (are .0) (are .1 .0) usable (are .1 .1 .0 .0 .1)))
 
   feed-meets : Meets 𝓤 H A feed.signature (WpFn 𝓤 H (𝓣 .C) (𝓣 .Λ) code.function) (feed.spec 𝓤 H A mem run)
   feed-meets = subst (λ (g : Fn). Meets 𝓤 H A feed.signature (WpFn 𝓤 H (𝓣 .C) (𝓣 .Λ) g) (feed.spec 𝓤 H A mem run)) fn-is

@@ -51,7 +51,7 @@ use denote.Exit.{yes}
 use borrow.Table.OneValue.{part-in, part-out}
 use Rattle.hpgl.specs.declared.Stroke.{Stroke}
 use Rattle.feeding.specs.Feed.{feedOf, laid}
-use Rattle.hpgl.specs.Made.{Made}
+use Rattle.hpgl.specs.Valid.{Usable}
 use Rattle.hpgl.proofs.Stroke as St
 use Rattle.hpgl.proofs.Stroke.Laws as St′
 use Rattle.machine.specs.declared.Machine.{Machine}
@@ -169,7 +169,7 @@ module _ {M : Type 1} (𝓤 : URA M) (H : Heap 𝓤) (A : Atoms 𝓤) (W : Given
   abbrev OwnB : Fml
   OwnB = ShrSlice (named 0) κ u8 .own d (vb ∷ [])
 
-  module _ (is-m : Is Mc.the-row m (machine-val m ∷ [])) (made : Made (m .state)) where
+  module _ (is-m : Is Mc.the-row m (machine-val m ∷ [])) (usable : Usable (m .state)) where
     exits : (r : Listed) (v : Val) → Is Ls.the-row r (v ∷ []) → r ≡ listedOf (feedOf (m .state) bs 64)
         → ent 𝓤 (sep 𝓤 (A .lft κ q) (sem 𝓤 H A OwnB)) (Post v)
     exits r v is e =
@@ -209,7 +209,7 @@ module _ {M : Type 1} (𝓤 : URA M) (H : Heap 𝓤) (A : Atoms 𝓤) (W : Given
       goes-feed : ent 𝓤 (sep 𝓤 (sep 𝓤 (A .lft κ q) (A .lft (ν ∷ []) fullShare)) (sep 𝓤 (sem 𝓤 H A OwnB) (sem 𝓤 H A (MutSlice (named 1) (ν ∷ []) R .own (x r) (vo ∷ []))))) (Feed 𝓤 H A mem run .pre to-feed)
       goes-feed =
           qed W ((‵ (flft κ q) ⊛ ‵ (flft (ν ∷ []) fullShare)) ∷ ‵ OwnB ∷ ‵ (MutSlice (named 1) (ν ∷ []) R .own (x r) (vo ∷ [])) ∷ []) ∵
-          says ! made $ split ! $ nothing ! $ move ! (2 ∷ 0 ∷ []) $ join ! $ move ! (1 ∷ 0 ∷ []) $ join ! $
+          says ! usable $ split ! $ nothing ! $ move ! (2 ∷ 0 ∷ []) $ join ! $ move ! (1 ∷ 0 ∷ []) $ join ! $
           -- [the tokens; what bytes owns; what the list owns]
           nothing ! $ move ! (3 ∷ 0 ∷ []) $ fjoin ! $ move ! (2 ∷ 0 ∷ []) $ fjoin ! $ owned ! Mc.the-row (Is Mc.the-row) (LL.makes Mc.the-type Mc′.the-plain 𝓤 H A) m _ is-m $ fjoin ! $
           move ! (1 ∷ 0 ∷ []) $ frame ! $ done !
@@ -291,7 +291,7 @@ module _ {M : Type 1} (𝓤 : URA M) (H : Heap 𝓤) (A : Atoms 𝓤) (W : Given
   feed-list-walks : Walks 𝓤 H A feed-list.ended stayed (WpFn 𝓤 H (𝓣 .C) (𝓣 .Λ) fn) (feed-list.clauses 𝓤 H A mem run)
   feed-list-walks = walked 𝓤 H A feed-list.ended stayed (feed-list.clauses 𝓤 H A mem run) (WpFn 𝓤 H (𝓣 .C) (𝓣 .Λ) fn)
       (λ κs. (LL.vals Mc.the-type Mc′.the-laws, (slice-vals, tt))) (λ κs. (LL.tells Mc.the-type Mc′.the-laws, (shr-slice-tells (named 0) (κs .0) u8, tt)))
-      (λ κs qs bounds a g are. needs 𝓤 (Made (a .0 .state)) _ (λ made. walk 𝓤 H A W mem run (κs .0) (qs .0) (a .0) (a .1 .0) (are .0) made (𝓣 .C) (𝓣 .Λ) (fmOf 𝓤 H (W .laws) 𝓣) known-blank known-feed (are .1 .0)))
+      (λ κs qs bounds a g are. needs 𝓤 (Usable (a .0 .state)) _ (λ usable. walk 𝓤 H A W mem run (κs .0) (qs .0) (a .0) (a .1 .0) (are .0) usable (𝓣 .C) (𝓣 .Λ) (fmOf 𝓤 H (W .laws) 𝓣) known-blank known-feed (are .1 .0)))
 
   feed-list-meets : Meets 𝓤 H A feed-list.signature (WpFn 𝓤 H (𝓣 .C) (𝓣 .Λ) code.function) (feed-list.spec 𝓤 H A mem run)
   feed-list-meets = subst (λ (g : Fn). Meets 𝓤 H A feed-list.signature (WpFn 𝓤 H (𝓣 .C) (𝓣 .Λ) g) (feed-list.spec 𝓤 H A mem run)) fn-is

@@ -1,6 +1,6 @@
 -- A machine of fresh may be used.
 use borrow.Author.Needs.{needs}
-use Rattle.plotting.specs.PlottedLaws.{started-made}
+use Rattle.plotting.specs.PlottedLaws.{started-usable}
 use Rattle.preview.proofs.main.Statement.{statement}
 use Rattle.preview.proofs.main.Tie as tie
 
@@ -32,7 +32,7 @@ sheet-of-requires : tie.Need-sheet-of-requires
 sheet-of-requires c κs = search needs
 
 page-requires : tie.Need-page-requires
-page-requires c κs = let f : tie.After-fresh = search in started-made _ (f .fresh .ensures)
+page-requires c κs = let f : tie.After-fresh = search in started-usable _ (f .fresh .ensures)
 
 returns-3 : tie.Need-returns-3
 returns-3 c = search needs

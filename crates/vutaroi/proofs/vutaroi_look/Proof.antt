@@ -1,47 +1,75 @@
--- The proof of `vutaroi_look`.
+-- The proof of `vutaroi_look`: the call on the numbers after the header.
 use borrow.Author.Needs.{needs}
-use mathlib.Core.Path.{ap, _∙_}
-use Rattle.rows.specs.declared.Row.{Row}
-use Rattle.rows.specs.Rows.{withRow, over}
+use borrow.Author.Tests.{eq-eqb, ne-eqb}
+use borrow.Rule.Slice.PartAt.{part-to-end}
+use mathlib.Core.Path.{_≡_, refl, sym, ap, _∙_, subst}
+use mathlib.Core.List.{List}
+use native.Mathlib.Omega.{arith}
+use lib.IntN.{ℤ}
+use lib.ListN.{length}
+use Rattle.rows.specs.Rows.{over}
 use Rattle.hpgl.specs.Machine.{lookAt}
-use Rattle.hpgl.specs.Made.{Made}
-use Rattle.vutaroi.specs.Calls.{lookRow, lookNumbers}
+use Rattle.saved.specs.Saved.{loadedOf}
+use Rattle.vutaroi.specs.Ready.{machineIn, readyOf, Holds}
+use Rattle.vutaroi.specs.ReadyLaws.{Goes, ready-goes, goes-holds}
+use Rattle.vutaroi.specs.Calls.{lookNumbers, lookCall}
 use Rattle.vutaroi.proofs.vutaroi_look.Statement.{statement}
 use Rattle.vutaroi.proofs.vutaroi_look.Tie as tie
 
-abbrev start : tie.After-load → tie.Start
-start l = l .before
+ready : (t : tie.Then1) → let s : tie.Start = search in readyOf (s .args .state .now) 5 (length (s .args .seen .now)) ≡ 0
+ready t = let r : tie.After-ready = search in sym (r .ready .ensures) ∙ t .if1 .taken
 
--- the machine that the list holds
-made : (l : tie.After-load) → Made (l .load .result .state)
-made l = l .load .ensures .1
+goes : (t : tie.Then1) → let s : tie.Start = search in Goes (s .args .state .now) 5 (length (s .args .seen .now))
+goes t = let s : tie.Start = search in ready-goes (s .args .state .now) 5 (length (s .args .seen .now)) (ready t)
 
-load-requires : tie.Need-load-requires
-load-requires c κs = let s : tie.Start = search in s .pre .0
+ready-requires : tie.Need-ready-requires
+ready-requires c κs = search needs
 
-look-requires : tie.Need-look-requires
-look-requires c κs = made c
+sub-numbers : tie.Need-sub-numbers
+sub-numbers c = let t : tie.Then1 = search in omega (arith, goes t .long)
 
-look-row-requires : tie.Need-look-row-requires
-look-row-requires c κs = search needs
+part-numbers-start : tie.Need-part-numbers-start
+part-numbers-start c = let t : tie.Then1 = search in omega (arith, goes t .long)
 
-put-row-requires : tie.Need-put-row-requires
-put-row-requires c κs = search needs
+part-numbers-end : tie.Need-part-numbers-end
+part-numbers-end c = search needs
+
+look-in-requires : tie.Need-look-in-requires
+look-in-requires c κs =
+    let s : tie.Start = search in
+    let t : tie.Then1 = search in
+    (subst Holds (sym (part-to-end (s .args .state .now) 5)) (goes-holds (goes t)), goes t .room)
 
 same-length : tie.Need-same-length
 same-length c = search needs
 
 returns : tie.Need-returns
-unfolding lookNumbers over withRow
+unfolding lookCall machineIn
 returns c =
-    let l : tie.After-load = search in
-    let k : tie.After-look = search in
-    let r : tie.After-look-row = search in
-    let p : tie.After-put-row = search in
-    let seen = start l .args .seen .now in
-    p .put-row .ensures ∙ ap (λ (row : Row). withRow row 0 seen) (r .look-row .ensures ∙ ap lookRow (k .look .ensures ∙ ap lookAt (l .load .ensures .0)))
+    let s : tie.Start = search in
+    let t : tie.Then1 = search in
+    let k : tie.After-look-in = search in
+    let zs : List ℤ = s .args .state .now in
+    rw (eq-eqb (readyOf zs 5 (length (s .args .seen .now))) 0 (ready t))
+    (refl, k .look-in .ensures ∙ ap (λ (l : List ℤ). over (s .args .seen .now) 0 (lookNumbers (lookAt (loadedOf l)))) (part-to-end zs 5))
+
+returns-2 : tie.Need-returns-2
+unfolding lookCall
+returns-2 c =
+    let s : tie.Start = search in
+    let r : tie.After-ready = search in
+    let t : tie.Else1 = search in
+    rw (ne-eqb (readyOf (s .args .state .now) 5 (length (s .args .seen .now))) 0 (λ e. t .if1 .left (r .ready .ensures ∙ e))) (r .ready .ensures, refl)
 
 pub vutaroi-look-spec : {M : Type 1} → statement M
 vutaroi-look-spec =
     tie.close
-    (tie.spec load-requires look-requires look-row-requires put-row-requires same-length returns)
+    (tie.spec
+    ready-requires
+    sub-numbers
+    part-numbers-start
+    part-numbers-end
+    look-in-requires
+    same-length
+    returns
+    returns-2)

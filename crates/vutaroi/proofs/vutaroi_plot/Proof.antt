@@ -1,61 +1,59 @@
--- The proof of `vutaroi_plot`.
+-- The proof of `vutaroi_plot`: the call on the numbers after the header, and then the seal.
 use borrow.Author.Needs.{needs}
-use mathlib.Core.Path.{_≡_, sym, ap, _∙_, subst}
-use mathlib.Core.List.{[], _∷_}
+use borrow.Author.Tests.{eq-eqb, ne-eqb}
+use borrow.Rule.Slice.PartAt.{part-to-end}
+use mathlib.Core.Path.{_≡_, refl, sym, ap, _∙_, subst}
+use mathlib.Core.List.{List}
 use Prim.Native.Nat.{_/_}
-use lib.ListN.{length}
+use native.Mathlib.Omega.{arith}
+use lib.IntN.{ℤ}
+use lib.ListN.{length, drop}
 use Rattle.rows.specs.Rows.{over}
-use Rattle.hpgl.specs.declared.State.{State}
-use Rattle.feeding.specs.Plot.{Plot, plotFrom, laidMarks}
-use Rattle.feeding.specs.PlotLaws.{plot-made}
-use Rattle.hpgl.specs.Made.{Made}
-use Rattle.machine.specs.declared.Gathered.{Gathered}
-use Rattle.machine.specs.Gather.{plottedOf}
+use Rattle.seal.specs.Seal.{sealedOf}
+use Rattle.seal.specs.Light.{Light}
+use Rattle.feeding.specs.Plot.{plotFrom, laidMarks}
+use Rattle.feeding.specs.PlotLaws.{plot-usable}
 use Rattle.saved.specs.Saved.{savedOf, loadedOf}
-use Rattle.saved.specs.SavedLaws.{held-length, held-made}
-use Rattle.vutaroi.specs.Calls.{markCountsOf}
+use Rattle.vutaroi.specs.Ready.{listOf, machineIn, readyOf, Holds}
+use Rattle.vutaroi.specs.ReadyLaws.{Goes, ready-goes, goes-holds, usable-light, part-rest}
+use Rattle.vutaroi.specs.Calls.{markCountsOf, plotCall}
 use Rattle.vutaroi.proofs.vutaroi_plot.Statement.{statement}
 use Rattle.vutaroi.proofs.vutaroi_plot.Tie as tie
 
-abbrev start : tie.After-load → tie.Start
-start l = l .before .before .before .before
+ready : (t : tie.Then1) → let s : tie.Start = search in readyOf (s .args .state .now) 2 (length (s .args .answer .now)) ≡ 0
+ready t = let r : tie.After-ready = search in sym (r .ready .ensures) ∙ t .if1 .taken
 
--- the machine that the list holds
-made : (l : tie.After-load) → Made (l .load .result .state)
-made l = l .load .ensures .1
+goes : (t : tie.Then1) → let s : tie.Start = search in Goes (s .args .state .now) 2 (length (s .args .answer .now))
+goes t = let s : tie.Start = search in ready-goes (s .args .state .now) 2 (length (s .args .answer .now)) (ready t)
 
-abbrev load : tie.After-plot → tie.After-load
-load g = g .before .before
+-- the numbers after the header, once the call is done
+left : (k : tie.After-plot-in) → let s : tie.Start = search in k .plot-in .last .0 ≡ savedOf (plotFrom (loadedOf (drop 5 (s .args .state .now))) (s .args .bytes .now) 0 (length (s .args .records .now) / 5) .state)
+left k = let s : tie.Start = search in k .plot-in .ensures .1 .0 ∙ ap (λ (l : List ℤ). savedOf (plotFrom (loadedOf l) (s .args .bytes .now) 0 (length (s .args .records .now) / 5) .state)) (part-to-end (s .args .state .now) 5)
 
--- what a machine answers to the bytes
-abbrev answer : tie.Start → State → Plot
-answer s m = plotFrom m (s .args .bytes .now) 0 (length (s .args .records .now) / 5)
+ready-requires : tie.Need-ready-requires
+ready-requires c κs = search needs
 
-plotted : (g : tie.After-plot) → let s = start (load g) in g .plot .result ≡ plottedOf (answer s (loadedOf (s .args .state .now)))
-plotted g = let s = start (load g) in g .plot .ensures .0 ∙ ap (λ (m : State). plottedOf (answer s m)) (load g .load .ensures .0)
+sub-plot-in : tie.Need-sub-plot-in
+sub-plot-in c = let t : tie.Then1 = search in omega (arith, goes t .long)
 
-plotted-made : (g : tie.After-plot) → Made (g .plot .result .machine .state)
-plotted-made g =
-    let s = start (load g) in
-    let known : tie.After-shared-slice-known = search in
-    let made = plot-made _ (s .args .bytes .now) 0 (length (s .args .records .now) / 5) (λ i. known .shared-slice-known .given i .fits) (held-made _ (s .pre .0)) in
-    subst (λ (r : Gathered). Made (r .machine .state)) (sym (plotted g)) made
+part-plot-in-start : tie.Need-part-plot-in-start
+part-plot-in-start c = let t : tie.Then1 = search in omega (arith, goes t .long)
 
-load-requires : tie.Need-load-requires
-load-requires c κs = let s : tie.Start = search in s .pre .0
+part-plot-in-end : tie.Need-part-plot-in-end
+part-plot-in-end c = search needs
 
-plot-requires : tie.Need-plot-requires
-plot-requires c κs = let l : tie.After-load = search in made l
-
-save-requires : tie.Need-save-requires
-save-requires c κs =
+plot-in-requires : tie.Need-plot-in-requires
+plot-in-requires c κs =
     let s : tie.Start = search in
-    let l : tie.After-load = search in
-    let g : tie.After-plot = search in
-    (search (made l, plotted-made g), held-length _ (s .pre .0))
+    let t : tie.Then1 = search in
+    (subst Holds (sym (part-to-end (s .args .state .now) 5)) (goes-holds (goes t)), goes t .room)
 
-put-counts-requires : tie.Need-put-counts-requires
-put-counts-requires c κs = search needs
+seal-requires : tie.Need-seal-requires
+seal-requires c κs =
+    let s : tie.Start = search in
+    let t : tie.Then1 = search in
+    let k : tie.After-plot-in = search in
+    subst Light (sym (part-rest (s .args .state .now) _ (omega (arith, goes t .long)) ∙ left k)) (usable-light (plot-usable _ (s .args .bytes .now) 0 (length (s .args .records .now) / 5) (goes-holds (goes t) .usable)))
 
 same-length : tie.Need-same-length
 same-length c = search needs
@@ -67,32 +65,48 @@ same-length-3 : tie.Need-same-length-3
 same-length-3 c = search needs
 
 returns : tie.Need-returns
-unfolding markCountsOf
+unfolding plotCall listOf machineIn
 returns c =
-    let g : tie.After-plot = search in
-    let v : tie.After-save = search in
-    let p : tie.After-put-counts = search in
-    let l = load g in
-    let s = start l in (
-      ap (λ (r : Gathered). r .number) (plotted g),
+    let s : tie.Start = search in
+    let t : tie.Then1 = search in
+    let k : tie.After-plot-in = search in
+    let v : tie.After-seal = search in
+    let zs : List ℤ = s .args .state .now in
+    rw (eq-eqb (readyOf zs 2 (length (s .args .answer .now))) 0 (ready t)) (
+      k .plot-in .ensures .0 ∙ ap (λ (l : List ℤ). plotFrom (loadedOf l) (s .args .bytes .now) 0 (length (s .args .records .now) / 5) .number) (part-to-end zs 5),
       (
-        v .save .ensures ∙ ap (λ (r : Gathered). savedOf (r .machine .state)) (plotted g),
+        v .seal .ensures ∙ ap sealedOf (part-rest zs _ (omega (arith, goes t .long)) ∙ left k),
         (
-          g .plot .ensures .1 ∙ ap (λ (m : State). laidMarks (answer s m .marks) (s .args .records .now)) (l .load .ensures .0),
-          p .put-counts .ensures ∙ ap (λ (r : Gathered). over (s .args .answer .now) 0 (r .at ∷ r .stored ∷ [])) (plotted g),
+          k .plot-in .ensures .1 .1 .0 ∙ ap (λ (l : List ℤ). laidMarks (plotFrom (loadedOf l) (s .args .bytes .now) 0 (length (s .args .records .now) / 5) .marks) (s .args .records .now)) (part-to-end zs 5),
+          k .plot-in .ensures .1 .1 .1 ∙ ap (λ (l : List ℤ). over (s .args .answer .now) 0 (markCountsOf (plotFrom (loadedOf l) (s .args .bytes .now) 0 (length (s .args .records .now) / 5)))) (part-to-end zs 5),
         ),
       ),
     )
+
+same-length-4 : tie.Need-same-length-4
+same-length-4 c = search needs
+
+returns-2 : tie.Need-returns-2
+unfolding plotCall
+returns-2 c =
+    let s : tie.Start = search in
+    let r : tie.After-ready = search in
+    let t : tie.Else1 = search in
+    rw (ne-eqb (readyOf (s .args .state .now) 2 (length (s .args .answer .now))) 0 (λ e. t .if1 .left (r .ready .ensures ∙ e))) (r .ready .ensures, (refl, (refl, refl)))
 
 pub vutaroi-plot-spec : {M : Type 1} → statement M
 vutaroi-plot-spec =
     tie.close
     (tie.spec
-    load-requires
-    plot-requires
-    save-requires
-    put-counts-requires
+    ready-requires
+    sub-plot-in
+    part-plot-in-start
+    part-plot-in-end
+    plot-in-requires
+    seal-requires
     same-length
     same-length-2
     same-length-3
-    returns)
+    returns
+    same-length-4
+    returns-2)

@@ -62,7 +62,7 @@ fn proved(bytes: &[u8], mut seen: impl FnMut(usize, &[vutaroi::Mark])) {
     let (mut machine, _) = vutaroi::Machine::fresh(left, bottom, right, top);
     let mut list = vec![vutaroi::Mark::default(); ROOM];
     in_blocks(bytes, |at, block| {
-        let fed = machine.plot(block, &mut list);
+        let fed = machine.plot(block, &mut list).expect("a machine of the calls");
         seen(at, &list[..fed.stored]);
         (fed.taken, fed.number)
     });

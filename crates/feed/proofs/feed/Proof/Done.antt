@@ -15,7 +15,7 @@ use lib.Seq.{take-suc-set, drop-set-lt, drop-drop, append-snoc, length-take-le, 
 use Rattle.hpgl.specs.declared.Stroke.{Stroke}
 use Rattle.feeding.specs.Feed.{Feed, feedOf, feedFrom, laid}
 use Rattle.feeding.specs.PartsOfFeed.{storeAll}
-use Rattle.hpgl.specs.Made.{Made}
+use Rattle.hpgl.specs.Valid.{Usable}
 use Rattle.machine.specs.declared.Machine.{Machine}
 use Rattle.batches.specs.declared.Batch.{Batch}
 use Rattle.feed.specs.Fed.{fedOf}
@@ -52,24 +52,24 @@ module _ (m : Machine) (bytes : List ℕ) (xs : List Stroke) where
     pub held : b .count ≤ 64
     pub place : at + b .count ≡ b .fed .stored + i
     pub room : b .fed .stored ≤ length xs
-    pub made : Made (b .fed .machine .state)
+    pub usable : Usable (b .fed .machine .state)
     pub front : whole ≡ storeAll (take at ys ++ slice i (b .count) (b .list)) (after b)
     pub back : drop at ys ≡ drop at xs
 
-  far-begun : Made (m .state) → Far (begun m) 0 0 xs
-  far-begun made = record {
+  far-begun : Usable (m .state) → Far (begun m) 0 0 xs
+  far-begun usable = record {
     long = refl;
     here = omega arith;
     held = omega arith;
     place = refl;
     room = omega arith;
-    made = made;
+    usable = usable;
     front = sym (ap (λ (k : ℕ). feedFrom (m .state) bytes 0 k) (sub-zero (length xs)));
     back = refl;
   }
 
-  pub far-start : (b : Batch) → Made (m .state) → b ≡ begun m → Far b 0 0 xs
-  far-start b made e = subst (λ (c : Batch). Far c 0 0 xs) (sym e) (far-begun made)
+  pub far-start : (b : Batch) → Usable (m .state) → b ≡ begun m → Far b 0 0 xs
+  far-start b usable e = subst (λ (c : Batch). Far c 0 0 xs) (sym e) (far-begun usable)
 
   module _ (b : Batch) (i at : ℕ) (ys : List Stroke) (far : Far b i at ys) where
     module _ (d : Stroke) (size : length (b .list) ≡ 64) (more : i < b .count) where
@@ -94,7 +94,7 @@ module _ (m : Machine) (bytes : List ℕ) (xs : List Stroke) where
         held = far .held;
         place = omega (arith, far .place);
         room = far .room;
-        made = far .made;
+        usable = far .usable;
         front = far .front ∙ ap (λ (l : List Stroke). storeAll l (after b)) stored;
         back = drop-set-lt (at + 1) ys at s (omega arith) ∙ sym (drop-drop 1 at ys) ∙ ap (drop 1) (far .back) ∙ drop-drop 1 at xs;
       }
@@ -115,7 +115,7 @@ module _ (m : Machine) (bytes : List ℕ) (xs : List Stroke) where
         held = h .held;
         place = omega (arith, far .place, all, h .counted);
         room = h .within;
-        made = h .made;
+        usable = h .usable;
         front =
             past ∙ ap (λ (z : Bool). storeAll (take at ys) (rest z bytes (length xs) (b .fed))) more ∙ ap (storeAll (take at ys)) (h .next)
             ∙ ap (λ (l : List Stroke). record { state = after c .state; taken = after c .taken; strokes = l; number = after c .number }) (sym (append-assoc (take at ys) (take (c .count) (c .list)) (after c .strokes)));

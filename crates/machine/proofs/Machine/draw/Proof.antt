@@ -9,7 +9,6 @@ use Rattle.hpgl.specs.Machine as M
 use Rattle.hpgl.specs.Values.{drawnValues}
 use Rattle.hpgl.specs.Segment.{segmentOf, drawnOf, segment-drawn, draw-values}
 use Rattle.hpgl.specs.ValidFacts.{edge-small}
-use Rattle.hpgl.specs.ValidKept.{made-valid}
 use Rattle.queue.specs.First.{place-within}
 use Rattle.queue.specs.Corners.{firstSegment, first-segment}
 use Rattle.machine.specs.Calls.{workedOf}
@@ -26,14 +25,14 @@ mul-edge : tie.Need-mul-edge
 mul-edge c =
     let s : tie.Start = search in
     let p : tie.After-edge-place = search in
-    let h = place-within (s .args .self .state .work) (made-valid (s .pre) .work) in
+    let h = place-within (s .args .self .state .work) (s .pre .valid .work) in
     record { fits = omega (arith, h, p .edge-place .ensures) }
 
 element-copy-out-edge : tie.Need-element-copy-out-edge
 element-copy-out-edge c =
     let s : tie.Start = search in
     let p : tie.After-edge-place = search in
-    let h = place-within (s .args .self .state .work) (made-valid (s .pre) .work) in
+    let h = place-within (s .args .self .state .work) (s .pre .valid .work) in
     omega (arith, h, p .edge-place .ensures)
 
 slice-aggregate-draw-first : tie.Need-slice-aggregate-draw-first
@@ -43,11 +42,11 @@ draw-first-requires : tie.Need-draw-first-requires
 draw-first-requires c κs =
     let s : tie.Start = search in
     let t : tie.After-table = search in
-    let v = made-valid (s .pre) in
+    let v = s .pre .valid in
     (v .core .settings, edge-small (v .edges) _, v .work, t .table .ensures)
 
 work-after-requires : tie.Need-work-after-requires
-work-after-requires c κs = let s : tie.Start = search in made-valid (s .pre) .work
+work-after-requires c κs = let s : tie.Start = search in s .pre .valid .work
 
 returns : tie.Need-returns
 unfolding workedOf M.drawState segmentOf

@@ -4,7 +4,6 @@ use mathlib.Core.Path.{ap, _∙_}
 use Prim.Native.Nat.{_/_}
 use lib.ListN.{length, drop}
 use Rattle.feeding.specs.Feed.{feedFrom}
-use Rattle.hpgl.specs.ValidKept.{made-valid}
 use Rattle.gathering.specs.Gather.{gatherFrom}
 use Rattle.machine.specs.Gather.{gatheredBy}
 use Rattle.machine.specs.GatherLaws.{marked-answer, marked-laid}
@@ -12,7 +11,7 @@ use Rattle.machine.proofs.Machine.gather.Statement.{statement}
 use Rattle.machine.proofs.Machine.gather.Tie as tie
 
 gather-requires : tie.Need-gather-requires
-gather-requires c κs = let s : tie.Start = search in made-valid (s .pre)
+gather-requires c κs = let s : tie.Start = search in s .pre .valid
 
 answered-requires : tie.Need-answered-requires
 answered-requires c κs = search needs

@@ -1,14 +1,13 @@
 -- The proof of `look`: a position that is kept may be located.
 use Rattle.hpgl.specs.Machine as M
 use Rattle.hpgl.specs.ValidFacts.{placed-locatable}
-use Rattle.hpgl.specs.ValidKept.{made-valid}
 use Rattle.machine.proofs.Machine.look.Statement.{statement}
 use Rattle.machine.proofs.Machine.look.Tie as tie
 
 located-requires : tie.Need-located-requires
 located-requires c κs =
     let s : tie.Start = search in
-    let v = made-valid (s .pre) .core in
+    let v = s .pre .valid .core in
     (v .settings, placed-locatable (v .settings) (v .position))
 
 returns : tie.Need-returns

@@ -1,14 +1,13 @@
 -- The proof of `plot`.
 use borrow.Author.Needs.{needs}
 use mathlib.Core.Path.{ap, _∙_}
-use Rattle.hpgl.specs.ValidKept.{made-valid}
 use Rattle.gathering.specs.Gather.{gatherFrom}
 use Rattle.machine.specs.Gather.{gatheredBy}
 use Rattle.machine.proofs.Machine.plot.Statement.{statement}
 use Rattle.machine.proofs.Machine.plot.Tie as tie
 
 gather-requires : tie.Need-gather-requires
-gather-requires c κs = let s : tie.Start = search in made-valid (s .pre)
+gather-requires c κs = let s : tie.Start = search in s .pre .valid
 
 answered-requires : tie.Need-answered-requires
 answered-requires c κs = search needs

@@ -6,7 +6,6 @@ use mathlib.Core.Bool.{cond}
 use lib.Dec.{eqb}
 use lib.ListN.{drop}
 use Rattle.feeding.specs.DrawOff.{listFull}
-use Rattle.hpgl.specs.ValidKept.{made-valid}
 use Rattle.gathering.specs.declared.Stopped.{Stopped}
 use Rattle.gathering.specs.Gather.{gatherFrom}
 use Rattle.machine.specs.declared.Ran.{Ran}
@@ -29,7 +28,7 @@ slice-aggregate-gather : tie.Need-slice-aggregate-gather
 slice-aggregate-gather c = search needs
 
 gather-requires : tie.Need-gather-requires
-gather-requires c κs = let s : tie.Start = search in made-valid (s .pre)
+gather-requires c κs = let s : tie.Start = search in s .pre .valid
 
 returns : tie.Need-returns
 returns c =

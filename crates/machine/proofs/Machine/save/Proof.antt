@@ -1,11 +1,10 @@
 -- The proof of `save`.
 use borrow.Author.Needs.{needs}
-use Rattle.hpgl.specs.ValidKept.{made-valid}
 use Rattle.machine.proofs.Machine.save.Statement.{statement}
 use Rattle.machine.proofs.Machine.save.Tie as tie
 
 save-requires : tie.Need-save-requires
-save-requires c κs = let s : tie.Start = search in (made-valid (s .pre .0) .length, s .pre .1)
+save-requires c κs = let s : tie.Start = search in (s .pre .0 .valid .length, s .pre .1)
 
 same-length : tie.Need-same-length
 same-length c = search needs

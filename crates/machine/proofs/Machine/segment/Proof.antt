@@ -7,7 +7,6 @@ use lib.ListN.{getD}
 use Rattle.hpgl.specs.Machine.{noEdge}
 use Rattle.hpgl.specs.Segment.{segmentOf}
 use Rattle.hpgl.specs.ValidFacts.{edge-small}
-use Rattle.hpgl.specs.ValidKept.{made-valid}
 use Rattle.queue.specs.First.{place-within}
 use Rattle.queue.specs.Corners.{firstSegment, first-segment}
 use Rattle.machine.proofs.Machine.segment.Statement.{statement}
@@ -22,13 +21,13 @@ edge-place-requires c κs = search needs
 mul-edge : tie.Need-mul-edge
 mul-edge c =
     let s : tie.Start = search in
-    let h = place-within (s .args .self .state .work) (made-valid (s .pre) .work) in
+    let h = place-within (s .args .self .state .work) (s .pre .valid .work) in
     record { fits = omega (arith, h, c .edge-place .ensures) }
 
 element-copy-out-edge : tie.Need-element-copy-out-edge
 element-copy-out-edge c =
     let s : tie.Start = search in
-    let h = place-within (s .args .self .state .work) (made-valid (s .pre) .work) in
+    let h = place-within (s .args .self .state .work) (s .pre .valid .work) in
     omega (arith, h, c .edge-place .ensures)
 
 slice-aggregate-first-segment : tie.Need-slice-aggregate-first-segment
@@ -38,7 +37,7 @@ first-segment-requires : tie.Need-first-segment-requires
 first-segment-requires c κs =
     let s : tie.Start = search in
     let t : tie.After-table = search in
-    let v = made-valid (s .pre) in
+    let v = s .pre .valid in
     (v .core .settings, edge-small (v .edges) _, v .work, t .table .ensures)
 
 returns : tie.Need-returns

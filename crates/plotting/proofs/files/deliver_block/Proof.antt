@@ -25,9 +25,8 @@ begun-requires c κs = tt
 loop-holds : tie.Need-loop-holds Inv-loop μ-loop
 loop-holds c =
     let s : tie.Start Inv-loop μ-loop = search in
-    let k : tie.After-shared-slice-known Inv-loop μ-loop = search in
     let e = c .begun .ensures in
-    (begins e (λ i. k .shared-slice-known .given i .fits) (s .pre .0) (s .pre .1 .0), s .pre .1 .1 .0, refl, midway-first e (s .pre .1 .1 .1))
+    (begins e (s .pre .0) (s .pre .1 .0), s .pre .1 .1 .0, refl, midway-first e (s .pre .1 .1 .1))
 
 fill-requires : tie.Need-fill-requires Inv-loop μ-loop
 fill-requires c κs =
@@ -67,7 +66,7 @@ returns c =
     let h : tie.After-hand Inv-loop μ-loop = search in
     let l : tie.At-loop Inv-loop μ-loop = search in
     let e = f .fill .ensures .0 in
-    (e .ready .made, (h .hand .ensures .0 ∙ l .loop .inv .2, leaves-part (l .loop .inv .3) e (l .loop .inv .0 .empty) (h .hand .ensures .0) (h .hand .ensures .1)))
+    (e .ready .usable, (h .hand .ensures .0 ∙ l .loop .inv .2, leaves-part (l .loop .inv .3) e (l .loop .inv .0 .empty) (h .hand .ensures .0) (h .hand .ensures .1)))
 
 emptied-requires : tie.Need-emptied-requires Inv-loop μ-loop
 emptied-requires c κs = tt
@@ -103,7 +102,7 @@ returns-2 c =
     let l : tie.At-loop Inv-loop μ-loop = search in
     let t : tie.After-loop Inv-loop μ-loop = search in
     let i = l .loop .inv in
-    (i .0 .ready .made, (i .2, leaves-all (i .3) (i .0 .ready) (t .loop-test .left)))
+    (i .0 .ready .usable, (i .2, leaves-all (i .3) (i .0 .ready) (t .loop-test .left)))
 
 pub deliver-block-spec : {M : Type 1} → statement M
 deliver-block-spec =

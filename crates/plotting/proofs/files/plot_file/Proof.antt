@@ -5,7 +5,7 @@ use mathlib.Core.Path.{_≡_, refl, sym, ap, _∙_}
 use Prim.Native.Nat.{_+_, _*_, _^_, _≤_}
 use native.Mathlib.Omega.{arith}
 use lib.ListN.{length, take}
-use Rattle.hpgl.specs.Made.{Made}
+use Rattle.hpgl.specs.Valid.{Usable}
 use Rattle.plotting.specs.Ran.{Begins}
 use Rattle.plotting.specs.RanLaws.{Stands, stands-first, stands-read, stands-still, stands-next, ran}
 use Rattle.plotting.specs.Tally.{readOf, handedOf}
@@ -14,7 +14,7 @@ use Rattle.plotting.proofs.files.plot_file.Tie as tie
 
 abbrev Inv-loop : tie.InvT-loop
 Inv-loop started file sink block₀ text₀ machine₀ tally₀ turns₀ block text machine tally turns =
-    (65536 ≡ length block) × (65536 ≡ length text) × Made (machine .state) × (readOf tally + turns * 65536 ≤ 2 ^ 63)
+    (65536 ≡ length block) × (65536 ≡ length text) × Usable (machine .state) × (readOf tally + turns * 65536 ≤ 2 ^ 63)
     × Stands (started .state) (machine .state) (readOf tally) (handedOf tally)
 
 abbrev μ-loop : tie.MeasureT-loop

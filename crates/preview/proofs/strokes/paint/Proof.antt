@@ -3,12 +3,12 @@ use borrow.Author.Needs.{needs}
 use mathlib.Core.Path.{_≡_, sym, _∙_}
 use native.Mathlib.Omega.{arith}
 use lib.ListN.{length}
-use Rattle.hpgl.specs.Made.{Made}
+use Rattle.hpgl.specs.Valid.{Usable}
 use Rattle.preview.proofs.strokes.paint.Statement.{statement}
 use Rattle.preview.proofs.strokes.paint.Tie as tie
 
 abbrev Inv-loop : tie.InvT-loop
-Inv-loop radius block₀ d₀ before₀ turns₀ unread₀ block d before turns unread = (65536 ≡ length block) × Made (d .machine .state)
+Inv-loop radius block₀ d₀ before₀ turns₀ unread₀ block d before turns unread = (65536 ≡ length block) × Usable (d .machine .state)
 
 abbrev μ-loop : tie.MeasureT-loop
 μ-loop radius block₀ d₀ before₀ turns₀ unread₀ block d before turns unread = turns
@@ -49,18 +49,24 @@ paint-block-requires c κs = let l : tie.At-loop Inv-loop μ-loop = search in l 
 sum-requires : tie.Need-sum-requires Inv-loop μ-loop
 sum-requires c κs = search needs
 
+-- from a block that is painted back to the turn of the loop, and to where it was read
+turn : tie.After-paint-block Inv-loop μ-loop → tie.In-loop Inv-loop μ-loop
+turn p = search
+
+read : tie.After-paint-block Inv-loop μ-loop → tie.After-read Inv-loop μ-loop
+read p = search
+
 sub-turns : tie.Need-sub-turns Inv-loop μ-loop
-sub-turns c = let t : tie.In-loop Inv-loop μ-loop = search in omega (arith, t .loop-test .taken)
+sub-turns c = let p : tie.After-paint-block Inv-loop μ-loop = search in omega (arith, turn p .loop-test .taken)
 
 loop-less : tie.Need-loop-less Inv-loop μ-loop
-loop-less c = let t : tie.In-loop Inv-loop μ-loop = search in omega (arith, t .loop-test .taken)
+loop-less c = let p : tie.After-paint-block Inv-loop μ-loop = search in omega (arith, turn p .loop-test .taken)
 
 loop-again : tie.Need-loop-again Inv-loop μ-loop
 loop-again c =
-    let l : tie.At-loop Inv-loop μ-loop = search in
-    let r : tie.After-read Inv-loop μ-loop = search in
-    let t : tie.After-paint-block Inv-loop μ-loop = search in
-    (l .loop .inv .0 ∙ sym (r .read .kept .1 .0), t .paint-block .ensures)
+    let p : tie.After-paint-block Inv-loop μ-loop = search in
+    let r : tie.After-read Inv-loop μ-loop = read p in
+    (turn p .before .loop .inv .0 ∙ sym (r .read .kept .1 .0), p .paint-block .ensures)
 
 returns : tie.Need-returns Inv-loop μ-loop
 returns c = tt

@@ -4,13 +4,13 @@ use Prim.Native.Nat.{_≤_}
 use native.Mathlib.Omega.{arith}
 use denote.Ref.{now}
 use lib.ListN.{length}
-use Rattle.hpgl.specs.Made.{Made}
-use Rattle.preview.specs.DrawingLaws.{step-made, step-within}
+use Rattle.hpgl.specs.Valid.{Usable}
+use Rattle.preview.specs.DrawingLaws.{step-usable, step-within}
 use Rattle.preview.proofs.strokes.paint_block.Statement.{statement}
 use Rattle.preview.proofs.strokes.paint_block.Tie as tie
 
 abbrev Inv-loop : tie.InvT-loop
-Inv-loop before block radius text₀ q₀ turns₀ text q turns = Made (q .machine .state) × (q .at ≤ length block)
+Inv-loop before block radius text₀ q₀ turns₀ text q turns = Usable (q .machine .state) × (q .at ≤ length block)
 
 abbrev μ-loop : tie.MeasureT-loop
 μ-loop before block radius text₀ q₀ turns₀ text q turns = turns
@@ -40,8 +40,7 @@ loop-again : tie.Need-loop-again Inv-loop μ-loop
 loop-again c =
     let l : tie.At-loop Inv-loop μ-loop = search in
     let s : tie.Start Inv-loop μ-loop = search in
-    let k : tie.After-shared-slice-known Inv-loop μ-loop = search in
-    rw (c .step .ensures) (step-made (l .loop .q) (now (s .args .block)) (λ i. k .shared-slice-known .given i .fits) (l .loop .inv .0), step-within (l .loop .q) (now (s .args .block)) (l .loop .inv .1))
+    rw (c .step .ensures) (step-usable (l .loop .q) (now (s .args .block)) (l .loop .inv .0), step-within (l .loop .q) (now (s .args .block)) (l .loop .inv .1))
 
 returns-2 : tie.Need-returns-2 Inv-loop μ-loop
 returns-2 c = let l : tie.At-loop Inv-loop μ-loop = search in l .loop .inv .0

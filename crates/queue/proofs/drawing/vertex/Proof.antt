@@ -5,6 +5,7 @@ use mir.Syntax.{w64}
 use Rattle.exact.specs.Fit.{got}
 use Rattle.plane.specs.Turn.{turnedBy}
 use Rattle.plane.specs.Circle.{angleOf, pointFromCentre}
+use Rattle.hpgl.specs.ValidFacts.{vertices}
 use Rattle.queue.specs.Corners.{vertexAt}
 use Rattle.queue.proofs.drawing.vertex.Statement.{statement}
 use Rattle.queue.proofs.drawing.vertex.Tie as tie
@@ -31,7 +32,7 @@ place c =
 turned-by-requires : tie.Need-turned-by-requires
 turned-by-requires c κs =
     let s : tie.Start = search in
-    (s .pre .0, rw (place c) (s .pre .1 .vertices (s .args .i)))
+    (s .pre .0, rw (place c) (vertices (s .pre .1) (s .args .i)))
 
 returns : tie.Need-returns
 unfolding vertexAt

@@ -4,14 +4,14 @@ use mathlib.Core.Path.{_≡_, refl, sym, ap, _∙_}
 use native.Mathlib.Omega.{arith}
 use Prim.Native.Nat.{_-_}
 use denote.Ref.{now}
-use Rattle.hpgl.specs.Made.{Made}
+use Rattle.hpgl.specs.Valid.{Usable}
 use Rattle.survey.specs.Drawing.{stepsOf, begunOf, mostTurns}
 use Rattle.survey.specs.Laws.{was-true, was-false, steps-more, steps-over, steps-none}
 use Rattle.survey.proofs.drawing.block_of.Statement.{statement}
 use Rattle.survey.proofs.drawing.block_of.Tie as tie
 
 abbrev Inv-loop : tie.InvT-loop
-Inv-loop block q₀ turns₀ q turns = (stepsOf mostTurns q₀ block ≡ stepsOf turns q block) × Made (q .machine .state)
+Inv-loop block q₀ turns₀ q turns = (stepsOf mostTurns q₀ block ≡ stepsOf turns q block) × Usable (q .machine .state)
 
 abbrev μ-loop : tie.MeasureT-loop
 μ-loop block q₀ turns₀ q turns = turns

@@ -3,9 +3,8 @@ use borrow.Author.Needs.{needs}
 use borrow.Author.Tests.{eq-eqb, ne-eqb}
 use mathlib.Core.Path.{_≡_, refl, ap, sym, _∙_}
 use Prim.Native.Char.{code}
-use native.Mathlib.Omega.{arith}
 use Rattle.hpgl.specs.Machine.{takeNumber}
-use Rattle.hpgl.specs.Made as made
+use Rattle.hpgl.specs.ValidKept.{usable-take}
 use Rattle.machine.specs.declared.Taken.{Taken}
 use Rattle.machine.specs.Calls.{takenOf}
 use Rattle.hpgl.specs.Segment.{segmentOf}
@@ -21,7 +20,7 @@ unfolding takenOf
 segment-requires c κs =
     let s : tie.Start = search in
     let t : tie.After-take = search in
-    rw (t .take .ensures) (made.take (s .pre) (code ";") (omega arith))
+    rw (t .take .ensures) (usable-take (code ";") (s .pre))
 
 waits-requires : tie.Need-waits-requires
 waits-requires c κs = search needs

@@ -5,11 +5,12 @@ use mathlib.Core.Path.{_≡_, ap, sym, _∙_}
 use mathlib.Core.Bool.{true, false}
 use Prim.Native.Nat.{ℕ}
 use denote.Ref.{now}
-use lib.ListN.{length}
-use Rattle.hpgl.specs.Made as made
+use lib.ListN.{length, drop}
+use Rattle.hpgl.specs.Valid.{Usable}
+use Rattle.hpgl.specs.ValidKept.{usable-draw}
 use Rattle.machine.specs.declared.Ran.{Ran}
 use Rattle.machine.specs.Calls.{workedOf}
-use Rattle.machine.specs.RunLaws.{run-made}
+use Rattle.machine.specs.RunLaws.{run-usable}
 use Rattle.hpgl.specs.Segment.{segmentOf}
 use Rattle.survey.specs.Drawing.{waitsOf, drewOf, ranOn, stepOf}
 use Rattle.survey.proofs.drawing.step.Statement.{statement}
@@ -37,7 +38,7 @@ returns c =
     let u : tie.After-draw = search in
     let d = s .args .d in
     let yes : waitsOf (segmentOf (d .machine .state)) ≡ true = sym (w .waits .ensures ∙ ap waitsOf (g .segment .ensures)) ∙ t .if1 .taken in
-    let m : made.Made (c .drew .result .machine .state) = rw (c .drew .ensures, u .draw .ensures .0) (made.draw (s .pre)) in
+    let m : Usable (c .drew .result .machine .state) = rw (c .drew .ensures, u .draw .ensures .0) (usable-draw (s .pre)) in
     (rw yes (c .drew .ensures ∙ (λ i. drewOf d (g .segment .ensures i) (u .draw .ensures .0 i))), m)
 
 run-requires : tie.Need-run-requires
@@ -55,11 +56,10 @@ returns-2 c =
     let e : tie.Else1 = search in
     let t : tie.Then2 = search in
     let r : tie.After-run = search in
-    let k : tie.After-shared-slice-known = search in
     let d = s .args .d in
     let b = now (s .args .block) in
     let no : waitsOf (segmentOf (d .machine .state)) ≡ false = sym (w .waits .ensures ∙ ap waitsOf (g .segment .ensures)) ∙ e .if1 .left in
-    let m : made.Made (c .ran .result .machine .state) = rw (c .ran .ensures, r .run .ensures) (run-made (d .machine .state) b (d .at) (s .pre) (λ i. k .shared-slice-known .given i .fits)) in
+    let m : Usable (c .ran .result .machine .state) = rw (c .ran .ensures, r .run .ensures) (run-usable (d .machine .state) (drop (d .at) b) (d .at) (s .pre)) in
     (rw (no, lt-ltb (d .at) (length b) (t .if2 .taken)) (c .ran .ensures ∙ ap (ranOn d b) (r .run .ensures)), m)
 
 ended-requires : tie.Need-ended-requires
@@ -76,7 +76,7 @@ returns-3 c =
     let d = s .args .d in
     let b = now (s .args .block) in
     let no : waitsOf (segmentOf (d .machine .state)) ≡ false = sym (w .waits .ensures ∙ ap waitsOf (g .segment .ensures)) ∙ e .if1 .left in
-    let m : made.Made (c .ended .result .machine .state) = rw (c .ended .ensures) (s .pre) in
+    let m : Usable (c .ended .result .machine .state) = rw (c .ended .ensures) (s .pre) in
     (rw (no, le-ltb (d .at) (length b) (f .if2 .left)) (c .ended .ensures), m)
 
 pub step-spec : {M : Type 1} → statement M

@@ -3,12 +3,12 @@ use borrow.Author.Needs.{needs}
 use mathlib.Core.Path.{_≡_, sym, _∙_}
 use native.Mathlib.Omega.{arith}
 use lib.ListN.{length}
-use Rattle.hpgl.specs.Made.{Made}
+use Rattle.hpgl.specs.Valid.{Usable}
 use Rattle.survey.proofs.drawing.survey.Statement.{statement}
 use Rattle.survey.proofs.drawing.survey.Tie as tie
 
 abbrev Inv-loop : tie.InvT-loop
-Inv-loop block₀ d₀ turns₀ block d turns = (65536 ≡ length block) × Made (d .machine .state)
+Inv-loop block₀ d₀ turns₀ block d turns = (65536 ≡ length block) × Usable (d .machine .state)
 
 abbrev μ-loop : tie.MeasureT-loop
 μ-loop block₀ d₀ turns₀ block d turns = turns
@@ -70,12 +70,17 @@ sub-turns c = let t : tie.In-loop Inv-loop μ-loop = search in omega (arith, t .
 loop-less : tie.Need-loop-less Inv-loop μ-loop
 loop-less c = let t : tie.In-loop Inv-loop μ-loop = search in omega (arith, t .loop-test .taken)
 
+-- from a block that is counted back to the turn of the loop, and to where it was read
+turn : tie.After-block-of Inv-loop μ-loop → tie.In-loop Inv-loop μ-loop
+turn t = search
+
+read : tie.After-block-of Inv-loop μ-loop → tie.After-read Inv-loop μ-loop
+read t = search
+
 loop-again : tie.Need-loop-again Inv-loop μ-loop
 loop-again c =
-    let l : tie.At-loop Inv-loop μ-loop = search in
-    let r : tie.After-read Inv-loop μ-loop = search in
     let t : tie.After-block-of Inv-loop μ-loop = search in
-    (l .loop .inv .0 ∙ sym (r .read .kept .1 .0), t .block-of .ensures .1)
+    (turn t .before .loop .inv .0 ∙ sym (read t .read .kept .1 .0), t .block-of .ensures .1)
 
 finished-requires-3 : tie.Need-finished-requires-3 Inv-loop μ-loop
 finished-requires-3 c κs = let l : tie.At-loop Inv-loop μ-loop = search in l .loop .inv .1

@@ -1,29 +1,30 @@
--- `vectors::calls::draw_some` is safe and ends, and keeps a machine that the calls make. Assumes nothing.
+-- `vectors::calls::draw_some` is safe and ends, and keeps a machine that may be used. Assumes nothing.
 use Prim.Native.Nat.{_≤_, _-_}
 use mathlib.Core.Path.{_≡_}
 use native.Mathlib.Omega.{arith}
 use borrow.Author.Needs.{needs}
 use Rattle.hpgl.specs.declared.State.{State}
-use Rattle.hpgl.specs.Made.{Made, draw}
+use Rattle.hpgl.specs.Valid.{Usable}
+use Rattle.hpgl.specs.ValidKept.{usable-draw}
 use Rattle.machine.specs.declared.Worked.{Worked}
 use Rattle.machine.specs.Calls.{workedOf}
 use Rattle.vectors.proofs.calls.draw_some.Statement.{statement}
 use Rattle.vectors.proofs.calls.draw_some.Tie as tie
 
 abbrev Inv-loop : tie.InvT-loop
-Inv-loop c most out₀ m₀ used₀ counter₀ out m used counter = (counter ≤ most) × Made (m .state)
+Inv-loop c most out₀ m₀ used₀ counter₀ out m used counter = (counter ≤ most) × Usable (m .state)
 
 abbrev μ-loop : tie.MeasureT-loop
 μ-loop c most out₀ m₀ used₀ counter₀ out m used counter = most - counter
 
-worked-made : (m : State) (w : Worked) → Made m → w ≡ workedOf m → Made (w .machine .state)
+worked-usable : (m : State) (w : Worked) → Usable m → w ≡ workedOf m → Usable (w .machine .state)
 unfolding workedOf
-worked-made m w made e = rw e (draw made)
+worked-usable m w h e = rw e (usable-draw h)
 
-drawn-made : (c : tie.After-draw Inv-loop μ-loop) → Made (c .draw .result .machine .state)
-drawn-made c =
+drawn-usable : (c : tie.After-draw Inv-loop μ-loop) → Usable (c .draw .result .machine .state)
+drawn-usable c =
     let turn = c .before .before .loop in
-    worked-made (turn .m .state) (c .draw .result) (turn .inv .1) (c .draw .ensures .0)
+    worked-usable (turn .m .state) (c .draw .result) (turn .inv .1) (c .draw .ensures .0)
 
 loop-holds : tie.Need-loop-holds Inv-loop μ-loop
 loop-holds c = search needs
@@ -44,13 +45,13 @@ loop-less : tie.Need-loop-less Inv-loop μ-loop
 loop-less c = search needs
 
 loop-again : tie.Need-loop-again Inv-loop μ-loop
-loop-again c = (omega arith, drawn-made (c .before .before .before .before .before))
+loop-again c = (omega arith, drawn-usable (c .before .before .before .before .before))
 
 returns : tie.Need-returns Inv-loop μ-loop
 returns c = search needs
 
 returns-2 : tie.Need-returns-2 Inv-loop μ-loop
-returns-2 c = drawn-made (c .before .before .before .before .before)
+returns-2 c = drawn-usable (c .before .before .before .before .before)
 
 pub draw-some-spec : {M : Type 1} → statement M
 draw-some-spec =

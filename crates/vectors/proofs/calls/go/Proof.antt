@@ -1,22 +1,23 @@
--- `vectors::calls::go` is safe, and keeps a machine that the calls make. Assumes nothing.
+-- `vectors::calls::go` is safe, and keeps a machine that may be used. Assumes nothing.
 use mathlib.Core.Path.{_≡_}
 use Prim.Native.Nat.{ℕ, _<_}
 use borrow.Author.Needs.{needs}
 use Rattle.hpgl.specs.declared.State.{State}
-use Rattle.hpgl.specs.Made.{Made, take}
+use Rattle.hpgl.specs.Valid.{Usable}
+use Rattle.hpgl.specs.ValidKept.{usable-take}
 use Rattle.machine.specs.declared.Taken.{Taken}
 use Rattle.machine.specs.Calls.{takenOf}
 use Rattle.vectors.proofs.calls.go.Statement.{statement}
 use Rattle.vectors.proofs.calls.go.Tie as tie
 
-taken-made : (m : State) (b : ℕ) (t : Taken) → Made m → b < 256 → t ≡ takenOf m b → Made (t .machine .state)
+taken-usable : (m : State) (b : ℕ) (t : Taken) → Usable m → t ≡ takenOf m b → Usable (t .machine .state)
 unfolding takenOf
-taken-made m b t made byte e = rw e (take made b byte)
+taken-usable m b t h e = rw e (usable-take b h)
 
-next-made : (c : tie.After-take) → Made (c .take .result .machine .state)
-next-made c =
+next-usable : (c : tie.After-take) → Usable (c .take .result .machine .state)
+next-usable c =
     let start = c .before .before .before in
-    taken-made (start .args .c .machine .state) (start .args .code) (c .take .result) (start .pre) (c .before .if1 .taken) (c .take .ensures)
+    taken-usable (start .args .c .machine .state) (start .args .code) (c .take .result) (start .pre) (c .take .ensures)
 
 cast-take : tie.Need-cast-take
 cast-take c = search needs
@@ -31,7 +32,7 @@ put-refusal-requires : tie.Need-put-refusal-requires
 put-refusal-requires c κs = search needs
 
 draw-some-requires : tie.Need-draw-some-requires
-draw-some-requires c κs = next-made (c .before .before .before .before .before .before)
+draw-some-requires c κs = next-usable (c .before .before .before .before .before .before)
 
 returns : tie.Need-returns
 returns c = search needs

@@ -1,12 +1,12 @@
 -- `vectors::calls::run` is safe and ends. Assumes nothing.
 use Prim.Native.Nat.{_-_}
 use borrow.Author.Needs.{needs}
-use Rattle.hpgl.specs.Made.{Made}
+use Rattle.hpgl.specs.Valid.{Usable}
 use Rattle.vectors.proofs.calls.run.Statement.{statement}
 use Rattle.vectors.proofs.calls.run.Tie as tie
 
 abbrev Inv-loop : tie.InvT-loop
-Inv-loop codes count out₀ course₀ i₀ out course i = Made (course .machine .state)
+Inv-loop codes count out₀ course₀ i₀ out course i = Usable (course .machine .state)
 
 abbrev μ-loop : tie.MeasureT-loop
 μ-loop codes count out₀ course₀ i₀ out course i = count - i

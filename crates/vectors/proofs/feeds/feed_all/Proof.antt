@@ -1,11 +1,11 @@
 -- `vectors::feeds::feed_all` is safe and ends. Assumes nothing.
 use borrow.Author.Needs.{needs}
-use Rattle.hpgl.specs.Made.{Made}
+use Rattle.hpgl.specs.Valid.{Usable}
 use Rattle.vectors.proofs.feeds.feed_all.Statement.{statement}
 use Rattle.vectors.proofs.feeds.feed_all.Tie as tie
 
 abbrev Inv-loop : tie.InvT-loop
-Inv-loop bytes out₀ used f₀ turns₀ out f turns = Made (f .machine .state)
+Inv-loop bytes out₀ used f₀ turns₀ out f turns = Usable (f .machine .state)
 
 abbrev μ-loop : tie.MeasureT-loop
 μ-loop bytes out₀ used f₀ turns₀ out f turns = turns

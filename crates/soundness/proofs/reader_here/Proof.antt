@@ -1,0 +1,31 @@
+-- The proof of `reader_here`.
+use borrow.Author.Needs.{needs}
+use mathlib.Core.Path.{_∙_}
+use Rattle.soundness.specs.Sound.{readerSound}
+use Rattle.soundness.proofs.reader_here.Statement.{statement}
+use Rattle.soundness.proofs.reader_here.Tie as tie
+
+row-at-requires : tie.Need-row-at-requires
+row-at-requires c κs = search needs
+
+row-at-requires-2 : tie.Need-row-at-requires-2
+row-at-requires-2 c κs = search needs
+
+row-at-requires-3 : tie.Need-row-at-requires-3
+row-at-requires-3 c κs = search needs
+
+reader-sound-requires : tie.Need-reader-sound-requires
+reader-sound-requires c κs = search needs
+
+returns : tie.Need-returns
+returns c =
+    let s : tie.Start = search in
+    let r0 : tie.After-row-at = search in
+    let r1 : tie.After-row-at2 = search in
+    let r2 : tie.After-row-at3 = search in
+    c .reader-sound .ensures ∙ (λ i. readerSound (r0 .row-at .ensures i) (r1 .row-at2 .ensures i) (r2 .row-at3 .ensures i))
+
+pub reader-here-spec : {M : Type 1} → statement M
+reader-here-spec =
+    tie.close
+    (tie.spec row-at-requires row-at-requires-2 row-at-requires-3 reader-sound-requires returns)

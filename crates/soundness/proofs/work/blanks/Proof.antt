@@ -1,0 +1,34 @@
+-- The proof of `blanks`.
+use borrow.Author.Needs.{needs}
+use mathlib.Core.Path.{_≡_, refl, sym, _∙_}
+use mathlib.Core.Bool.{true, false}
+use Rattle.soundness.specs.Sound.{blankSound, blanksSound}
+use Rattle.soundness.proofs.work.blanks.Statement.{statement}
+use Rattle.soundness.proofs.work.blanks.Tie as tie
+
+blank-requires : tie.Need-blank-requires
+blank-requires c κs = search needs
+
+blank-requires-2 : tie.Need-blank-requires-2
+blank-requires-2 c κs = search needs
+
+returns : tie.Need-returns
+unfolding blanksSound
+returns c =
+    let s : tie.Start = search in
+    let a1 : tie.After-blank = search in
+    let t1 : tie.Then1 = search in
+    let e1 : blankSound (s .args .across) ≡ true = sym (a1 .blank .ensures) ∙ t1 .if1 .taken in
+    rw (e1) (c .blank2 .ensures)
+
+returns-2 : tie.Need-returns-2
+unfolding blanksSound
+returns-2 c =
+    let s : tie.Start = search in
+    let a1 : tie.After-blank = search in
+    let t1 : tie.Else1 = search in
+    let e1 : blankSound (s .args .across) ≡ false = sym (a1 .blank .ensures) ∙ t1 .if1 .left in
+    rw (e1) refl
+
+pub blanks-spec : {M : Type 1} → statement M
+blanks-spec = tie.close (tie.spec blank-requires blank-requires-2 returns returns-2)

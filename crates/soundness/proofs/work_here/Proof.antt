@@ -1,0 +1,31 @@
+-- The proof of `work_here`.
+use borrow.Author.Needs.{needs}
+use mathlib.Core.Path.{_∙_}
+use Rattle.soundness.specs.Sound.{workSound}
+use Rattle.soundness.proofs.work_here.Statement.{statement}
+use Rattle.soundness.proofs.work_here.Tie as tie
+
+row-at-requires : tie.Need-row-at-requires
+row-at-requires c κs = search needs
+
+row-at-requires-2 : tie.Need-row-at-requires-2
+row-at-requires-2 c κs = search needs
+
+row-at-requires-3 : tie.Need-row-at-requires-3
+row-at-requires-3 c κs = search needs
+
+work-sound-requires : tie.Need-work-sound-requires
+work-sound-requires c κs = search needs
+
+returns : tie.Need-returns
+returns c =
+    let s : tie.Start = search in
+    let r0 : tie.After-row-at = search in
+    let r1 : tie.After-row-at2 = search in
+    let r2 : tie.After-row-at3 = search in
+    c .work-sound .ensures ∙ (λ i. workSound (r0 .row-at .ensures i) (r1 .row-at2 .ensures i) (r2 .row-at3 .ensures i))
+
+pub work-here-spec : {M : Type 1} → statement M
+work-here-spec =
+    tie.close
+    (tie.spec row-at-requires row-at-requires-2 row-at-requires-3 work-sound-requires returns)

@@ -1,0 +1,134 @@
+-- A list passes the tests just if it is what save writes of a usable machine; and so what it holds is usable, and every machine of the calls passes.
+use mathlib.Core.Path.{_≡_, refl, sym, ap, ap₂, _∙_, subst}
+use mathlib.Core.Bool.{Bool, true, false, cond, _&&_}
+use mathlib.Core.List.{List, [], _∷_}
+use Prim.Native.Nat.{ℕ, zero, suc, _+_, _*_, _≤_, _<_}
+use native.Mathlib.Omega.{arith}
+use lib.IntN.{ℤ, pos}
+use lib.ListN.{length, getD, drop}
+use Rattle.exact.specs.Whole.{_≤ᶻ_}
+use Rattle.rows.specs.declared.Row.{Row}
+use Rattle.rows.specs.Rows.{row, lay, rowAt, smallOf, mostByte}
+use Rattle.seal.specs.Light.{row-drop}
+use Rattle.reader.specs.Sizes.{Readable}
+use Rattle.hpgl.specs.declared.State.{State}
+use Rattle.hpgl.specs.declared.Settings.{Settings}
+use Rattle.hpgl.specs.declared.Carriage.{Carriage}
+use Rattle.hpgl.specs.Machine.{waiting}
+use Rattle.hpgl.specs.Valid.{Knows, Valid, Usable}
+use Rattle.hpgl.specs.Made.{Made}
+use Rattle.hpgl.specs.ValidFacts.{and-both}
+use Rattle.hpgl.specs.ValidKept.{made-usable}
+use Rattle.saved.specs.SavedReader.{placeRow, numbersRow, numberRow, readerOf, readerAt}
+use Rattle.saved.specs.Saved.{stateNumbers, limitsRow, cornersRow, scaleRow, windowRow, settingsOf, settingsAt, positionRow, penRow, polygonRow, penOf, pm0Of, polygonOf, carriageOf, carriageAt, workRow, workAcross, workAlong, workOf, workAt, edgesNumbers, edgesFrom, storeAt, savedOf, loadedOf}
+use Rattle.saved.specs.SavedLaws.{saved-back}
+use Rattle.soundness.specs.Sound.{fiveOf, readerSound, placeSound, numbersSound, numberSound, settingsSound, carriageSound, penSound, knownSound, workSound, inkedSound, edgesSound, soundOf, positionSound, polygonSound, placedOf, keptSound}
+use Rattle.soundness.specs.RowTests.{both, between-true}
+use Rattle.soundness.specs.PartLaws as part
+use Rattle.soundness.specs.WorkLaws as last
+
+-- the reader's three rows
+record ReaderLaw (place numbers number : Row) : Type 0 where
+  its-place : part.PlaceLaw place
+  valid : Readable (readerOf place numbers number)
+  its-numbers : numbersRow (readerOf place numbers number .numbers) ≡ numbers
+  its-number : numberRow (readerOf place numbers number .number) ≡ number
+
+reader-law : (place numbers number : Row) → readerSound place numbers number ≡ true → ReaderLaw place numbers number
+unfolding readerSound readerOf
+reader-law place numbers number t =
+    let t1 = and-both (placeSound place) (numbersSound numbers && numberSound number) t in
+    let t2 = and-both (numbersSound numbers) (numberSound number) (t1 .1) in
+    let p = part.place-law place (t1 .0) in
+    let n = part.numbers-law numbers (t2 .0) in
+    let o = part.number-law number (t2 .1) in
+    record { its-place = p; valid = record { mode = p .mode; op = p .op; numbers = n .0; number = o .0 }; its-numbers = n .1; its-number = o .1 }
+
+-- ---- a list that passes
+
+pub record Passed (zs : List ℤ) : Type 0 where
+  pub usable : Usable (loadedOf zs)
+  pub same : savedOf (loadedOf zs) ≡ zs
+
+-- a list of that length, row by row
+by-rows : (zs : List ℤ) → length zs ≡ stateNumbers →
+    zs ≡ lay (rowAt zs 0) (lay (rowAt zs 5) (lay (rowAt zs 10)
+    (lay (rowAt zs 15) (lay (rowAt zs 20) (lay (rowAt zs 25) (lay (rowAt zs 30)
+    (lay (rowAt zs 35) (lay (rowAt zs 40) (lay (rowAt zs 45) (lay (rowAt zs 50) (lay (rowAt zs 55)
+    (lay (rowAt zs 60) (lay (rowAt zs 65) (lay (rowAt zs 70) (drop 75 zs)))))))))))))))
+by-rows zs e =
+    row-of 0 (omega (arith, e)) ∙ ap (lay (rowAt zs 0))
+    (row-of 5 (omega (arith, e)) ∙ ap (lay (rowAt zs 5))
+    (row-of 10 (omega (arith, e)) ∙ ap (lay (rowAt zs 10))
+    (row-of 15 (omega (arith, e)) ∙ ap (lay (rowAt zs 15))
+    (row-of 20 (omega (arith, e)) ∙ ap (lay (rowAt zs 20))
+    (row-of 25 (omega (arith, e)) ∙ ap (lay (rowAt zs 25))
+    (row-of 30 (omega (arith, e)) ∙ ap (lay (rowAt zs 30))
+    (row-of 35 (omega (arith, e)) ∙ ap (lay (rowAt zs 35))
+    (row-of 40 (omega (arith, e)) ∙ ap (lay (rowAt zs 40))
+    (row-of 45 (omega (arith, e)) ∙ ap (lay (rowAt zs 45))
+    (row-of 50 (omega (arith, e)) ∙ ap (lay (rowAt zs 50))
+    (row-of 55 (omega (arith, e)) ∙ ap (lay (rowAt zs 55))
+    (row-of 60 (omega (arith, e)) ∙ ap (lay (rowAt zs 60))
+    (row-of 65 (omega (arith, e)) ∙ ap (lay (rowAt zs 65)) (row-of 70 (omega (arith, e))))))))))))))))
+  where
+    row-of : (i : ℕ) → i + 5 ≤ length zs → drop i zs ≡ lay (rowAt zs i) (drop (i + 5) zs)
+    row-of i h = row-drop zs i h
+
+pub sound-passed : (zs : List ℤ) → length zs ≡ stateNumbers → soundOf zs ≡ true → Passed zs
+unfolding soundOf loadedOf savedOf readerAt readerOf settingsAt settingsOf carriageAt carriageOf penOf polygonOf pm0Of workAt storeAt Knows
+sound-passed zs e t =
+    let reader = readerSound (rowAt zs 0) (rowAt zs 5) (rowAt zs 10) in
+    let settings = settingsSound (rowAt zs 15) (rowAt zs 20) (rowAt zs 25) (rowAt zs 30) in
+    let carriage = carriageSound (settingsOf (rowAt zs 15) (rowAt zs 20) (rowAt zs 25) (rowAt zs 30)) (rowAt zs 35) (rowAt zs 40) (rowAt zs 45) (rowAt zs 50) (rowAt zs 55) in
+    let known = knownSound (rowAt zs 0) (rowAt zs 45) in
+    let work = workSound (rowAt zs 60) (rowAt zs 65) (rowAt zs 70) in
+    let inked = inkedSound (rowAt zs 40) (rowAt zs 60) in
+    let edges = edgesSound zs 75 112 in
+    let t1 = and-both reader (settings && (carriage && (known && (work && (inked && edges))))) t in
+    let t2 = and-both settings (carriage && (known && (work && (inked && edges)))) (t1 .1) in
+    let t3 = and-both carriage (known && (work && (inked && edges))) (t2 .1) in
+    let t4 = and-both known (work && (inked && edges)) (t3 .1) in
+    let t5 = and-both work (inked && edges) (t4 .1) in
+    let t6 = and-both inked edges (t5 .1) in
+    let r = reader-law (rowAt zs 0) (rowAt zs 5) (rowAt zs 10) (t1 .0) in
+    let s = part.settings-law (rowAt zs 15) (rowAt zs 20) (rowAt zs 25) (rowAt zs 30) (t2 .0) in
+    let c = part.carriage-law (rowAt zs 35) (rowAt zs 40) (rowAt zs 45) (rowAt zs 50) (rowAt zs 55) (s .valid) (t3 .0) in
+    let w = last.work-law (rowAt zs 60) (rowAt zs 65) (rowAt zs 70) (t5 .0) in
+    let d = last.edges-law zs 75 112 (t6 .1) (omega (arith, e)) in
+    record {
+      usable = record {
+        valid = record { reader = r .valid; known = last.known-law (rowAt zs 0) (rowAt zs 45) (r .its-place) (t4 .0); core = c .valid; edges = d .0; length = d .2; work = w .valid };
+        inked = record { pen = last.inked-law (rowAt zs 60) (rowAt zs 65) (rowAt zs 70) (rowAt zs 40) (t6 .0) (c .pen-low) (c .pen-high) };
+      };
+      same =
+          (λ j. lay (r .its-place .same j) (lay (r .its-numbers j) (lay (r .its-number j)
+          (lay (s .limits j) (lay (s .corners j) (lay (s .scale j) (lay (s .window j)
+          (lay (c .position j) (lay (c .its-pen j) (lay (c .its-polygon j) (lay (c .its-first j) (lay (c .its-saved j)
+          (lay (w .its-row j) (lay (w .its-across j) (lay (w .its-along j) (d .1 j))))))))))))))))
+          ∙ sym (by-rows zs e);
+    }
+
+-- ---- what a machine is saved as passes: nobody is kept out
+
+settings-back : (m : State) → Valid m → settingsAt (savedOf m) ≡ m .core .settings
+unfolding loadedOf
+settings-back m v = ap (λ (x : State). x .core .settings) (saved-back m v)
+
+pub usable-sound : {m : State} → Usable m → soundOf (savedOf m) ≡ true
+unfolding soundOf readerSound rowAt savedOf Knows
+usable-sound {m} u =
+    let v = u .valid in
+    both (both (part.place-of (m .reader .mode) (m .reader .op) (v .reader .mode) (v .reader .op)) (both (part.numbers-of (m .reader .numbers) (v .reader .numbers)) (part.number-of (m .reader .number) (v .reader .number))))
+    (both (part.settings-of (m .core .settings) (v .core .settings))
+    (both (ap (λ (s : Settings). carriageSound s (positionRow (k .position) (k .relative)) (penRow (k .pen)) (polygonRow (k .polygon)) (positionRow (k .polygon .first) (k .polygon .empty)) (positionRow (k .polygon .saved .position) (k .polygon .saved .relative))) (settings-back m v) ∙ part.carriage-of (m .core .settings) k (v .core))
+    (both (last.known-of (m .reader .mode) (m .reader .op) (m .core .carriage .polygon) (v .reader .op) (v .known))
+    (both (last.work-of (m .work) (v .work))
+    (both (last.inked-of (m .core .carriage .pen) (m .work) (u .inked .pen)) (ap (edgesSound (savedOf m) 75) (sym (v .length)) ∙ last.edges-of (m .store .edges) (savedOf m) 75 refl (v .edges)))))))
+  where
+    k : Carriage
+    k = m .core .carriage
+
+-- and so every machine that the calls make
+pub made-sound : {m : State} → Made m → soundOf (savedOf m) ≡ true
+made-sound h = usable-sound (made-usable h)
