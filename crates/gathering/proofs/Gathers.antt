@@ -106,6 +106,14 @@ module _ (w : Work) (k room : ℕ) where
       go true e h = absurd (omega (arith, e, h))
       go false e h = refl
 
+-- ---- a draw stores one mark at most
+
+pub put-fits : (d : Drawn) (k n : ℕ) → k * 5 + 5 ≤ n → countAfter d k * 5 ≤ n
+unfolding countAfter
+put-fits (drawn.Stroke s) k n h = omega (arith, h)
+put-fits drawn.Hidden k n h = omega (arith, h)
+put-fits drawn.Idle k n h = omega (arith, h)
+
 -- ---- a mark is stored after others
 
 after-five : (s : Stroke) (i : ℕ) (a b c d e : ℤ) (zs : List ℤ) →
@@ -186,6 +194,12 @@ module _ {on : Bool} {all : Plot} {s : List ℕ} {entry now : List ℤ} {m : Sta
           ap (λ (bs : List ℕ). gatherFrom on m bs at 0) (bytes-left (byte-remains (m .work) at (length s) h z))
           ∙ at-stuck m at z (getD s at 0) (drop (at + 1) s) (stuck-on (m .work) count (length entry / 5) on k z)
       full (suc n) z = at-full m (drop at s) at (omega (arith, z)) on
+
+  -- a segment waits, and there is no record for it
+  pub far-filled : 0 < waiting (m .work) → count ≡ length entry / 5 → Gathers all entry now (stoppedAs m at count listFull)
+  far-filled h e =
+      let z : length entry / 5 - count ≡ 0 = omega (arith, e) in
+      far-stop m at listFull (ap (λ (r : ℕ). gatherFrom on m (drop at s) at r) z ∙ at-full m (drop at s) at (omega (arith, h)) on)
 
   pub far-halted : remainsOf (m .work) at (length s) ≡ true → {n : ℕ} → n ≡ haltedOf on (m .work) count (length entry / 5) → 0 < n → Gathers all entry now (stoppedAs m at count n)
   far-halted h e l = let k = halt-stuck (m .work) count (length entry / 5) on e l in subst (λ (n : ℕ). Gathers all entry now (stoppedAs m at count n)) (sym (k .1)) (far-full h (k .0))

@@ -1,11 +1,13 @@
 -- The turns of the loop of `gather`: a name, a pair with its stroke or its edge, EP, and a refusal, by whatever it was given.
 -- Why: each is a turn that takes a byte (Gathers.antt), and a line is worked off at once where there is a record for it.
 use mathlib.Core.Path.{_≡_, refl, sym, ap, subst, _∙_}
-use mathlib.Core.Bool.{Bool, true, false, cond, not}
+use mathlib.Core.Bool.{Bool, true, false, true≢false, cond, not}
 use mathlib.Core.List.{List}
-use Prim.Native.Nat.{ℕ, _+_, _*_, _/_, _<_}
+use Prim.Native.Nat.{ℕ, _+_, _*_, _/_, _≤_, _<_}
 use native.Mathlib.Omega.{arith}
 use lib.Dec.{T, eqb}
+use borrow.Author.Tests.{eq-eqb, eqb-true}
+use Rattle.clip.specs.declared.Rect.{Rect}
 use lib.IntN.{ℤ}
 use lib.ListN.{length, getD}
 use lib.ListN as list
@@ -41,10 +43,10 @@ use Rattle.feeding.specs.Plot.{Plot, refusal}
 use Rattle.basics.specs.declared.hand.Hand.{Hand}
 use Rattle.basics.specs.declared.hand.Pointed.{Pointed}
 use Rattle.basics.specs.Hand.{coreOf, lineOf, pointedOf}
-use Rattle.gathering.specs.Gather.{whole, stoppedAs, Gathers, countAfter, withStroke, recordOf, putOf, outlineOf}
+use Rattle.gathering.specs.Gather.{whole, stoppedAs, Gathers, countAfter, withStroke, recordOf, putOf, outlineOf, overflowsOf}
 use Rattle.gathering.specs.Far.{Far, Reached}
 use Rattle.gathering.proofs.Turns.{leaves, Turn, turn-valid}
-use Rattle.gathering.proofs.Gathers.{far-draw, far-turn, far-refusal, far-refused}
+use Rattle.gathering.proofs.Gathers.{put-fits, far-draw, far-turn, far-refusal, far-refused}
 
 -- a name leaves the carriage where it is
 pub letters-position : (k : Carriage) (op : ℕ) → letters k op .position ≡ k .position
@@ -66,6 +68,22 @@ outline-waits c es = go (eqb (c .carriage .pen .number) 0)
     go : (b : Bool) → cond b Nothing (Edges 0 (c .carriage .polygon .edges)) ≡ leaves es (c .carriage .polygon .edges) c (cond (not b) Outline Keep)
     go true = refl
     go false = refl
+
+-- whether there is a record for a segment
+not-full : (k n : ℕ) → eqb k n ≡ false → k ≡ n → ⊥
+not-full k n h e = true≢false (sym (eq-eqb k n e) ∙ h)
+
+pub overflow-waits : (g : Segment) (k room edges : ℕ) → overflowsOf g k room ≡ true → (0 < waiting (queued edges (lineOf g))) × (k ≡ room)
+unfolding overflowsOf queued lineOf waiting
+overflow-waits segment.Nothing k room edges h = absurd (true≢false (sym h))
+overflow-waits segment.PenUp k room edges h = absurd (true≢false (sym h))
+overflow-waits (segment.Line a b) k room edges h = (omega arith, eqb-true k room h)
+
+pub drawn-fits : (g : Segment) (l : Rect) (p k room n : ℕ) → overflowsOf g k room ≡ false → k ≤ room → room * 5 ≤ n → countAfter (drawnOf l p g) k * 5 ≤ n
+unfolding overflowsOf drawnOf countAfter
+drawn-fits segment.Nothing l p k room n h a b = omega (arith, a, b)
+drawn-fits segment.PenUp l p k room n h a b = omega (arith, a, b)
+drawn-fits (segment.Line x y) l p k room n h a b = put-fits (drawnOf l p (segment.Line x y)) k n (omega (arith, not-full k room h, a, b))
 
 -- a line that is drawn, or nothing
 abbrev pub doing : Core → Segment → Acted
@@ -114,25 +132,25 @@ module _ {on : Bool} {all : Plot} {s : List ℕ} {entry now : List ℤ} {m : Sta
         segment-small {m = next (segment.Line a b)} (turn-valid last (next (segment.Line a b)) byte _ _ (moved-turn (segment.Line a b) e) (r .idle) (r .far .valid))
 
     -- and is drawn
-    module _ (free : count < length entry / 5) where
+    module _ (free : on ≡ true → count < length entry / 5) where
       turned : (g : Segment) → doing c g ≡ actOn (m .core) (q .event) → Far on all s entry now (next g) (r .place + 1) count
-      turned g e = far-turn (r .far) (moved-turn g e) (r .idle) (r .within) (λ o. free) refl
+      turned g e = far-turn (r .far) (moved-turn g e) (r .idle) (r .within) free refl
 
       abbrev drawnBy : Segment → Drawn
       drawnBy g = drawnOf (limits (c .settings)) (c .carriage .pen .number) g
 
-      worked : (g : Segment) → doing c g ≡ actOn (m .core) (q .event) →
+      worked : (g : Segment) → overflowsOf g count (length entry / 5) ≡ false → doing c g ≡ actOn (m .core) (q .event) →
           Far on all s entry (putOf (drawnBy g) (count * 5) now) (whole (q .reader) c (m .store) Nothing) (r .place + 1) (countAfter (drawnBy g) count)
-      unfolding drawnOf putOf countAfter queued lineOf segmentOf workSegment waiting workAfter
-      worked segment.Nothing e = turned segment.Nothing e
-      worked segment.PenUp e = turned segment.PenUp e
-      worked (segment.Line a b) e =
+      unfolding overflowsOf drawnOf putOf countAfter queued lineOf segmentOf workSegment waiting workAfter
+      worked segment.Nothing h e = turned segment.Nothing e
+      worked segment.PenUp h e = turned segment.PenUp e
+      worked (segment.Line a b) h e =
           let i = next (segment.Line a b) in
-          far-draw (turned (segment.Line a b) e) (omega arith) free (sym (segment-drawn i)) refl refl refl
+          far-draw (turned (segment.Line a b) e) (omega arith) (omega (arith, not-full count (length entry / 5) h, r .far .room)) (sym (segment-drawn i)) refl refl refl
 
-      pub next-drawn : (g : Segment) → doing c g ≡ actOn (m .core) (q .event) → {d : Drawn} {numbers : List ℤ} {k : ℕ} → d ≡ drawnBy g → numbers ≡ putOf d (count * 5) now → k ≡ countAfter d count →
+      pub next-drawn : (g : Segment) → overflowsOf g count (length entry / 5) ≡ false → doing c g ≡ actOn (m .core) (q .event) → {d : Drawn} {numbers : List ℤ} {k : ℕ} → d ≡ drawnBy g → numbers ≡ putOf d (count * 5) now → k ≡ countAfter d count →
           Far on all s entry numbers (whole (q .reader) c (m .store) Nothing) (q .at) k
-      next-drawn g e f h k = rw (h, k, f) (at-next (worked g e))
+      next-drawn g o e f h k = rw (h, k, f) (at-next (worked g o e))
 
   -- a point of a polygon
   module _ (set : Settings) (h : Hand) (g : Polygon) (t : Pointed) (same : m .core ≡ coreOf set h g) (acts : pointedOf set h g t ≡ actOn (coreOf set h g) (q .event)) (z : t .number ≡ 0)

@@ -17,6 +17,8 @@ use Rattle.hpgl.specs.declared.Action.{Action}
 use Rattle.hpgl.specs.declared.Action.the-variants as action
 use Rattle.hpgl.specs.declared.State.{State}
 use Rattle.hpgl.specs.declared.Stroke.{Stroke}
+use Rattle.hpgl.specs.declared.Segment.{Segment}
+use Rattle.hpgl.specs.declared.Segment.the-variants as segment
 use Rattle.hpgl.specs.declared.Drawn.{Drawn}
 use Rattle.hpgl.specs.declared.Drawn.the-variants as drawn
 use Rattle.feeding.specs.DrawOff.{listFull}
@@ -62,6 +64,12 @@ stuckOf on w k room = cond (eqb k room) (cond on true (ltb 0 (waiting w))) false
 -- the number that ends it there, or 0
 unfoldable pub haltedOf : Bool → Work → ℕ → ℕ → ℕ
 haltedOf on w k room = cond (stuckOf on w k room) listFull 0
+
+-- a segment that may need a record, of which all are used
+unfoldable pub overflowsOf : Segment → ℕ → ℕ → Bool
+overflowsOf segment.Nothing k room = false
+overflowsOf segment.PenUp k room = false
+overflowsOf (segment.Line a b) k room = eqb k room
 
 -- work that is drawn by a loop of its own
 unfoldable pub batchedOf : Work → Bool

@@ -108,7 +108,7 @@ fn put_record(numbers: &mut [i64], count: usize, s: Stroke) -> usize
 
 // Stores what was drawn after `count` records, and answers how many there are then.
 fn put(numbers: &mut [i64], count: usize, d: Drawn) -> usize
-    requires { ⌜ count * 5 + 5 ≤ length (now numbers) ⌝ }
+    requires { ⌜ S.countAfter d count * 5 ≤ length (now numbers) ⌝ }
     ensures { λ r. ⌜ r ≡ S.countAfter d count ⌝ }
     ensures { λ r. ⌜ now (numbers .exit) ≡ S.putOf d (count * 5) (now (numbers .entry)) ⌝ }
 {
@@ -157,6 +157,17 @@ fn halted(on: bool, w: Work, count: usize, room: usize) -> u8
         return 0;
     }
     0
+}
+
+// Whether a segment may need a record, of which all are used.
+fn overflows(s: Segment, count: usize, room: usize) -> bool
+    ensures { λ r. ⌜ r ≡ S.overflowsOf s count room ⌝ }
+{
+    match s {
+        Segment::Nothing => false,
+        Segment::PenUp => false,
+        Segment::Line(_, _) => count == room,
+    }
 }
 
 // What EP leaves waiting: the stored edges, if the pen has paint.
@@ -383,9 +394,10 @@ pub fn gather(m: State, bytes: &[u8], from: usize, numbers: &mut [i64], on: bool
                         hand = t.hand;
                         here = t.here;
                         let line = t.segment;
-                        if count == room {
+                        if overflows(line, count, room) {
                             work = queued(edges, line_of(line));
-                            continue;
+                            let core = core_of(settings, hand, polygon);
+                            return gathered(reader, core, store, work, at, count, LIST_FULL);
                         }
                         let pen = hand.pen;
                         let drawn = drawn_of(frame.limits, pen.number, line);

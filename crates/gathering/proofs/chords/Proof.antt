@@ -17,7 +17,7 @@ use Rattle.hpgl.specs.ValidFacts.{limits-small}
 use Rattle.queue.specs.Corners.{vertexAt}
 use Rattle.gathering.specs.Gather.{whole, chordsLeft}
 use Rattle.gathering.specs.Far.{Batching, Drew}
-use Rattle.gathering.proofs.Gathers.{far-fits}
+use Rattle.gathering.proofs.Gathers.{far-fits, put-fits}
 use Rattle.gathering.proofs.Chording.{chord, chords-some, chords-waiting, chord-waits, far-chord, turned, limited, batched-chords}
 use Rattle.gathering.proofs.chords.Statement.{statement}
 use Rattle.gathering.proofs.chords.Tie as tie
@@ -130,7 +130,7 @@ drawn-of-requires c κs =
     )
 
 put-requires : tie.Need-put-requires Inv-loop μ-loop
-put-requires c κs = let e : Turn = search in let d = known (entry (turn e)) in far-fits (far (turn e) d) (free e d)
+put-requires c κs = let e : Turn = search in let d = known (entry (turn e)) in put-fits _ _ _ (far-fits (far (turn e) d) (free e d))
 
 loop-less : tie.Need-loop-less Inv-loop μ-loop
 loop-less c = let e : Turn = search in omega (arith, some e)

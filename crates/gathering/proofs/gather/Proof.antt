@@ -4,11 +4,12 @@
 -- The measure: what waits, and for each byte left one more than can wait after it, which is at most the 720 chords of a circle.
 use borrow.Author.Needs.{needs}
 use mathlib.Core.Path.{_≡_, refl, sym, ap, subst, _∙_}
-use mathlib.Core.Bool.{Bool, true, cond}
+use mathlib.Core.Bool.{Bool, true, false, cond}
 use mathlib.Core.List.{List}
 use mathlib.Core.Logic.{⊎-elim}
 use Prim.Native.Nat.{ℕ, _+_, _*_, _-_, _/_, _^_, _≤_, _<_}
 use native.Mathlib.Omega.{arith}
+use native.Mathlib.Nat.{mul-div-le}
 use borrow.Author.Tests.{ne-eqb}
 use lib.IntN.{ℤ}
 use lib.ListN.{length, getD, set, drop}
@@ -34,6 +35,7 @@ use Rattle.hpgl.specs.declared.Work.the-variants.{Nothing}
 use Rattle.hpgl.specs.declared.Segment.the-variants as segment
 use Rattle.hpgl.specs.declared.State.{State}
 use Rattle.hpgl.specs.Numbers.{mostEdges, polygonBytes}
+use Rattle.feeding.specs.DrawOff.{listFull}
 use Rattle.hpgl.specs.Pins.{pinned}
 use Rattle.feeding.specs.Plot.{Plot, refusal}
 use Rattle.hpgl.specs.Place.{limits}
@@ -51,11 +53,11 @@ use Rattle.queue.specs.First.{place-within}
 use Rattle.queue.specs.Corners.{segmentIn}
 use Rattle.basics.specs.Hand.{frameOf, handOf, carriageOf, coreOf, lineOf, pointedOf, locationIn}
 use Rattle.basics.specs.Locating.{hand-locatable}
-use Rattle.gathering.specs.Gather.{whole, stoppedAs, gatherFrom}
+use Rattle.gathering.specs.Gather.{whole, stoppedAs, gatherFrom, overflowsOf}
 use Rattle.gathering.specs.Far.{Far, Reached, Batching}
 use Rattle.gathering.proofs.Turns.{leaves, Turn, reader-on, reader-off, acting, none-acts, refused-acts, ended-acts, settled-acts, pair-acts, pair-refused, named-acts, unknown-acts, unstored}
-use Rattle.gathering.proofs.Gathers.{waits-most, waits-less, byte-remains, none-remains, far-start, far-free, far-fits, far-halted, far-end, far-draw, far-next}
-use Rattle.gathering.proofs.Moving.{letters-position, doing, next-turned, next-waits, next-kept, next-small, next-drawn, next-first, next-edge, next-outline, refusal-some, next-refusal, next-refused}
+use Rattle.gathering.proofs.Gathers.{waits-most, waits-less, byte-remains, none-remains, far-start, far-free, put-fits, far-fits, far-halted, far-filled, far-end, far-draw, far-next}
+use Rattle.gathering.proofs.Moving.{letters-position, overflow-waits, drawn-fits, doing, next-turned, next-waits, next-kept, next-small, next-drawn, next-first, next-edge, next-outline, refusal-some, next-refusal, next-refused}
 use Rattle.gathering.proofs.Chording.{alone-waits}
 use Rattle.gathering.proofs.gather.Statement.{statement}
 use Rattle.gathering.proofs.gather.Tie as tie
@@ -488,11 +490,13 @@ shift-refused t f =
     pair-acts (l .settings) (l .hand) (l .polygon) _ (ap (refuse (held q)) number ∙ sym (pair-refused (held q) _ (λ z. f (number ∙ z))))
     ∙ ap (actOn (held q)) (sym (e .event2 .given .1))
 
--- a record is free, where not all are used
-room-left : (f : Free) → let l = loop (shifts (unfilled f .before)) in l .loop .count < length (entry l .args .numbers .now) / 5
-room-left f = let l = loop (shifts (unfilled f .before)) in omega (arith, far l .room, f .if10 .left)
+-- there is a record for its line
+has-record : (f : Free) → let t = unfilled f .before in
+    let l = loop (shifts t) in
+    overflowsOf (t .shift .result .segment) (l .loop .count) (length (entry l .args .numbers .now) / 5) ≡ false
+has-record f = sym (f .before .overflows .ensures) ∙ f .if10 .left
 
--- its line waits where none is
+-- its line waits where there is none
 abbrev line-waits : Full → Work
 line-waits f = let t = full f .before in let l = loop (shifts t) .loop in leaves (l .store .edges) (l .polygon .edges) (coreOf (l .settings) (t .shift .result .hand) (l .polygon)) (lineOf (t .shift .result .segment))
 
@@ -524,7 +528,7 @@ acts a =
     let q = ending a in
     let e : tie.After-event3 Inv-loop μ-loop = search in
     let l = loop q .loop in
-    settled-acts (l .settings) (l .hand) (l .polygon) _ _ (a .before .core-of2 .ensures) (a .end-rule .ensures) ∙ ap (actOn (held q)) (sym (e .event3 .given .1))
+    settled-acts (l .settings) (l .hand) (l .polygon) _ _ (a .before .core-of3 .ensures) (a .end-rule .ensures) ∙ ap (actOn (held q)) (sym (e .event3 .given .1))
 
 act-valid : (a : Ended) → ValidActed (held (ending a)) (a .end-rule .result)
 act-valid a = acts-valid (ending a) (acts a)
@@ -741,7 +745,7 @@ drawn-of-requires : tie.Need-drawn-of-requires Inv-loop μ-loop
 drawn-of-requires c κs = let l = waits (segmented c) in (limits-fit l, subst SmallSegment (sym (waited c)) (segment-small (far l .valid)))
 
 put-requires : tie.Need-put-requires Inv-loop μ-loop
-put-requires c κs = let w : Waits = search in far-fits (far (waits w)) (free-drawn w)
+put-requires c κs = let w : Waits = search in put-fits _ _ _ (far-fits (far (waits w)) (free-drawn w))
 
 work-after-requires : tie.Need-work-after-requires Inv-loop μ-loop
 work-after-requires c κs = let w : Waits = search in far (waits w) .valid .work
@@ -834,24 +838,20 @@ queued-requires c κs =
     let l = loop q .loop in
     rw (c .line-of .ensures) (action-alone (l .polygon .edges) (lineOf (t .shift .result .segment)) (acts-valid q (shift-acts (full f)) .action))
 
-loop-less-7 : tie.Need-loop-less-7 Inv-loop μ-loop
-loop-less-7 c =
-    let f : Full = search in
-    let k : tie.After-queued Inv-loop μ-loop = search in
-    subst (λ (w : Work). less-by (shifts (full f .before)) w) (sym (line-left k)) (less (shifts (full f .before)) (line-waits f) (waits-most (line-waits f) (stays f .valid .work)))
+same-length-2 : tie.Need-same-length-2 Inv-loop μ-loop
+same-length-2 c = let f : Full = search in far (loop (shifts (full f .before))) .long
 
-loop-again-7 : tie.Need-loop-again-7 Inv-loop μ-loop
-loop-again-7 c =
+returns-2 : tie.Need-returns-2 Inv-loop μ-loop
+returns-2 c =
     let f : Full = search in
     let k : tie.After-queued Inv-loop μ-loop = search in
+    let o : tie.After-core-of2 Inv-loop μ-loop = search in
     let t = full f .before in
     let q = shifts t in
-    let l = loop q in (
-      again l
-          (subst (λ (w : Work). Goes l (All l) (l .loop .numbers) (whole (q .next .result .reader) (coreOf (l .loop .settings) (t .shift .result .hand) (l .loop .polygon)) (l .loop .store) w) (q .next .result .at) (l .loop .count)) (sym (line-left k)) (stays f)),
-      l .loop .inv .1,
-      t .shift .ensures .1,
-    )
+    let l = loop q in
+    let h = overflow-waits (t .shift .result .segment) _ _ (l .loop .polygon .edges) (sym (f .before .overflows .ensures) ∙ f .if10 .taken) in
+    let g = far-filled (stays f) (h .0) (h .1) in
+    (c .gathered2 .ensures ∙ (λ i. stoppedAs (whole (q .next .result .reader) (o .core-of2 .ensures i) (l .loop .store) (line-left k i)) (q .next .result .at) (l .loop .count) listFull) ∙ g .0, g .1)
 
 drawn-of-requires-2 : tie.Need-drawn-of-requires-2 Inv-loop μ-loop
 drawn-of-requires-2 c κs =
@@ -862,10 +862,15 @@ drawn-of-requires-2 c κs =
     (limits-fit l, next-small (reached q) (coreOf (l .loop .settings) (t .shift .result .hand) (l .loop .polygon)) (t .shift .result .segment) (shift-acts m))
 
 put-requires-2 : tie.Need-put-requires-2 Inv-loop μ-loop
-put-requires-2 c κs = let f : Free = search in far-fits (far (loop (shifts (unfilled f .before)))) (room-left f)
+put-requires-2 c κs =
+    let f : Free = search in
+    let t = unfilled f .before in
+    let d : tie.After-drawn-of2 Inv-loop μ-loop = search in
+    let l = loop (shifts t) in
+    rw (d .drawn-of2 .ensures) (drawn-fits (t .shift .result .segment) _ _ _ _ _ (has-record f) (far l .room) (omega (arith, mul-div-le (length (entry l .args .numbers .now)) 5, far l .long)))
 
-loop-again-8 : tie.Need-loop-again-8 Inv-loop μ-loop
-loop-again-8 c =
+loop-again-7 : tie.Need-loop-again-7 Inv-loop μ-loop
+loop-again-7 c =
     let f : Free = search in
     let d : tie.After-drawn-of2 Inv-loop μ-loop = search in
     let u : tie.After-put2 Inv-loop μ-loop = search in
@@ -875,22 +880,22 @@ loop-again-8 c =
     let l = loop q in
     let r = t .shift .result in (
       again l
-          (next-drawn (reached q) (coreOf (l .loop .settings) (r .hand) (l .loop .polygon)) (room-left f) (r .segment) (shift-acts m)
+          (next-drawn (reached q) (coreOf (l .loop .settings) (r .hand) (l .loop .polygon)) (free-taken (q .before)) (r .segment) (has-record f) (shift-acts m)
           (d .drawn-of2 .ensures ∙ ap (λ (b : Rect). drawnOf b (r .hand .pen .number) (r .segment)) (limited l)) (u .put2 .ensures .1) (u .put2 .ensures .0)),
       l .loop .inv .1,
       t .shift .ensures .1,
     )
 
-loop-again-9 : tie.Need-loop-again-9 Inv-loop μ-loop
+loop-again-8 : tie.Need-loop-again-8 Inv-loop μ-loop
 unfolding lineOf
-loop-again-9 c =
+loop-again-8 c =
     let q : Read = search in
     let e : tie.After-event3 Inv-loop μ-loop = search in
     let l = loop q in
     (again l (quiet q (e .event3 .given .1) (ended-acts (l .loop .settings) (l .loop .hand) (l .loop .polygon) _ _ (sym (c .before .takes-pairs .ensures) ∙ c .if11 .taken))), l .loop .inv .1, l .loop .inv .2)
 
-loop-less-10 : tie.Need-loop-less-10 Inv-loop μ-loop
-loop-less-10 c =
+loop-less-9 : tie.Need-loop-less-9 Inv-loop μ-loop
+loop-less-9 c =
     let q : Read = search in
     let e : tie.After-event3 Inv-loop μ-loop = search in
     let n : Outlined = search in
@@ -898,8 +903,8 @@ loop-less-10 c =
     let f = next-outline (reached q) (e .event3 .given .1) (n .if12 .taken) (c .outline .ensures) (free-taken (q .before)) in
     less q (c .outline .result) (waits-most (c .outline .result) (f .valid .work))
 
-loop-again-10 : tie.Need-loop-again-10 Inv-loop μ-loop
-loop-again-10 c =
+loop-again-9 : tie.Need-loop-again-9 Inv-loop μ-loop
+loop-again-9 c =
     let q : Read = search in
     let e : tie.After-event3 Inv-loop μ-loop = search in
     let n : Outlined = search in
@@ -910,7 +915,7 @@ end-rule-requires : tie.Need-end-rule-requires Inv-loop μ-loop
 end-rule-requires c κs =
     let q : Read = search in
     let e : tie.After-event3 Inv-loop μ-loop = search in
-    rw (c .core-of2 .ensures) (far (loop q) .valid .core, subst (ValidEvent (held q)) (e .event3 .given .1) (event-valid q) .0 .numbers)
+    rw (c .core-of3 .ensures) (far (loop q) .valid .core, subst (ValidEvent (held q)) (e .event3 .given .1) (event-valid q) .0 .numbers)
 
 frame-of-requires-2 : tie.Need-frame-of-requires-2 Inv-loop μ-loop
 frame-of-requires-2 c κs = let a : Ended = search in act-valid a .core .settings
@@ -931,11 +936,11 @@ put-record-requires c κs =
     let q = read (refusing (t .before .before)) in
     far-fits (far (loop q)) (free-taken (q .before) (t .if14 .taken))
 
-loop-less-11 : tie.Need-loop-less-11 Inv-loop μ-loop
-loop-less-11 c = let r : Ruled = search in none-less (read r)
+loop-less-10 : tie.Need-loop-less-10 Inv-loop μ-loop
+loop-less-10 c = let r : Ruled = search in none-less (read r)
 
-loop-again-11 : tie.Need-loop-again-11 Inv-loop μ-loop
-loop-again-11 c =
+loop-again-10 : tie.Need-loop-again-10 Inv-loop μ-loop
+loop-again-10 c =
     let t : tie.Then14 Inv-loop μ-loop = search in
     let x : tie.After-refusal-record Inv-loop μ-loop = search in
     let u : tie.After-put-record Inv-loop μ-loop = search in
@@ -949,16 +954,16 @@ loop-again-11 c =
       located-now r,
     )
 
-same-length-2 : tie.Need-same-length-2 Inv-loop μ-loop
-same-length-2 c = let r : Ruled = search in far (loop (read r)) .long
+same-length-3 : tie.Need-same-length-3 Inv-loop μ-loop
+same-length-3 c = let r : Ruled = search in far (loop (read r)) .long
 
-returns-2 : tie.Need-returns-2 Inv-loop μ-loop
-returns-2 c =
+returns-3 : tie.Need-returns-3 Inv-loop μ-loop
+returns-3 c =
     let e : tie.Else14 Inv-loop μ-loop = search in
     let p = e .before in
     let q = read (refusing (p .before)) in
     let f = next-refused (reached q) (passed p refl) (refused (p .before)) (e .if14 .left) in
-    (c .gathered2 .ensures ∙ f .0, f .1)
+    (c .gathered3 .ensures ∙ f .0, f .1)
 
 cast-k-2 : tie.Need-cast-k-2 Inv-loop μ-loop
 cast-k-2 c = let r : Ruled = search in omega (arith, far (loop (read r)) .valid .core .polygon .edges)
@@ -969,8 +974,8 @@ mul-e-3 c = let a : tie.After-action Inv-loop μ-loop = search in record { fits 
 element-set-from-e-2 : tie.Need-element-set-from-e-2 Inv-loop μ-loop
 element-set-from-e-2 c = let a : tie.After-action Inv-loop μ-loop = search in omega (arith, joins-edge a)
 
-loop-again-12 : tie.Need-loop-again-12 Inv-loop μ-loop
-loop-again-12 c =
+loop-again-11 : tie.Need-loop-again-11 Inv-loop μ-loop
+loop-again-11 c =
     let a : Accepted = search in
     let e : tie.After-action Inv-loop μ-loop = search in
     let r = accepting a in
@@ -979,14 +984,14 @@ loop-again-12 c =
 carried-requires : tie.Need-carried-requires Inv-loop μ-loop
 carried-requires c κs = let r : Ruled = search in act-valid (ended r) .action
 
-loop-less-13 : tie.Need-loop-less-13 Inv-loop μ-loop
-loop-less-13 c =
+loop-less-12 : tie.Need-loop-less-12 Inv-loop μ-loop
+loop-less-12 c =
     let a : Accepted = search in
     let k : tie.After-carried Inv-loop μ-loop = search in
     taken-less a {st = k .carried .result .store} (k .carried .ensures .0) (k .carried .ensures .1 _ _)
 
-loop-again-13 : tie.Need-loop-again-13 Inv-loop μ-loop
-loop-again-13 c =
+loop-again-12 : tie.Need-loop-again-12 Inv-loop μ-loop
+loop-again-12 c =
     let a : Accepted = search in
     let k : tie.After-carried Inv-loop μ-loop = search in
     let r = accepting a in
@@ -995,15 +1000,15 @@ loop-again-13 c =
 queued-requires-2 : tie.Need-queued-requires-2 Inv-loop μ-loop
 queued-requires-2 c κs = let r : Ruled = search in action-alone (loop (read r) .loop .polygon .edges) (did r .action) (act-valid (ended r) .action)
 
-loop-less-14 : tie.Need-loop-less-14 Inv-loop μ-loop
-loop-less-14 c =
+loop-less-13 : tie.Need-loop-less-13 Inv-loop μ-loop
+loop-less-13 c =
     let a : Accepted = search in
     let h : Light = search in
     let k : tie.After-queued2 Inv-loop μ-loop = search in
     taken-less a (same-edges h) (k .queued2 .ensures _ _)
 
-loop-again-14 : tie.Need-loop-again-14 Inv-loop μ-loop
-loop-again-14 c =
+loop-again-13 : tie.Need-loop-again-13 Inv-loop μ-loop
+loop-again-13 c =
     let a : Accepted = search in
     let h : Light = search in
     let k : tie.After-queued2 Inv-loop μ-loop = search in
@@ -1019,11 +1024,11 @@ put-record-requires-2 c κs =
     let q = met (t .before .before) in
     far-fits (far (loop q)) (free-taken (q .before) (t .if16 .taken))
 
-loop-less-15 : tie.Need-loop-less-15 Inv-loop μ-loop
-loop-less-15 c = let j : Met = search in none-less (met j)
+loop-less-14 : tie.Need-loop-less-14 Inv-loop μ-loop
+loop-less-14 c = let j : Met = search in none-less (met j)
 
-loop-again-15 : tie.Need-loop-again-15 Inv-loop μ-loop
-loop-again-15 c =
+loop-again-14 : tie.Need-loop-again-14 Inv-loop μ-loop
+loop-again-14 c =
     let t : tie.Then16 Inv-loop μ-loop = search in
     let x : tie.After-refusal-record2 Inv-loop μ-loop = search in
     let u : tie.After-put-record2 Inv-loop μ-loop = search in
@@ -1037,30 +1042,30 @@ loop-again-15 c =
       l .loop .inv .2,
     )
 
-same-length-3 : tie.Need-same-length-3 Inv-loop μ-loop
-same-length-3 c = let j : Met = search in far (loop (met j)) .long
-
-returns-3 : tie.Need-returns-3 Inv-loop μ-loop
-returns-3 c =
-    let e : tie.Else16 Inv-loop μ-loop = search in
-    let k : tie.After-core-of3 Inv-loop μ-loop = search in
-    let p = e .before in
-    let q = met (p .before) in
-    let f = next-refused (reached q) (declining p (k .core-of3 .ensures)) (declines (p .before) .some) (e .if16 .left) in
-    (c .gathered3 .ensures ∙ f .0, f .1)
-
 same-length-4 : tie.Need-same-length-4 Inv-loop μ-loop
-same-length-4 c = let l : Loop = search in far l .long
+same-length-4 c = let j : Met = search in far (loop (met j)) .long
 
 returns-4 : tie.Need-returns-4 Inv-loop μ-loop
 returns-4 c =
+    let e : tie.Else16 Inv-loop μ-loop = search in
+    let k : tie.After-core-of4 Inv-loop μ-loop = search in
+    let p = e .before in
+    let q = met (p .before) in
+    let f = next-refused (reached q) (declining p (k .core-of4 .ensures)) (declines (p .before) .some) (e .if16 .left) in
+    (c .gathered4 .ensures ∙ f .0, f .1)
+
+same-length-5 : tie.Need-same-length-5 Inv-loop μ-loop
+same-length-5 c = let l : Loop = search in far l .long
+
+returns-5 : tie.Need-returns-5 Inv-loop μ-loop
+returns-5 c =
     let l : Loop = search in
     let e : tie.Else1 Inv-loop μ-loop = search in
-    let p : tie.After-core-of4 Inv-loop μ-loop = search in
+    let p : tie.After-core-of5 Inv-loop μ-loop = search in
     let n = none-remains (l .loop .work) _ _ (sym (e .before .remains .ensures) ∙ e .if1 .left) in
     let f = far-end (far l) (n .0) (n .1) in
-    let k = ap (λ (k : Core). stoppedAs (whole (l .loop .reader) k (l .loop .store) (l .loop .work)) (l .loop .at) (l .loop .count) 0) (p .core-of4 .ensures) in
-    (c .gathered4 .ensures ∙ k ∙ f .0, f .1)
+    let k = ap (λ (k : Core). stoppedAs (whole (l .loop .reader) k (l .loop .store) (l .loop .work)) (l .loop .at) (l .loop .count) 0) (p .core-of5 .ensures) in
+    (c .gathered5 .ensures ∙ k ∙ f .0, f .1)
 
 pub gather-spec : {M : Type 1} → statement M
 gather-spec =
@@ -1116,20 +1121,23 @@ gather-spec =
     loop-again-6
     shift-requires
     (λ c κs. search needs)
+    (λ c κs. search needs)
     queued-requires
-    loop-less-7
-    loop-again-7
+    (λ c κs. search needs)
+    (λ c κs. search needs)
+    same-length-2
+    returns-2
     drawn-of-requires-2
     put-requires-2
     (λ c. let q : Read = search in none-less q)
-    loop-again-8
+    loop-again-7
     (λ c. search needs)
     (λ c κs. search needs)
     (λ c. let q : Read = search in none-less q)
-    loop-again-9
+    loop-again-8
     (λ c κs. search needs)
-    loop-less-10
-    loop-again-10
+    loop-less-9
+    loop-again-9
     (λ c κs. search needs)
     end-rule-requires
     frame-of-requires-2
@@ -1138,35 +1146,35 @@ gather-spec =
     (λ c κs. search needs)
     refusal-record-requires
     put-record-requires
-    loop-less-11
-    loop-again-11
+    loop-less-10
+    loop-again-10
     (λ c κs. search needs)
-    same-length-2
-    returns-2
+    same-length-3
+    returns-3
     (λ c. search needs)
     cast-k-2
     mul-e-3
     element-set-from-e-2
     (λ c. let r : Ruled = search in none-less (read r))
-    loop-again-12
+    loop-again-11
     (λ c κs. search needs)
     carried-requires
+    loop-less-12
+    loop-again-12
+    queued-requires-2
     loop-less-13
     loop-again-13
-    queued-requires-2
-    loop-less-14
-    loop-again-14
     (λ c. search needs)
     (λ c κs. search needs)
     refusal-record-requires-2
     put-record-requires-2
-    loop-less-15
-    loop-again-15
-    (λ c κs. search needs)
-    (λ c κs. search needs)
-    same-length-3
-    returns-3
+    loop-less-14
+    loop-again-14
     (λ c κs. search needs)
     (λ c κs. search needs)
     same-length-4
-    returns-4)
+    returns-4
+    (λ c κs. search needs)
+    (λ c κs. search needs)
+    same-length-5
+    returns-5)

@@ -1,6 +1,10 @@
 -- The proof of `put`: by its arms.
 use borrow.Author.Needs.{needs}
-use mathlib.Core.Path.{refl}
+use mathlib.Core.Path.{refl, subst}
+use Prim.Native.Nat.{_*_, _≤_}
+use native.Mathlib.Omega.{arith}
+use lib.ListN.{length}
+use Rattle.hpgl.specs.declared.Drawn.{Drawn}
 use Rattle.gathering.specs.Gather.{countAfter, putOf}
 use Rattle.gathering.proofs.put.Statement.{statement}
 use Rattle.gathering.proofs.put.Tie as tie
@@ -15,7 +19,11 @@ enum-known-d : tie.Need-enum-known-d
 enum-known-d c = search needs
 
 put-record-requires : tie.Need-put-record-requires
-put-record-requires c κs = search needs
+unfolding countAfter
+put-record-requires c κs =
+    let s : tie.Start = search in
+    let d : tie.After-d = search in
+    omega (arith, subst (λ (x : Drawn). countAfter x (s .args .count) * 5 ≤ length (s .args .numbers .now)) (d .d .given .1) (s .pre))
 
 returns : tie.Need-returns
 unfolding countAfter putOf
