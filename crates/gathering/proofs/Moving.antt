@@ -73,11 +73,11 @@ outline-waits c es = go (eqb (c .carriage .pen .number) 0)
 not-full : (k n : ℕ) → eqb k n ≡ false → k ≡ n → ⊥
 not-full k n h e = true≢false (sym (eq-eqb k n e) ∙ h)
 
-pub overflow-waits : (g : Segment) (k room edges : ℕ) → overflowsOf g k room ≡ true → (0 < waiting (queued edges (lineOf g))) × (k ≡ room)
+pub overflow-waits : (g : Segment) (k room : ℕ) (es : List Edge) (edges : ℕ) (c : Core) → overflowsOf g k room ≡ true → (0 < waiting (leaves es edges c (lineOf g))) × (k ≡ room)
 unfolding overflowsOf queued lineOf waiting
-overflow-waits segment.Nothing k room edges h = absurd (true≢false (sym h))
-overflow-waits segment.PenUp k room edges h = absurd (true≢false (sym h))
-overflow-waits (segment.Line a b) k room edges h = (omega arith, eqb-true k room h)
+overflow-waits segment.Nothing k room es edges c h = absurd (true≢false (sym h))
+overflow-waits segment.PenUp k room es edges c h = absurd (true≢false (sym h))
+overflow-waits (segment.Line a b) k room es edges c h = (omega arith, eqb-true k room h)
 
 pub drawn-fits : (g : Segment) (l : Rect) (p k room n : ℕ) → overflowsOf g k room ≡ false → k ≤ room → room * 5 ≤ n → countAfter (drawnOf l p g) k * 5 ≤ n
 unfolding overflowsOf drawnOf countAfter

@@ -849,7 +849,7 @@ returns-2 c =
     let t = full f .before in
     let q = shifts t in
     let l = loop q in
-    let h = overflow-waits (t .shift .result .segment) _ _ (l .loop .polygon .edges) (sym (f .before .overflows .ensures) ∙ f .if10 .taken) in
+    let h = overflow-waits (t .shift .result .segment) _ _ (l .loop .store .edges) (l .loop .polygon .edges) (coreOf (l .loop .settings) (t .shift .result .hand) (l .loop .polygon)) (sym (f .before .overflows .ensures) ∙ f .if10 .taken) in
     let g = far-filled (stays f) (h .0) (h .1) in
     (c .gathered2 .ensures ∙ (λ i. stoppedAs (whole (q .next .result .reader) (o .core-of2 .ensures i) (l .loop .store) (line-left k i)) (q .next .result .at) (l .loop .count) listFull) ∙ g .0, g .1)
 
