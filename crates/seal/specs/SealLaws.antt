@@ -6,12 +6,11 @@ use mathlib.Core.List.{List, [], _∷_}
 use Prim.Native.Nat.{ℕ, zero, suc, _+_, _*_, _-_, _≤_, _<_}
 use native.Mathlib.Nat.{eq-of-mul-eq-mul-left}
 use native.Mathlib.Omega.{arith}
-use lib.IntN.{ℤ, pos, negsuc, _+ℤ_, _*ℤ_}
+use lib.IntN.{ℤ, pos, _+ℤ_, _*ℤ_}
 use lib.ListN.{length, getD, set, drop, length-set}
 use lib.Seq.{getD-set-other}
 use Rattle.exact.specs.Whole.{_≡?_, ≡?-true, eq-≡?, is, Z, up, dn, up-mul, dn-mul, add-parts, ≡-parts, ext}
-use Rattle.rows.specs.declared.Row.{Row}
-use Rattle.rows.specs.Rows.{row, lay, rowAt, withRow}
+use Rattle.rows.specs.Rows.{rowAt, withRow}
 use Rattle.seal.specs.Seal.{weighed, checksumOf, version, headerOf, sealedOf, headerSound, sumStands}
 
 -- ---- the header

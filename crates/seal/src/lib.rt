@@ -1,7 +1,7 @@
 // The seal of a machine's list of numbers: a row before them with the version of the form and a sum, each number times its place.
 // So a list that was kept in memory or on disk, and changed there, is told from one that the calls wrote. specs/Seal.antt says what is computed, specs/SealLaws.antt what it tells.
 ghost use mathlib.Core.Path.{_≡_};
-ghost use lib.ListN.{length, drop};
+ghost use lib.ListN.{drop};
 ghost use Rattle.seal.specs.Seal as S;
 ghost use Rattle.seal.specs.Light as L;
 use rows::Row;

@@ -1,23 +1,22 @@
 -- A list that passes is light: its numbers are so small that its sum fits (crate seal). Why: each row stands between two rows of literals.
-use mathlib.Core.Path.{_≡_, refl, sym, ap, _∙_, subst}
+use mathlib.Core.Path.{_≡_, refl, sym, subst}
 use mathlib.Core.Bool.{Bool, true, false, cond, _&&_}
 use mathlib.Core.List.{List}
 use Prim.Native.Nat.{ℕ, zero, suc, _+_, _*_, _-_, _≤_, _<_}
 use native.Mathlib.Omega.{arith}
 use borrow.Author.Tests.{ltb-true, ltb-false}
 use lib.Dec.{T, ltb, leb, leb→le}
-use lib.IntN.{ℤ, pos, natAbs, _+ℤ_, _*ℤ_}
+use lib.IntN.{ℤ, pos, natAbs, _+ℤ_}
 use lib.ListN.{length}
 use Rattle.exact.specs.Whole.{_<?_, _≤?_, _≡?_, _≤ᶻ_, ord}
 use Rattle.exact.specs.Fit.{Bd, abs}
 use Rattle.rows.specs.declared.Row.{Row}
 use Rattle.rows.specs.Rows.{row, rowAt}
 use Rattle.seal.specs.Light.{rowCount, headCount, mostAt, LightRow, Light}
-use Rattle.hpgl.specs.declared.Settings.{Settings}
 use Rattle.hpgl.specs.ValidFacts.{and-both}
 use Rattle.saved.specs.Saved.{stateNumbers, positionOf, circleOf, settingsAt}
 use Rattle.soundness.specs.Sound.{betweenOf, fourLow, fourHigh, fiveOf, blankSound, placeSound, numbersSound, numberSound, readerSound, limitsSound, cornersSound, scaleSound, boxSound, settingsSound, placedOf, positionLow, positionHigh, positionSound, penSound, polygonSound, keptSound, positionsSound, partsSound, carriageSound, knownSound, roundOf, centreLow, centreHigh, chordsSound, blanksSound, lineSound, outlineSound, workSound, inkedSound, edgesSound, soundOf}
-use Rattle.soundness.specs.RowTests.{Below, Between, between-true}
+use Rattle.soundness.specs.RowTests.{between-true}
 
 -- the largest number of the rows before the edges
 abbrev most : ℕ

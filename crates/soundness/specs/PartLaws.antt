@@ -1,42 +1,36 @@
 -- What the tests of reader, settings and carriage say: the part that is read is valid, and is written as it was read.
-use mathlib.Core.Path.{_≡_, refl, sym, ap, _∙_, subst}
+use mathlib.Core.Path.{_≡_, refl, sym, ap, _∙_}
 use mathlib.Core.Bool.{Bool, true, false, cond, _&&_}
 use Prim.Native.Nat.{ℕ, zero, suc, _+_, _*_, _/_, _≤_, _<_}
 use native.Mathlib.Nat.{le-div-iff-mul-le}
 use native.Mathlib.Omega.{arith}
 use lib.IntN.{ℤ, pos, negsuc, negℤ, natAbs, _+ℤ_, _*ℤ_}
-use Rattle.exact.specs.Whole.{_<?_, _≤?_, _≡?_, _≤ᶻ_, _<ᶻ_, ord, ≤?-true, <?-true, <?-false, ≡?-true, ≡?-false, le-≤?, lt-<?, ne-≡?, up-mul, dn-mul, add-parts}
+use Rattle.exact.specs.Whole.{_<?_, _≤?_, _≡?_, _≤ᶻ_, _<ᶻ_, ord, ≤?-true, <?-true, ≡?-true, ≡?-false, le-≤?, lt-<?, ne-≡?, up-mul, dn-mul, add-parts}
 use Rattle.exact.specs.Fit.{Bd, abs, abs-mul}
 use Rattle.rows.specs.declared.Row.{Row}
-use Rattle.rows.specs.Rows.{row, flagNumber, flagOf, placeNumber, smallOf, mostByte, mostShort, mostWord}
-use Rattle.rows.specs.RowLaws.{place-back}
-use Rattle.mnemonics.specs.Table.{rows, knownInPolygon}
+use Rattle.rows.specs.Rows.{row, flagNumber, flagOf, smallOf, mostByte, mostShort, mostWord}
+use Rattle.mnemonics.specs.Table.{rows}
 use Rattle.reader.specs.declared.Mode.{Mode}
 use Rattle.reader.specs.declared.Mode.the-variants.{Idle, First, Parameters, InNumber, PassOver, Label}
 use Rattle.reader.specs.declared.Numbers.{Numbers}
-use Rattle.reader.specs.declared.Reader.{Reader}
 use Rattle.numerals.specs.declared.number.Number.{Number}
-use Rattle.reader.specs.Inside.{inside}
-use Rattle.reader.specs.Sizes.{SmallMode, SmallNumber, Small, Readable}
+use Rattle.reader.specs.Sizes.{SmallMode, SmallNumber, Small}
 use Rattle.plane.specs.declared.position.Axis.{Axis}
 use Rattle.plane.specs.declared.position.ExactPosition.{ExactPosition}
 use Rattle.plane.specs.Bounds.{mostProduct, AxisBounds, Locatable}
 use Rattle.plane.specs.Position.{inRangeOf}
 use Rattle.plane.specs.PositionLaws.{in-range, in-range-of}
 use Rattle.hpgl.specs.declared.Position.{Position}
-use Rattle.hpgl.specs.declared.Pen.{Pen}
 use Rattle.hpgl.specs.declared.Polygon.{Polygon}
 use Rattle.hpgl.specs.declared.Settings.{Settings}
 use Rattle.hpgl.specs.declared.Carriage.{Carriage}
-use Rattle.hpgl.specs.declared.Core.{Core}
-use Rattle.hpgl.specs.Numbers.{mostPen}
 use Rattle.hpgl.specs.Place.{axisX, axisY, location, inRange}
-use Rattle.hpgl.specs.Valid.{ValidRange, ValidSettings, Placed, KeptPosition, ValidPolygon, ValidCore}
+use Rattle.hpgl.specs.Valid.{ValidSettings, Placed, KeptPosition, ValidPolygon, ValidCore}
 use Rattle.hpgl.specs.ValidFacts.{and-both, axis-bounds-x, axis-bounds-y, placed-locatable, placed-kept, located-placed}
-use Rattle.saved.specs.SavedReader.{modeTag, modeLetter, modeOf, placeRow, numbersRow, numbersOf, numberRow, numberOf, readerOf}
+use Rattle.saved.specs.SavedReader.{modeTag, modeLetter, modeOf, placeRow, numbersRow, numbersOf, numberRow, numberOf}
 use Rattle.saved.specs.Saved.{flagIn, smallIn, limitsRow, cornersRow, scaleRow, windowRow, boxOf, fromOf, toOf, rangeX, rangeY, settingsOf, positionRow, penRow, polygonRow, positionOf, penOf, pm0Of, polygonOf, carriageOf}
-use Rattle.soundness.specs.Sound.{betweenOf, fourLow, fourHigh, fiveOf, placeSound, numbersSound, numberSound, readerSound, limitsSound, cornersSound, scaleSound, boxSound, settingsSound, roomOf, locatableOf, placedOf, positionLow, positionHigh, positionSound, penSound, polygonSound, keptSound, positionsSound, partsSound, carriageSound}
-use Rattle.soundness.specs.RowTests.{both, split, Below, Between, between-true, between-of, bd-of, bd-low, bd-high, Four, four-true, four-of, five-of, zero-same, flag-same, small-is, small-same, small-most, place-is, place-same, flag-bounds, flag-zero}
+use Rattle.soundness.specs.Sound.{betweenOf, fourLow, fourHigh, fiveOf, placeSound, numbersSound, numberSound, limitsSound, cornersSound, scaleSound, boxSound, settingsSound, roomOf, locatableOf, placedOf, positionLow, positionHigh, positionSound, penSound, polygonSound, keptSound, positionsSound, partsSound, carriageSound}
+use Rattle.soundness.specs.RowTests.{both, Between, between-true, between-of, bd-of, bd-low, bd-high, Four, four-true, four-of, five-of, zero-same, flag-same, small-is, small-same, small-most, place-is, place-same, flag-bounds, flag-zero}
 
 -- ---- the reader
 

@@ -1,11 +1,11 @@
 -- What the tests of a row say, both ways; and a number that passed its test is written as it was read.
-use mathlib.Core.Path.{_≡_, refl, sym, ap, _∙_, subst}
-use mathlib.Core.Bool.{Bool, true, false, cond, _&&_}
+use mathlib.Core.Path.{_≡_, refl, ap, _∙_}
+use mathlib.Core.Bool.{Bool, true, false, _&&_}
 use Prim.Native.Nat.{ℕ, zero, suc, _≤_, _<_}
 use native.Mathlib.Omega.{arith}
 use borrow.Author.Tests.{le-leb}
 use lib.IntN.{ℤ, pos, negsuc, negℤ, natAbs}
-use Rattle.exact.specs.Whole.{_<?_, _≤?_, _≡?_, _≤ᶻ_, _<ᶻ_, ord, up-neg, dn-neg, ≤?-true, le-≤?, le-<?, lt-<?}
+use Rattle.exact.specs.Whole.{_<?_, _≤?_, _≤ᶻ_, ord, up-neg, dn-neg, ≤?-true, le-≤?, le-<?}
 use Rattle.exact.specs.Fit.{Bd, abs}
 use Rattle.rows.specs.declared.Row.{Row}
 use Rattle.rows.specs.Rows.{row, flagNumber, flagOf, placeNumber, smallOf, mostByte}

@@ -1,29 +1,27 @@
 -- A list passes the tests just if it is what save writes of a usable machine; and so what it holds is usable, and every machine of the calls passes.
-use mathlib.Core.Path.{_≡_, refl, sym, ap, ap₂, _∙_, subst}
-use mathlib.Core.Bool.{Bool, true, false, cond, _&&_}
-use mathlib.Core.List.{List, [], _∷_}
-use Prim.Native.Nat.{ℕ, zero, suc, _+_, _*_, _≤_, _<_}
+use mathlib.Core.Path.{_≡_, refl, sym, ap, _∙_}
+use mathlib.Core.Bool.{true, _&&_}
+use mathlib.Core.List.{List}
+use Prim.Native.Nat.{ℕ, _+_, _≤_}
 use native.Mathlib.Omega.{arith}
-use lib.IntN.{ℤ, pos}
-use lib.ListN.{length, getD, drop}
-use Rattle.exact.specs.Whole.{_≤ᶻ_}
+use lib.IntN.{ℤ}
+use lib.ListN.{length, drop}
 use Rattle.rows.specs.declared.Row.{Row}
-use Rattle.rows.specs.Rows.{row, lay, rowAt, smallOf, mostByte}
+use Rattle.rows.specs.Rows.{lay, rowAt}
 use Rattle.seal.specs.Light.{row-drop}
 use Rattle.reader.specs.Sizes.{Readable}
 use Rattle.hpgl.specs.declared.State.{State}
 use Rattle.hpgl.specs.declared.Settings.{Settings}
 use Rattle.hpgl.specs.declared.Carriage.{Carriage}
-use Rattle.hpgl.specs.Machine.{waiting}
 use Rattle.hpgl.specs.Valid.{Knows, Valid, Usable}
 use Rattle.hpgl.specs.Made.{Made}
 use Rattle.hpgl.specs.ValidFacts.{and-both}
 use Rattle.hpgl.specs.ValidKept.{made-usable}
-use Rattle.saved.specs.SavedReader.{placeRow, numbersRow, numberRow, readerOf, readerAt}
-use Rattle.saved.specs.Saved.{stateNumbers, limitsRow, cornersRow, scaleRow, windowRow, settingsOf, settingsAt, positionRow, penRow, polygonRow, penOf, pm0Of, polygonOf, carriageOf, carriageAt, workRow, workAcross, workAlong, workOf, workAt, edgesNumbers, edgesFrom, storeAt, savedOf, loadedOf}
+use Rattle.saved.specs.SavedReader.{numbersRow, numberRow, readerOf, readerAt}
+use Rattle.saved.specs.Saved.{stateNumbers, settingsOf, settingsAt, positionRow, penRow, polygonRow, penOf, pm0Of, polygonOf, carriageOf, carriageAt, workAt, storeAt, savedOf, loadedOf}
 use Rattle.saved.specs.SavedLaws.{saved-back}
-use Rattle.soundness.specs.Sound.{fiveOf, readerSound, placeSound, numbersSound, numberSound, settingsSound, carriageSound, penSound, knownSound, workSound, inkedSound, edgesSound, soundOf, positionSound, polygonSound, placedOf, keptSound}
-use Rattle.soundness.specs.RowTests.{both, between-true}
+use Rattle.soundness.specs.Sound.{readerSound, placeSound, numbersSound, numberSound, settingsSound, carriageSound, knownSound, workSound, inkedSound, edgesSound, soundOf}
+use Rattle.soundness.specs.RowTests.{both}
 use Rattle.soundness.specs.PartLaws as part
 use Rattle.soundness.specs.WorkLaws as last
 

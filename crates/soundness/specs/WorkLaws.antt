@@ -7,13 +7,13 @@ use native.Mathlib.Nat.{add-zero}
 use native.Mathlib.Omega.{arith}
 use borrow.Author.Tests.{eqb-true}
 use lib.Dec.{eqb}
-use lib.IntN.{ℤ, pos, negsuc, negℤ, natAbs, _+ℤ_, _*ℤ_}
+use lib.IntN.{ℤ, pos, negℤ, natAbs, _+ℤ_, _*ℤ_}
 use lib.ListN.{length, getD, drop, drop-of-length-le}
-use lib.Seq.{drop-cons, drop-drop, getD-drop}
-use Rattle.exact.specs.Whole.{_<?_, _≤?_, _≡?_, _≤ᶻ_, _<ᶻ_, ord, ≤?-true, ≤?-false, <?-true, <?-false, ≡?-true, ≡?-false, le-≤?, lt-≤?, lt-<?, le-<?, ne-≡?, eq-≡?, add-parts}
+use lib.Seq.{drop-drop, getD-drop}
+use Rattle.exact.specs.Whole.{_<?_, _≤?_, _≡?_, _≤ᶻ_, _<ᶻ_, ord, ≤?-true, ≡?-true, ≡?-false, le-≤?, lt-≤?, le-<?, ne-≡?, eq-≡?, add-parts}
 use Rattle.exact.specs.Fit.{Bd, abs}
 use Rattle.rows.specs.declared.Row.{Row}
-use Rattle.rows.specs.Rows.{row, lay, rowAt, flagNumber, flagOf, placeNumber, smallOf, mostByte, mostShort}
+use Rattle.rows.specs.Rows.{row, lay, rowAt, flagOf, smallOf, mostByte, mostShort}
 use Rattle.rows.specs.RowLaws.{place-back, small-back}
 use Rattle.seal.specs.Light.{row-drop}
 use Rattle.mnemonics.specs.Table.{rows, knownInPolygon}
@@ -36,10 +36,10 @@ use Rattle.hpgl.specs.declared.Work.the-variants.{Nothing, Line, Chords, Edges}
 use Rattle.hpgl.specs.Machine.{waiting}
 use Rattle.hpgl.specs.Valid.{SmallEdge, ValidCircle, ValidWork, Every, none, more}
 use Rattle.hpgl.specs.ValidFacts.{and-both}
-use Rattle.saved.specs.SavedReader.{modeTag, modeLetter, modeOf, placeRow}
+use Rattle.saved.specs.SavedReader.{modeTag, modeOf, placeRow}
 use Rattle.saved.specs.Saved.{flagIn, smallIn, fromOf, toOf, penRow, polygonRow, blankRow, lineRow, chordsRow, edgesRow, acrossRow, alongRow, workRow, workAcross, workAlong, centreOf, wayOf, angleIn, circleOf, workOf, edgeRow, edgesNumbers, edgeOf, edgesFrom}
 use Rattle.soundness.specs.Sound.{betweenOf, fourLow, fourHigh, fiveOf, centreLow, centreHigh, blankSound, boxSound, knownSound, endsOf, roundOf, chordsSound, blanksSound, lineSound, outlineSound, workSound, inkedSound, edgesSound}
-use Rattle.soundness.specs.RowTests.{both, Below, Between, between-true, between-of, bd-of, bd-low, bd-high, Four, four-true, four-of, five-of, zero-same, flag-same, small-is, small-same, small-most, flag-bounds, flag-zero, blank-same}
+use Rattle.soundness.specs.RowTests.{both, between-true, between-of, bd-of, bd-low, bd-high, Four, four-true, four-of, five-of, zero-same, flag-same, small-is, small-same, flag-bounds, blank-same}
 use Rattle.soundness.specs.PartLaws.{PlaceLaw, box-law, box-of, unless, unless-of, mode-on, mode-off, not-both}
 
 -- ---- what is being read in polygon mode is known there

@@ -1,7 +1,7 @@
 -- What a program reads of draw and look, in a list of five numbers or more, are 01's values.
 use mathlib.Core.Path.{_≡_, refl, ap, _∙_}
 use mathlib.Core.Bool.{Bool}
-use mathlib.Core.List.{List, [], _∷_}
+use mathlib.Core.List.{List, []}
 use Prim.Native.Nat.{_≤_}
 use lib.IntN.{ℤ, natAbs}
 use lib.ListN.{length}

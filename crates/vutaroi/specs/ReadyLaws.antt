@@ -1,8 +1,8 @@
 -- A call goes on just if its list is a machine's; each list that a call leaves is one, so nobody is kept out.
-use mathlib.Core.Path.{_≡_, refl, sym, ap, ap₂, _∙_}
+use mathlib.Core.Path.{_≡_, refl, sym, ap, _∙_}
 use mathlib.Core.Bool.{Bool, true, false, cond, _&&_}
 use mathlib.Core.List.{List, [], _∷_, _++_, append-nil}
-use Prim.Native.Nat.{ℕ, _+_, _-_, _≤_, _<_}
+use Prim.Native.Nat.{ℕ, _+_, _-_, _≤_}
 use native.Mathlib.Omega.{arith}
 use borrow.Author.Tests.{eqb-true, le-ltb, eq-eqb, ltb-false}
 use lib.Dec.{eqb, ltb}
@@ -10,7 +10,7 @@ use lib.IntN.{ℤ}
 use lib.ListN.{length, take, drop, length-drop, drop-of-length-le}
 use Rattle.clip.specs.declared.Rect.{Rect}
 use Rattle.rows.specs.Rows.{rowAt}
-use Rattle.seal.specs.Seal.{sealedOf, headerOf, headerSound, sumStands}
+use Rattle.seal.specs.Seal.{sealedOf, headerSound, sumStands}
 use Rattle.seal.specs.SealLaws.{seal-header, seal-sum, seal-back}
 use Rattle.seal.specs.Light.{Light}
 use Rattle.hpgl.specs.declared.State.{State}

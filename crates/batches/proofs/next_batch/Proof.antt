@@ -8,8 +8,8 @@ use native.Mathlib.Omega.{arith}
 use borrow.Author.Tests.{eqb-true, ltb-true, ltb-false}
 use lib.Dec.{eqb, ltb}
 use lib.IntN.{ℤ}
-use lib.ListN.{length, take, drop, getD}
-use lib.Seq.{drop-drop, getD-drop, length-take-le, length-front}
+use lib.ListN.{length, take, drop}
+use lib.Seq.{drop-drop, length-take-le, length-front}
 use Rattle.hpgl.specs.declared.Stroke.{Stroke}
 use Rattle.feeding.specs.DrawOff.{listFull}
 use Rattle.feeding.specs.Feed.{Feed, feedFrom, laidNumbers}

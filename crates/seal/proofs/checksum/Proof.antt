@@ -30,7 +30,7 @@ module _ (r : tie.After-row-at Inv-loop μ-loop) where
   k = r .before .before .loop .k
 
   more : k < 127
-  more = r .before .loop-test .taken
+  more = omega (arith, r .before .loop-test .taken)
 
   light : Light zs
   light = r .before .before .before .pre

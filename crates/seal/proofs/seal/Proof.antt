@@ -8,7 +8,7 @@ use lib.ListN.{drop}
 use mir.Syntax.{w64}
 use Rattle.exact.specs.Fit.{m64, got}
 use Rattle.rows.specs.Rows.{row, withRow}
-use Rattle.seal.specs.Seal.{version, checksumOf, headerOf, sealedOf}
+use Rattle.seal.specs.Seal.{version, checksumOf, headerOf}
 use Rattle.seal.specs.SealLaws.{with-header}
 use Rattle.seal.specs.Light.{Light, header-long}
 use Rattle.seal.proofs.seal.Statement.{statement}

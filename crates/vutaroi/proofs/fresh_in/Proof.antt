@@ -3,7 +3,7 @@ use borrow.Author.Needs.{needs}
 use mathlib.Core.Path.{_≡_, sym, ap, _∙_, subst}
 use mir.Syntax.{w64}
 use Rattle.exact.specs.Fit.{arg}
-use Rattle.hpgl.specs.Machine.{rect, freshState, freshNumber}
+use Rattle.hpgl.specs.Machine.{rect}
 use Rattle.hpgl.specs.Valid.{Usable}
 use Rattle.hpgl.specs.ValidKept.{usable-fresh}
 use Rattle.machine.specs.declared.Started.{Started}

@@ -6,7 +6,7 @@ use mathlib.Core.Path.{_≡_, refl, sym, ap, _∙_, subst}
 use mathlib.Core.List.{List}
 use native.Mathlib.Omega.{arith}
 use lib.IntN.{ℤ}
-use lib.ListN.{length, drop}
+use lib.ListN.{drop}
 use Rattle.seal.specs.Seal.{sealedOf}
 use Rattle.seal.specs.Light.{Light}
 use Rattle.hpgl.specs.Machine.{takeState, takeNumber}

@@ -50,10 +50,10 @@ sum-requires : tie.Need-sum-requires Inv-loop μ-loop
 sum-requires c κs = search needs
 
 -- from a block that is painted back to the turn of the loop, and to where it was read
-turn : tie.After-paint-block Inv-loop μ-loop → tie.In-loop Inv-loop μ-loop
+abbrev turn : tie.After-paint-block Inv-loop μ-loop → tie.In-loop Inv-loop μ-loop
 turn p = search
 
-read : tie.After-paint-block Inv-loop μ-loop → tie.After-read Inv-loop μ-loop
+abbrev read : tie.After-paint-block Inv-loop μ-loop → tie.After-read Inv-loop μ-loop
 read p = search
 
 sub-turns : tie.Need-sub-turns Inv-loop μ-loop

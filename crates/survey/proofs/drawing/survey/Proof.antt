@@ -71,10 +71,10 @@ loop-less : tie.Need-loop-less Inv-loop μ-loop
 loop-less c = let t : tie.In-loop Inv-loop μ-loop = search in omega (arith, t .loop-test .taken)
 
 -- from a block that is counted back to the turn of the loop, and to where it was read
-turn : tie.After-block-of Inv-loop μ-loop → tie.In-loop Inv-loop μ-loop
+abbrev turn : tie.After-block-of Inv-loop μ-loop → tie.In-loop Inv-loop μ-loop
 turn t = search
 
-read : tie.After-block-of Inv-loop μ-loop → tie.After-read Inv-loop μ-loop
+abbrev read : tie.After-block-of Inv-loop μ-loop → tie.After-read Inv-loop μ-loop
 read t = search
 
 loop-again : tie.Need-loop-again Inv-loop μ-loop

@@ -1,6 +1,6 @@
 -- `vectors::calls::go` is safe, and keeps a machine that may be used. Assumes nothing.
 use mathlib.Core.Path.{_≡_}
-use Prim.Native.Nat.{ℕ, _<_}
+use Prim.Native.Nat.{ℕ}
 use borrow.Author.Needs.{needs}
 use Rattle.hpgl.specs.declared.State.{State}
 use Rattle.hpgl.specs.Valid.{Usable}
