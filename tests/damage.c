@@ -1,0 +1,166 @@
+/* Damages machines in seven ways and hands them to every call: only 40, 41 or strokes within the machine's own hard limits may come, and nothing may
+ * be written after a refusal. The count of machines is the argument; the status is 0 if all went well.
+ *
+ *   cc -std=c99 -Wall -Wextra -Werror -pedantic -O1 -Iinclude -o target/damage tests/damage.c target/staticlib/libvutaroi.a && target/damage 200000
+ */
+#include <inttypes.h>
+#include <stdio.h>
+#include <stdlib.h>
+#include <string.h>
+
+#include "vutaroi.h"
+
+enum { HEADER = 5, REST = VUTAROI_NUMBERS - HEADER, RECORDS = 64, WAYS = 7 };
+
+static const char *const ways[WAYS] = {"a bit", "an odd number", "zeros", "random numbers", "a short list", "an exchange", "three odd numbers, half with a mended sum"};
+
+/* Where a list of five rows begins that has the hard limits, after the header and three rows of the reader. */
+enum { LIMITS = HEADER + 15 };
+
+static const char *const drawings[] = {
+    "IN;SP1;PA0,0;PD100,50;PU;", "SP2;SC0,100,0,100;PA50,50;CI20;", "SP3;PM0;PD10,10,20,20;PM2;EP;", "SP4;IW-100,-100,100,100;EA500,500;", "SP5;RO90;PA100,100;ER300,300;",
+    "SP6;PM;PD1,1,2,2,3,3;PM1;PD5,5;", "SP7;CI100,5", "IP-1000,-1000,1000,1000;SC-5,5,-5,5;SP8;PD3,3;CI1;", "LBhello", "SP1;PD5", "P", "SP1;PA10,10;XX5,5",
+};
+
+/* Numbers at the edges of what a state may hold. */
+static const int64_t odd[] = {-1, 0, 1, 2, 3, 5, 40, 112, 113, 255, 256, 720, 721, 1024, 1025, 32767, 32768, -32768, 1000000, 1000001, -1000001, 2000000000000001, INT32_MAX, INT64_MAX, INT64_MIN};
+
+static struct {
+    long refused, too_short, went_on, strokes, wrong, written;
+} seen;
+
+static uint64_t seed = 88172645463325252ULL;
+
+static uint64_t any(uint64_t below) {
+    seed ^= seed << 13;
+    seed ^= seed >> 7;
+    seed ^= seed << 17;
+    return seed % below;
+}
+
+static int64_t any_odd(void) { return odd[any(sizeof odd / sizeof *odd)]; }
+
+/* A machine that was fed up to four drawings, some of them cut short, some with no record free. */
+static vutaroi_machine made(void) {
+    vutaroi_machine m;
+    vutaroi_fresh(-10000, -7000, 10000, 7000, &m, VUTAROI_NUMBERS);
+    for (uint64_t k = any(4) + 1; k > 0; k--) {
+        const char *d = drawings[any(sizeof drawings / sizeof *drawings)];
+        size_t cut = any(3) ? strlen(d) : any(strlen(d) + 1), at = 0;
+        while (at < cut) {
+            int64_t records[8 * VUTAROI_RECORD];
+            uint64_t answer[2];
+            size_t room = any(2) * 8 * VUTAROI_RECORD;
+            uint8_t number = vutaroi_feed(&m, VUTAROI_NUMBERS, (const uint8_t *)d + at, cut - at, records, room, answer, 2);
+            at += answer[0];
+            if (number == VUTAROI_FULL) break;
+        }
+    }
+    return m;
+}
+
+static void mend(vutaroi_machine *m) {
+    uint64_t sum = 0;
+    for (uint64_t i = 0; i < REST; i++) sum += (i + 1) * (uint64_t)m->numbers[HEADER + i];
+    m->numbers[1] = (int64_t)sum;
+}
+
+/* Damages a machine in one way, and answers the count to lend it with. */
+static size_t damage(vutaroi_machine *m, int way) {
+    uint64_t i = any(VUTAROI_NUMBERS), j = any(VUTAROI_NUMBERS);
+    int64_t kept = m->numbers[i];
+    switch (way) {
+    case 0: m->numbers[i] = (int64_t)((uint64_t)kept ^ (uint64_t)1 << any(64)); break;
+    case 1: m->numbers[i] = any_odd(); break;
+    case 2: memset(m, 0, sizeof *m); break;
+    case 3:
+        for (int k = 0; k < VUTAROI_NUMBERS; k++) m->numbers[k] = (int64_t)any(UINT64_MAX);
+        break;
+    case 4: return any(VUTAROI_NUMBERS);
+    case 5:
+        m->numbers[i] = m->numbers[j];
+        m->numbers[j] = kept;
+        break;
+    default:
+        for (int k = 0; k < 3; k++) m->numbers[HEADER + any(REST)] = any_odd();
+        if (any(2)) mend(m);
+    }
+    return VUTAROI_NUMBERS;
+}
+
+/* Whether a call refused the machine, which then has to be as it was. */
+static int refused(uint8_t number, const vutaroi_machine *before, const vutaroi_machine *after) {
+    if (number != VUTAROI_NO_MACHINE && number != VUTAROI_SHORT) {
+        seen.went_on++;
+        return 0;
+    }
+    if (memcmp(before, after, sizeof *before) != 0) seen.written++;
+    if (number == VUTAROI_NO_MACHINE) seen.refused++;
+    else seen.too_short++;
+    return 1;
+}
+
+static void check_stroke(const vutaroi_machine *m, const int64_t *stroke) {
+    const int64_t *limits = m->numbers + LIMITS;
+    int good = 1 <= stroke[0] && stroke[0] <= 8;
+    for (int i = 1; i < VUTAROI_RECORD; i += 2)
+        good = good && limits[0] <= stroke[i] && stroke[i] <= limits[2] && limits[1] <= stroke[i + 1] && stroke[i + 1] <= limits[3];
+    seen.strokes++;
+    if (!good) seen.wrong++;
+}
+
+/* The calls that take many bytes. */
+static void check_bytes(const vutaroi_machine *m, size_t count, const char *bytes, int plot) {
+    vutaroi_machine after = *m;
+    int64_t records[RECORDS * VUTAROI_RECORD];
+    uint64_t answer[2] = {9, 9};
+    uint8_t number = (plot ? vutaroi_plot : vutaroi_feed)(&after, count, (const uint8_t *)bytes, strlen(bytes), records, RECORDS * VUTAROI_RECORD, answer, 2);
+    if (refused(number, m, &after)) {
+        if (answer[0] != 9 || answer[1] != 9) seen.written++;
+        return;
+    }
+    for (uint64_t i = 0; i < answer[1]; i++)
+        if (records[VUTAROI_RECORD * i] != 0) check_stroke(m, records + VUTAROI_RECORD * i);
+}
+
+/* Lists that are too short for what a call answers: 41, whatever the machine is. */
+static void check_short(const vutaroi_machine *m, size_t count) {
+    vutaroi_machine after = *m;
+    int64_t five[5], records[VUTAROI_RECORD];
+    uint64_t answer[2];
+    if (vutaroi_draw(&after, count, five, any(5)) != VUTAROI_SHORT) seen.wrong++;
+    if (vutaroi_look(&after, count, five, any(5)) != VUTAROI_SHORT) seen.wrong++;
+    if (vutaroi_feed(&after, count, (const uint8_t *)"x", 1, records, VUTAROI_RECORD, answer, any(2)) != VUTAROI_SHORT) seen.wrong++;
+    if (vutaroi_plot(&after, count, (const uint8_t *)"x", 1, records, VUTAROI_RECORD, answer, any(2)) != VUTAROI_SHORT) seen.wrong++;
+    if (memcmp(m, &after, sizeof after) != 0) seen.written++;
+}
+
+/* Every call on one machine; whether it was taken for one. */
+static int check(const vutaroi_machine *m, size_t count) {
+    int64_t five[5];
+    vutaroi_machine after = *m;
+    int taken = !refused(vutaroi_look(&after, count, five, 5), m, &after);
+    refused(vutaroi_take(&after, count, (uint8_t)any(256)), m, &after);
+    after = *m;
+    uint8_t kind = vutaroi_draw(&after, count, five, 5);
+    if (!refused(kind, m, &after) && kind == VUTAROI_STROKE) check_stroke(m, five);
+    check_bytes(m, count, "SP1;PD0,0,5,5;", 0);
+    check_bytes(m, count, "@;PA1,1;PD9,9;CI5;", 1);
+    check_short(m, count);
+    return taken;
+}
+
+int main(int argc, char **argv) {
+    long machines = argc > 1 ? atol(argv[1]) : 200000, tried[WAYS] = {0}, taken[WAYS] = {0};
+    for (long k = 0; k < machines; k++) {
+        int way = (int)any(WAYS);
+        vutaroi_machine good = made(), m = good;
+        size_t count = damage(&m, way);
+        if (count == VUTAROI_NUMBERS && memcmp(&m, &good, sizeof m) == 0) continue;
+        tried[way]++;
+        taken[way] += check(&m, count);
+    }
+    for (int way = 0; way < WAYS; way++) printf("%8ld damaged by %s: %ld taken for machines\n", tried[way], ways[way], taken[way]);
+    printf("%ld calls refused with 40, %ld with 41; %ld went on; %ld strokes; %ld wrong; %ld wrote after a refusal\n", seen.refused, seen.too_short, seen.went_on, seen.strokes, seen.wrong, seen.written);
+    return seen.wrong != 0 || seen.written != 0;
+}
