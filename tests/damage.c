@@ -14,7 +14,7 @@ enum { HEADER = 5, REST = VUTAROI_NUMBERS - HEADER, RECORDS = 64, WAYS = 7 };
 
 static const char *const ways[WAYS] = {"a bit", "an odd number", "zeros", "random numbers", "a short list", "an exchange", "three odd numbers, half with a mended sum"};
 
-/* Where a list of five rows begins that has the hard limits, after the header and three rows of the reader. */
+/* Where the hard limits stand: after the header and the three rows of the reader. */
 enum { LIMITS = HEADER + 15 };
 
 static const char *const drawings[] = {
