@@ -8,9 +8,9 @@ ghost use Rattle.hpgl.specs.Valid.{Usable};
 ghost use Rattle.feeding.specs.DrawOff.{listFull};
 ghost use Rattle.batches.specs.Batches.{Batched, blanks, begun};
 ghost use Rattle.batches.specs.Records.{strokeAt, strokesOf, PenAt, PensBefore};
-use basics::numbers::LIST_FULL;
 use hpgl::Stroke;
 use machine::Machine;
+use rulekit::numbers::LIST_FULL;
 
 // A batch's strokes at most.
 const MOST: usize = 64;

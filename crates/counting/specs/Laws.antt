@@ -7,7 +7,7 @@ use native.Mathlib.Omega.{arith}
 use borrow.Author.Tests.{eq-eqb, ne-eqb}
 use lib.ListN.{length, drop, getD, drop-of-length-le}
 use lib.Seq.{drop-cons}
-use Rattle.desk.specs.Sums.{added}
+use Rattle.console.specs.Sums.{added}
 use Rattle.counting.specs.Names.{letterOf, letterBefore, letterEnd}
 use Rattle.counting.specs.Refusals.{groupIn, harmOf, harmIn}
 use Rattle.counting.specs.Verdict.{totalOf}

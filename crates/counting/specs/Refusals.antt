@@ -4,7 +4,7 @@ use mathlib.Core.List.{List, [], _∷_}
 use Prim.Native.Nat.{ℕ, suc, _+_, _*_, _/_, _%_}
 use lib.Dec.{eqb, ltb}
 use lib.ListN.{set, getD, replicate}
-use Rattle.desk.specs.Sums.{added}
+use Rattle.console.specs.Sums.{added}
 use Rattle.words.specs.Names.{refusedKind, harmlessOf}
 use Rattle.counting.specs.declared.names.Letters.{Letters}
 use Rattle.counting.specs.declared.refusals.Refusals.{Refusals}

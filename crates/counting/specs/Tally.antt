@@ -14,7 +14,7 @@ use Rattle.hpgl.specs.declared.Drawn.{Drawn}
 use Rattle.hpgl.specs.declared.Drawn.the-variants as drawn
 use Rattle.hpgl.specs.declared.Segment.{Segment}
 use Rattle.hpgl.specs.declared.Segment.the-variants as segment
-use Rattle.desk.specs.Sums.{added}
+use Rattle.console.specs.Sums.{added}
 use Rattle.measure.specs.Root.{across, rootOf}
 use Rattle.counting.specs.declared.tally.Extent.{Extent}
 use Rattle.counting.specs.declared.tally.End.{End}

@@ -3,7 +3,7 @@ use mathlib.Core.Bool.{Bool, true, false, cond}
 use mathlib.Core.List.{List, [], _∷_}
 use Prim.Native.Nat.{ℕ}
 use lib.Dec.{ltb}
-use Rattle.desk.specs.Sums.{added}
+use Rattle.console.specs.Sums.{added}
 use Rattle.counting.specs.declared.tally.Tally.{Tally}
 
 -- segments of which the limits leave a part or nothing

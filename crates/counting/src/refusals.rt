@@ -2,7 +2,7 @@
 ghost use mathlib.Core.Path.{_≡_};
 ghost use Rattle.counting.specs.Refusals as S;
 use super::names::Letters;
-use desk::sum;
+use console::sum;
 use words::harmless;
 use words::refused_kind;
 

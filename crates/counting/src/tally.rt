@@ -3,7 +3,7 @@ ghost use mathlib.Core.Path.{_≡_};
 ghost use Rattle.counting.specs.Tally as S;
 use clip::Point;
 use clip::Rect;
-use desk::sum;
+use console::sum;
 use hpgl::Drawn;
 use hpgl::Segment;
 use hpgl::Stroke;

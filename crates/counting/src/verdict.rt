@@ -2,7 +2,7 @@
 ghost use mathlib.Core.Path.{_≡_};
 ghost use Rattle.counting.specs.Verdict as S;
 use super::tally::Tally;
-use desk::sum;
+use console::sum;
 
 // Segments of which the limits leave a part or nothing.
 pub fn cut_off(t: Tally) -> u64

@@ -6,13 +6,13 @@ ghost use Prim.Native.Nat.{_+_, _≤_};
 ghost use lib.ListN.{length, drop};
 ghost use Rattle.drawings.specs.Part.{indexOf, Within};
 use libc::STDOUT_FILENO;
-use lines::word::Limits;
-use lines::word::Whole;
-use lines::word::limits_of;
-use lines::word::whole_of;
 use plotting::files::End;
 use plotting::files::Sink;
 use plotting::files::run;
+use textlines::word::Limits;
+use textlines::word::Whole;
+use textlines::word::limits_of;
+use textlines::word::whole_of;
 
 // Where a word of a line starts and ends.
 struct Part {

@@ -27,8 +27,8 @@ use Rattle.hpgl.specs.Machine.{noEdge, waiting, workAfter}
 use Rattle.hpgl.specs.Segment.{segmentOf, drawnOf, segment-drawn}
 use Rattle.feeding.specs.Plot.{Plot}
 use Rattle.hpgl.specs.Cases.{never}
-use Rattle.basics.specs.declared.places.Frame.{Frame}
-use Rattle.basics.specs.Hand.{frameOf}
+use Rattle.rulekit.specs.declared.places.Frame.{Frame}
+use Rattle.rulekit.specs.Hand.{frameOf}
 use Rattle.queue.specs.First.{edgePlace}
 use Rattle.queue.specs.Corners.{vertexAt, nextCornerOf, segmentIn, BeginsAt, segment-waits}
 use Rattle.gathering.specs.Gather.{whole, countAfter, putOf, batchedOf, chordsLeft}

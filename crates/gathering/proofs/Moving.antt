@@ -40,9 +40,9 @@ use Rattle.hpgl.specs.Rules.{done, letters, inked, longer, epRule, endRule, act
 use Rattle.hpgl.specs.Machine.{waiting, stored, queued, readerAfter, workAfter}
 use Rattle.hpgl.specs.Segment.{workSegment, segmentOf, drawnOf, segment-drawn, SmallSegment, segment-small}
 use Rattle.feeding.specs.Plot.{Plot, refusal}
-use Rattle.basics.specs.declared.hand.Hand.{Hand}
-use Rattle.basics.specs.declared.hand.Pointed.{Pointed}
-use Rattle.basics.specs.Hand.{coreOf, lineOf, pointedOf}
+use Rattle.rulekit.specs.declared.hand.Hand.{Hand}
+use Rattle.rulekit.specs.declared.hand.Pointed.{Pointed}
+use Rattle.rulekit.specs.Hand.{coreOf, lineOf, pointedOf}
 use Rattle.gathering.specs.Gather.{whole, stoppedAs, Gathers, countAfter, withStroke, recordOf, putOf, outlineOf, overflowsOf}
 use Rattle.gathering.specs.Far.{Far, Reached}
 use Rattle.gathering.proofs.Turns.{leaves, Turn, turn-valid}

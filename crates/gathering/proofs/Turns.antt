@@ -37,9 +37,9 @@ use Rattle.hpgl.specs.Rules.{done, refuse, letters, moveTo, pointCost, storePoi
 use Rattle.hpgl.specs.Machine.{waiting, stored, queued, readerAfter, applied, acted, takeState, takeNumber}
 use Rattle.hpgl.specs.Valid.{Valid}
 use Rattle.hpgl.specs.ValidKept.{valid-take}
-use Rattle.basics.specs.declared.hand.Hand.{Hand}
+use Rattle.rulekit.specs.declared.hand.Hand.{Hand}
 use Rattle.hpgl.specs.Ends.{pairs-end}
-use Rattle.basics.specs.Hand.{carriageOf, coreOf, nameNumber, name-parts}
+use Rattle.rulekit.specs.Hand.{carriageOf, coreOf, nameNumber, name-parts}
 use Rattle.gathering.specs.Gather.{whole, heavyOf}
 
 -- what waits after an action, from the edges es, of which the polygon had k, to the core d

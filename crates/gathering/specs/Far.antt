@@ -16,8 +16,8 @@ use Rattle.hpgl.specs.declared.State.{State}
 use Rattle.hpgl.specs.Machine.{waiting}
 use Rattle.feeding.specs.Plot.{Mark, Plot, laidMarks}
 use Rattle.hpgl.specs.Valid.{Valid}
-use Rattle.basics.specs.declared.places.Frame.{Frame}
-use Rattle.basics.specs.Hand.{frameOf}
+use Rattle.rulekit.specs.declared.places.Frame.{Frame}
+use Rattle.rulekit.specs.Hand.{frameOf}
 use Rattle.gathering.specs.Gather.{whole, gatherFrom}
 
 -- marks that were stored before what f stores

@@ -2,7 +2,7 @@
 ghost use mathlib.Core.Path.{_≡_};
 ghost use Prim.Native.Nat.{_+_, _*_, _<_, _≤_};
 ghost use Rattle.measure.specs.Root.{Root, most, across};
-use desk::apart;
+use console::apart;
 
 // The whole part of a root, by halves: it lies from low on, and before high.
 pub fn root(n: u64) -> u64

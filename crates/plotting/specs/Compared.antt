@@ -3,7 +3,7 @@ use mathlib.Core.Bool.{cond}
 use mathlib.Core.List.{List, [], _∷_}
 use Prim.Native.Nat.{ℕ, suc}
 use lib.Dec.{eqb}
-use Rattle.lines.specs.Text.{lineEnd}
+use Rattle.textlines.specs.Text.{lineEnd}
 
 -- how many bytes two texts have in common at their start
 unfoldable pub common : List ℕ → List ℕ → ℕ

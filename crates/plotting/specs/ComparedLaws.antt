@@ -6,7 +6,7 @@ use native.Mathlib.Numerals.{add-one}
 use borrow.Author.Tests.{eq-eqb, ne-eqb}
 use lib.ListN.{length, getD, drop, drop-of-length-le}
 use lib.Seq.{drop-cons}
-use Rattle.lines.specs.Text.{lineEnd}
+use Rattle.textlines.specs.Text.{lineEnd}
 use Rattle.plotting.specs.Compared.{common, lineEnds}
 
 module _ (a b : List ℕ) (i : ℕ) (h : i < length a) where

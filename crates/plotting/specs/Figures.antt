@@ -5,7 +5,7 @@ use Prim.Native.Nat.{ℕ}
 use Prim.Native.String.{String}
 use lib.IntN.{pos, negℤ}
 use Rattle.hpgl.specs.Trace.{bytesFrom, bytes}
-use Rattle.lines.specs.Text.{lineEnd, strokeText, refusalText}
+use Rattle.textlines.specs.Text.{lineEnd, strokeText, refusalText}
 use Rattle.decimals.specs.Decimal.{digitsWithin, decimal, natural, whole}
 
 abbrev line : String → List ℕ

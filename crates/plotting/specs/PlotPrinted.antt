@@ -19,8 +19,8 @@ use Rattle.feeding.specs.FeedLaws.{draw-less}
 use Rattle.feeding.specs.Plot.{Mark, stroke, refusal, Plot, stop, drew, took, drawOff, takeOn, plotFrom, numbersOf}
 use Rattle.hpgl.specs.Valid.{Every, more}
 use Rattle.feeding.specs.WhatMarksTell.{Told}
-use Rattle.lines.specs.Text.{strokeText, refusalText, markAt, marksBelow}
-use Rattle.lines.specs.TextLaws.{mark-refusal, mark-stroke, stroke-some, refusal-some}
+use Rattle.textlines.specs.Text.{strokeText, refusalText, markAt, marksBelow}
+use Rattle.textlines.specs.TextLaws.{mark-refusal, mark-stroke, stroke-some, refusal-some}
 use Rattle.plotting.specs.Printed.{strokeLine, drawnLine, byteLine, drawnLines, takenLine, printed}
 
 -- a mark's line, where the plot has `before` bytes before it

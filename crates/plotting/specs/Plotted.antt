@@ -7,7 +7,7 @@ use lib.ListN.{length, drop}
 use Rattle.hpgl.specs.Valid.{Usable}
 use Rattle.machine.specs.declared.Machine.{Machine}
 use Rattle.machine.specs.declared.Gathered.{Gathered}
-use Rattle.lines.specs.Text.{longest}
+use Rattle.textlines.specs.Text.{longest}
 use Rattle.decimals.specs.Puts.{Puts}
 use Rattle.plotting.specs.declared.Plot.{Plot}
 use Rattle.plotting.specs.Printed.{printed}

@@ -21,7 +21,7 @@ use Rattle.machine.specs.declared.Machine.{Machine}
 use Rattle.machine.specs.declared.Started.{Started}
 use Rattle.machine.specs.Calls.{startedOf}
 use Rattle.machine.specs.Gather.{plottedOf}
-use Rattle.lines.specs.Text.{marksBelow}
+use Rattle.textlines.specs.Text.{marksBelow}
 use Rattle.decimals.specs.Puts.{Puts, puts-nothing, puts-then}
 use Rattle.plotting.specs.declared.Plot.{Plot}
 use Rattle.plotting.specs.Printed.{printed}

@@ -7,7 +7,7 @@ use Rattle.hpgl.specs.declared.Stroke.{Stroke}
 use Rattle.hpgl.specs.declared.Drawn.{Drawn}
 use Rattle.hpgl.specs.declared.Drawn.the-variants as drawn
 use Rattle.hpgl.specs.Machine.{waiting, takeState, takeNumber, drawState, drawAnswer}
-use Rattle.lines.specs.Text.{strokeText, refusalText}
+use Rattle.textlines.specs.Text.{strokeText, refusalText}
 
 abbrev pub strokeLine : Stroke → List ℕ
 strokeLine s = strokeText (pos (s .pen)) (s .x0) (s .y0) (s .x1) (s .y1)

@@ -9,8 +9,8 @@ use lib.ListN.{length}
 use Rattle.clip.specs.declared.Rect.{Rect}
 use Rattle.hpgl.specs.declared.State.{State}
 use Rattle.hpgl.specs.Machine.{rect, freshState, freshNumber}
-use Rattle.lines.specs.declared.word.Limits.{Limits}
-use Rattle.lines.specs.declared.word.Limits.the-variants as limits
+use Rattle.textlines.specs.declared.word.Limits.{Limits}
+use Rattle.textlines.specs.declared.word.Limits.the-variants as limits
 use Rattle.plotting.specs.declared.files.Finished.{Finished}
 use Rattle.plotting.specs.declared.files.End.{End}
 use Rattle.plotting.specs.declared.files.End.the-variants.{NoLimits, Refused, Undelivered}

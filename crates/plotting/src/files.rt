@@ -16,8 +16,8 @@ use super::edge::hand;
 use super::edge::read_block;
 use super::emptied;
 use super::fill;
-use lines::word::Limits;
 use machine::Machine;
+use textlines::word::Limits;
 
 // A proved loop has to end: this one reads so many blocks of at most 64 KB, which no file uses up.
 const BLOCKS: u64 = 0x800000000000;

@@ -10,10 +10,10 @@ ghost use Rattle.plotting.specs.Plotted.{Ready, Plotted, begunOf, emptie
 mod edge;
 pub mod files;
 
-use lines::LONGEST;
-use lines::mark_lines;
 use machine::Gathered;
 use machine::Machine;
+use textlines::LONGEST;
+use textlines::mark_lines;
 
 // One plot stores at most so many marks, of five numbers each.
 const MARKS: usize = 256;

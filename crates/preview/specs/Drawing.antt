@@ -9,7 +9,7 @@ use Rattle.feeding.specs.Feed.{feedOf}
 use Rattle.drive.specs.Drive.{endsEqualOf}
 use Rattle.feed.specs.declared.Listed.{Listed}
 use Rattle.feed.specs.Fed.{listedOf}
-use Rattle.desk.specs.Sums.{added}
+use Rattle.console.specs.Sums.{added}
 use Rattle.preview.specs.declared.strokes.Drawing.{Drawing}
 use Rattle.preview.specs.Refusals.{notedOf}
 

@@ -4,7 +4,7 @@ use mathlib.Core.List.{List}
 use Prim.Native.Nat.{ℕ}
 use lib.Dec.{eqb, ltb}
 use lib.ListN.{set, replicate}
-use Rattle.desk.specs.Sums.{added}
+use Rattle.console.specs.Sums.{added}
 use Rattle.feeding.specs.DrawOff.{listFull}
 use Rattle.preview.specs.declared.refusals.Refusals.{Refusals}
 

@@ -2,16 +2,16 @@
 //
 // With four arguments the hard limits are these: left, bottom, right, top.
 ghost use Rattle.hpgl.specs.Valid.{Usable};
-use lines::word::Limits;
 use machine::Machine;
+use textlines::word::Limits;
 
 mod refusals;
 mod sheet;
 mod strokes;
 
-use desk::bad_arguments;
-use desk::limits;
-use desk::say;
+use console::bad_arguments;
+use console::limits;
+use console::say;
 use refusals::list;
 use sheet::Sheet;
 use sheet::head;

@@ -3,11 +3,11 @@ ghost use mathlib.Core.Path.{_≡_};
 ghost use Rattle.preview.specs.Refusals.{noneOf, keptOf, notedOf};
 use super::sheet::Sheet;
 use super::sheet::row;
-use basics::numbers::LIST_FULL;
-use desk::say;
-use desk::say_natural;
-use desk::say_words;
-use desk::sum;
+use console::say;
+use console::say_natural;
+use console::say_words;
+use console::sum;
+use rulekit::numbers::LIST_FULL;
 use words::cause;
 
 pub const SHOWN: usize = 40;

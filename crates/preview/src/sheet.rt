@@ -2,10 +2,10 @@
 ghost use mathlib.Core.Path.{_≡_};
 ghost use Prim.Native.Nat.{min, max};
 ghost use Rattle.preview.specs.Sheet.{sheetOf};
-use desk::apart;
-use desk::say;
-use desk::say_natural;
-use desk::say_whole;
+use console::apart;
+use console::say;
+use console::say_natural;
+use console::say_whole;
 
 // Where the sheet begins, and how wide and high it is; the height of a letter, from line to line, and from the middle of a dot to its edge; where
 // sheet and text stand on the page; and how many millimetres the page has.

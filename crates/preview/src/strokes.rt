@@ -2,24 +2,24 @@
 ghost use Prim.Native.Nat.{_+_, _≤_};
 ghost use lib.ListN.{length, take};
 ghost use mathlib.Core.Path.{_≡_};
-ghost use Rattle.desk.specs.Sums.{largest};
+ghost use Rattle.console.specs.Sums.{largest};
 ghost use Rattle.hpgl.specs.Valid.{Usable};
 ghost use Rattle.preview.specs.Drawing.{dotCount, dotsOf, afterOf, stepOf, begunOf};
 use super::refusals::Refusals;
 use super::refusals::none;
 use super::refusals::noted;
-use desk::sum;
+use console::sum;
 use drive::ends_equal;
 use feed::Listed;
 use feed::feed_list;
 use hpgl::Stroke;
 use libc::STDIN_FILENO;
 use machine::Machine;
-use text::flush;
-use text::put_byte;
-use text::put_bytes;
-use text::put_natural;
-use text::put_whole;
+use output::flush;
+use output::put_byte;
+use output::put_bytes;
+use output::put_natural;
+use output::put_whole;
 
 // A proved loop has to end: these go round so often at most, which no input uses up.
 const TURNS: u64 = 0x800000000000;

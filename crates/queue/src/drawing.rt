@@ -9,7 +9,6 @@ ghost use Rattle.hpgl.specs.Segment as G;
 ghost use Rattle.hpgl.specs.Valid.{ValidSettings, SmallEdge, ValidCircle, ValidWork};
 ghost use Rattle.queue.specs.First as S;
 ghost use Rattle.queue.specs.Corners as C;
-use basics::places::limits_of;
 use clip::Clipped;
 use clip::Point;
 use clip::Rect;
@@ -26,6 +25,7 @@ use plane::circle::vertex_point;
 use plane::turn::Rows;
 use plane::turn::rows_of;
 use plane::turn::turned_by;
+use rulekit::places::limits_of;
 
 fn stroke_of(pen: u8, c: Clipped) -> Drawn
     ensures { λ r. ⌜ r ≡ M.strokeOf pen c ⌝ }

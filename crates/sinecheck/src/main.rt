@@ -9,12 +9,12 @@ fn put_line(buffer: &mut [u8; 65536], used: usize, table: &[u32], tenths: u16) -
     requires { ⌜ now table ≡ S.sines ⌝ }
 {
     let angle = tenths as i64;
-    let angle_end = text::put_whole(buffer, used, angle);
-    let sine_start = text::put_byte(buffer, angle_end, b' ');
-    let sine_end = text::put_whole(buffer, sine_start, sines::sine(table, angle));
-    let cosine_start = text::put_byte(buffer, sine_end, b' ');
-    let cosine_end = text::put_whole(buffer, cosine_start, sines::cosine(table, angle));
-    text::put_byte(buffer, cosine_end, b'\n')
+    let angle_end = output::put_whole(buffer, used, angle);
+    let sine_start = output::put_byte(buffer, angle_end, b' ');
+    let sine_end = output::put_whole(buffer, sine_start, sines::sine(table, angle));
+    let cosine_start = output::put_byte(buffer, sine_end, b' ');
+    let cosine_end = output::put_whole(buffer, cosine_start, sines::cosine(table, angle));
+    output::put_byte(buffer, cosine_end, b'\n')
 }
 
 fn main() {
@@ -24,5 +24,5 @@ fn main() {
     for tenths in 0..TURN {
         used = put_line(&mut buffer, used, &table, tenths);
     }
-    text::flush(&buffer, used);
+    output::flush(&buffer, used);
 }

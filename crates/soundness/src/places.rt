@@ -3,16 +3,16 @@ ghost use mathlib.Core.Path.{_≡_};
 ghost use Rattle.plane.specs.Bounds.{AxisBounds};
 ghost use Rattle.hpgl.specs.Valid.{ValidSettings};
 ghost use Rattle.soundness.specs.Sound as S;
-use basics::places::axis_x;
-use basics::places::axis_y;
-use basics::places::located;
-use basics::places::reachable;
 use exact::floor_div;
 use hpgl::Position;
 use hpgl::Settings;
 use plane::position::Axis;
 use plane::position::ExactPosition;
 use plane::position::in_range;
+use rulekit::places::axis_x;
+use rulekit::places::axis_y;
+use rulekit::places::located;
+use rulekit::places::reachable;
 
 // The largest product of an offset and a span.
 const MOST_PRODUCT: i64 = 2_000_000_000_000_000;

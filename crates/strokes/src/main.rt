@@ -1,7 +1,7 @@
 // The program strokes of document 01: HP-GL on standard input, a line for each stroke and each refused byte on standard output.
 //
 // With four arguments the hard limits are these: left, bottom, right, top.
-use desk::limits;
+use console::limits;
 use libc::STDERR_FILENO;
 use libc::STDIN_FILENO;
 use libc::STDOUT_FILENO;

@@ -14,7 +14,7 @@ use Rattle.machine.specs.declared.Ran.{Ran}
 use Rattle.machine.specs.declared.Worked.{Worked}
 use Rattle.machine.specs.Calls.{workedOf}
 use Rattle.machine.specs.Run.{runOf}
-use Rattle.desk.specs.Sums.{added}
+use Rattle.console.specs.Sums.{added}
 use Rattle.counting.specs.declared.refusals.Refusals.{Refusals}
 use Rattle.survey.specs.declared.drawing.Drawing.{Drawing}
 use Rattle.survey.specs.declared.drawing.Surveyed.{Surveyed}

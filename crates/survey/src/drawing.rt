@@ -2,6 +2,7 @@
 ghost use mathlib.Core.Path.{_≡_};
 ghost use Rattle.hpgl.specs.Valid.{Usable};
 ghost use Rattle.survey.specs.Drawing as S;
+use console::sum;
 use counting::names::Letters;
 use counting::names::letters_before;
 use counting::names::name_of;
@@ -12,7 +13,6 @@ use counting::refusals::noted;
 use counting::tally::Tally;
 use counting::tally::counted;
 use counting::tally::nothing;
-use desk::sum;
 use hpgl::Segment;
 use libc::STDIN_FILENO;
 use machine::Machine;

@@ -3,14 +3,14 @@
 //
 // With four arguments the hard limits are these: left, bottom, right, top.
 use clip::Rect;
-use lines::word::Limits;
 use machine::Machine;
+use textlines::word::Limits;
 
 mod drawing;
 mod page;
 
-use desk::bad_arguments;
-use desk::limits;
+use console::bad_arguments;
+use console::limits;
 use drawing::survey;
 use page::page;
 

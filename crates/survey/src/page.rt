@@ -1,6 +1,10 @@
 // The page, from its title to its verdict.
 use super::drawing::Surveyed;
 use clip::Rect;
+use console::say;
+use console::say_natural;
+use console::say_whole;
+use console::say_words;
 use counting::refusals::GROUPS;
 use counting::refusals::PLACES;
 use counting::refusals::Refusals;
@@ -14,10 +18,6 @@ use counting::tally::Tally;
 use counting::verdict::cut_off;
 use counting::verdict::fit;
 use counting::verdict::total;
-use desk::say;
-use desk::say_natural;
-use desk::say_whole;
-use desk::say_words;
 use words::harmless;
 use words::of_kind;
 

@@ -3,8 +3,8 @@ use crate::outcome::put_number;
 use drive::Move;
 use drive::Moves;
 use drive::Place;
-use text::put_byte;
-use text::put_bytes;
+use output::put_byte;
+use output::put_bytes;
 
 fn wide(bits: u32) -> u64 {
     bits as u64

@@ -8,9 +8,9 @@ use crate::outcome::put_refusal;
 use crate::sequence::MARKS;
 use crate::sequence::ROOM;
 use machine::Machine;
-use text::put_byte;
-use text::put_bytes;
-use text::put_natural;
+use output::put_byte;
+use output::put_bytes;
+use output::put_natural;
 
 // The most bytes of a line that is fed.
 pub const BYTES: usize = 4096;

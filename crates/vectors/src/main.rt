@@ -26,10 +26,10 @@ use libc::STDIN_FILENO;
 use machine::Machine;
 use machine::Stroke;
 use outcome::put_number;
+use output::put_byte;
+use output::put_bytes;
 use sequence::ROOM;
 use sequence::write_out;
-use text::put_byte;
-use text::put_bytes;
 
 // The hard limits of the lines to come.
 struct Limits {
@@ -213,7 +213,7 @@ fn run_lines(text: &[u8]) {
         }
         used = put_byte(&mut out, used, b'\n');
     }
-    text::flush(&out, used);
+    output::flush(&out, used);
 }
 
 fn main() {

@@ -2,10 +2,10 @@
 use machine::Drawn;
 use machine::Look;
 use machine::Stroke;
-use text::put_byte;
-use text::put_bytes;
-use text::put_natural;
-use text::put_whole;
+use output::put_byte;
+use output::put_bytes;
+use output::put_natural;
+use output::put_whole;
 
 // A name and a number: x=5.
 pub fn put_number(out: &mut [u8; 65536], used: usize, name: &[u8], value: i64) -> usize {

@@ -1,7 +1,7 @@
 // Prints the table of refusals as docs/USERS.md has it: number, cause, what to do.
-use desk::say;
-use desk::say_natural;
-use desk::say_words;
+use console::say;
+use console::say_natural;
+use console::say_words;
 use words::advice;
 use words::cause;
 

@@ -46,13 +46,13 @@ use Rattle.hpgl.specs.Valid.{ValidActed, ValidEvent, ValidAction}
 use Rattle.hpgl.specs.ValidFacts.{edge-small, limits-small}
 use Rattle.hpgl.specs.ReaderKept.{step-event}
 use Rattle.hpgl.specs.ValidKept.{valid-event}
-use Rattle.basics.specs.declared.places.Frame.{Frame}
-use Rattle.basics.specs.declared.hand.Hand.{Hand}
+use Rattle.rulekit.specs.declared.places.Frame.{Frame}
+use Rattle.rulekit.specs.declared.hand.Hand.{Hand}
 use Rattle.queue.specs.Alone.{action-alone}
 use Rattle.queue.specs.First.{place-within}
 use Rattle.queue.specs.Corners.{segmentIn}
-use Rattle.basics.specs.Hand.{frameOf, handOf, carriageOf, coreOf, lineOf, pointedOf, locationIn}
-use Rattle.basics.specs.Locating.{hand-locatable}
+use Rattle.rulekit.specs.Hand.{frameOf, handOf, carriageOf, coreOf, lineOf, pointedOf, locationIn}
+use Rattle.rulekit.specs.Locating.{hand-locatable}
 use Rattle.gathering.specs.Gather.{whole, stoppedAs, gatherFrom, overflowsOf}
 use Rattle.gathering.specs.Far.{Far, Reached, Batching}
 use Rattle.gathering.proofs.Turns.{leaves, Turn, reader-on, reader-off, acting, none-acts, refused-acts, ended-acts, settled-acts, pair-acts, pair-refused, named-acts, unknown-acts, unstored}

@@ -9,7 +9,7 @@ use denote.Ref.{now}
 use Rattle.feeding.specs.Plot.{Plot, laidMarks}
 use Rattle.feeding.specs.PlotLaws.{plot-stored}
 use Rattle.machine.specs.Gather.{plottedOf}
-use Rattle.lines.specs.Text.{marksBelow}
+use Rattle.textlines.specs.Text.{marksBelow}
 use Rattle.decimals.specs.Puts.{Puts, puts-same}
 use Rattle.plotting.specs.Plotted.{movedOf, mostMarks}
 use Rattle.plotting.specs.PlotPrinted.{markLines}

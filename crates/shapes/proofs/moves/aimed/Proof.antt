@@ -3,7 +3,7 @@ use mathlib.Core.Path.{refl}
 use borrow.Author.Needs.{needs}
 use Rattle.hpgl.specs.Place.{absolutePosition}
 use Rattle.hpgl.specs.Rules.{aimed}
-use Rattle.basics.specs.Hand.{frameOf}
+use Rattle.rulekit.specs.Hand.{frameOf}
 use Rattle.shapes.proofs.moves.aimed.Statement.{statement}
 use Rattle.shapes.proofs.moves.aimed.Tie as tie
 

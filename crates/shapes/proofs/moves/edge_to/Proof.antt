@@ -2,7 +2,7 @@
 use mathlib.Core.Path.{refl}
 use borrow.Author.Needs.{needs}
 use Rattle.hpgl.specs.Rules.{edgeTo}
-use Rattle.basics.specs.Locating.{here-locatable}
+use Rattle.rulekit.specs.Locating.{here-locatable}
 use Rattle.shapes.proofs.moves.edge_to.Statement.{statement}
 use Rattle.shapes.proofs.moves.edge_to.Tie as tie
 

@@ -1,7 +1,7 @@
 -- The proof of `line_of`: by its arms.
 use borrow.Author.Needs.{needs}
 use mathlib.Core.Path.{refl}
-use Rattle.basics.specs.Hand.{lineOf}
+use Rattle.rulekit.specs.Hand.{lineOf}
 use Rattle.shapes.proofs.moves.line_of.Statement.{statement}
 use Rattle.shapes.proofs.moves.line_of.Tie as tie
 

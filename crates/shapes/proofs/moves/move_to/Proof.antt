@@ -4,9 +4,9 @@ use borrow.Author.Needs.{needs}
 use Rattle.clip.specs.Reach.{SmallPoint}
 use Rattle.plane.specs.Turn.{turnedBy}
 use Rattle.hpgl.specs.Rules.{done, inked, moveTo}
-use Rattle.basics.specs.declared.hand.Hand.{Hand}
-use Rattle.basics.specs.Hand.{lineOf, location-in, page-in}
-use Rattle.basics.specs.Locating.{frame-rows, hand-near}
+use Rattle.rulekit.specs.declared.hand.Hand.{Hand}
+use Rattle.rulekit.specs.Hand.{lineOf, location-in, page-in}
+use Rattle.rulekit.specs.Locating.{frame-rows, hand-near}
 use Rattle.shapes.proofs.moves.move_to.Statement.{statement}
 use Rattle.shapes.proofs.moves.move_to.Tie as tie
 

@@ -1,7 +1,7 @@
 -- The proof of `name_number`: by polygon mode and, there, by what the table says.
 use mathlib.Core.Path.{refl}
 use borrow.Author.Needs.{needs}
-use Rattle.basics.specs.Hand.{nameNumber}
+use Rattle.rulekit.specs.Hand.{nameNumber}
 use Rattle.shapes.proofs.moves.name_number.Statement.{statement}
 use Rattle.shapes.proofs.moves.name_number.Tie as tie
 

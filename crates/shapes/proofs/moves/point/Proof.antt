@@ -2,8 +2,8 @@
 use mathlib.Core.Path.{refl, _∙_}
 use borrow.Author.Needs.{needs}
 use Rattle.hpgl.specs.Rules.{goTo, pairRule}
-use Rattle.basics.specs.Hand.{pointedOf, location-in}
-use Rattle.basics.specs.Locating.{aim-needs, aim-locatable}
+use Rattle.rulekit.specs.Hand.{pointedOf, location-in}
+use Rattle.rulekit.specs.Locating.{aim-needs, aim-locatable}
 use Rattle.shapes.proofs.moves.point.Statement.{statement}
 use Rattle.shapes.proofs.moves.point.Tie as tie
 

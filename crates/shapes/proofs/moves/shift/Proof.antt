@@ -3,8 +3,8 @@ use mathlib.Core.Path.{refl, sym, ap, _∙_}
 use borrow.Author.Needs.{needs}
 use Rattle.hpgl.specs.Rules.{refuse, goTo, pairRule}
 use Rattle.hpgl.specs.ValidFacts.{in-range-small}
-use Rattle.basics.specs.Hand.{lineOf, locationIn, location-in}
-use Rattle.basics.specs.Locating.{aim-needs, aim-locatable}
+use Rattle.rulekit.specs.Hand.{lineOf, locationIn, location-in}
+use Rattle.rulekit.specs.Locating.{aim-needs, aim-locatable}
 use Rattle.shapes.proofs.moves.shift.Statement.{statement}
 use Rattle.shapes.proofs.moves.shift.Tie as tie
 

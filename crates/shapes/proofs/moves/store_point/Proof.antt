@@ -8,8 +8,8 @@ use Rattle.hpgl.specs.Numbers.{pointBytes, penBytes}
 use Rattle.hpgl.specs.Rules.{edgeTo, storePoint}
 use Rattle.hpgl.specs.ValidFacts.{cost-most}
 use Rattle.hpgl.specs.declared.Position.{Position}
-use Rattle.basics.specs.declared.hand.Hand.{Hand}
-use Rattle.basics.specs.Hand.{pointedOf, locationIn}
+use Rattle.rulekit.specs.declared.hand.Hand.{Hand}
+use Rattle.rulekit.specs.Hand.{pointedOf, locationIn}
 use Rattle.shapes.proofs.moves.store_point.Statement.{statement}
 use Rattle.shapes.proofs.moves.store_point.Tie as tie
 

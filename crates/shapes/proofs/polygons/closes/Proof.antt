@@ -2,7 +2,7 @@
 use mathlib.Core.Path.{refl}
 use borrow.Author.Needs.{needs}
 use Rattle.hpgl.specs.Rules.{closes}
-use Rattle.basics.specs.Locating.{here-locatable, first-locatable}
+use Rattle.rulekit.specs.Locating.{here-locatable, first-locatable}
 use Rattle.shapes.proofs.polygons.closes.Statement.{statement}
 use Rattle.shapes.proofs.polygons.closes.Tie as tie
 

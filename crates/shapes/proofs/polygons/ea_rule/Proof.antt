@@ -3,7 +3,7 @@ use mathlib.Core.Path.{refl}
 use borrow.Author.Needs.{needs}
 use Rattle.hpgl.specs.Rules.{eaRule}
 use Rattle.hpgl.specs.ValidFacts.{absolute-locatable}
-use Rattle.basics.specs.Locating.{first-two-small}
+use Rattle.rulekit.specs.Locating.{first-two-small}
 use Rattle.shapes.proofs.polygons.ea_rule.Statement.{statement}
 use Rattle.shapes.proofs.polygons.ea_rule.Tie as tie
 

@@ -3,7 +3,7 @@ use mathlib.Core.Path.{refl}
 use borrow.Author.Needs.{needs}
 use Rattle.hpgl.specs.Rules.{erRule}
 use Rattle.hpgl.specs.ValidFacts.{placed-offset, relative-locatable}
-use Rattle.basics.specs.Locating.{first-two-small}
+use Rattle.rulekit.specs.Locating.{first-two-small}
 use Rattle.shapes.proofs.polygons.er_rule.Statement.{statement}
 use Rattle.shapes.proofs.polygons.er_rule.Tie as tie
 

@@ -3,7 +3,7 @@ use mathlib.Core.Path.{refl}
 use borrow.Author.Needs.{needs}
 use borrow.Author.Tests.{le-leb, lt-leb}
 use Rattle.hpgl.specs.Rules.{pm1In}
-use Rattle.basics.specs.Locating.{first-locatable}
+use Rattle.rulekit.specs.Locating.{first-locatable}
 use Rattle.shapes.proofs.polygons.pm1_in.Statement.{statement}
 use Rattle.shapes.proofs.polygons.pm1_in.Tie as tie
 
