@@ -7,15 +7,17 @@ use mathlib.Core.Bool.{Bool, true, false, cond}
 use mathlib.Core.List.{List, [], _∷_}
 use Prim.Native.Nat.{ℕ, zero, suc, _+_, _*_, _≤_, _<_}
 use native.Mathlib.Omega.{arith}
+use native.Mathlib.Nat.{mul-le-mul, le-refl, add-mul, mul-assoc, suc-mul}
 use lib.Dec.{ltb, eqb}
-use lib.IntN.{ℤ, pos, negℤ, _+ℤ_, _*ℤ_}
-use lib.ListN.{length}
+use lib.IntN.{pos, negℤ, _*ℤ_}
+use lib.ListN.{length, drop}
 use borrow.Author.Tests.{ltb-true, ltb-false, eqb-true, eqb-false}
-use Rattle.exact.specs.Whole.{_≤ᶻ_, _<ᶻ_, Z}
+use Rattle.exact.specs.Whole.{Z, ord}
+use Rattle.exact.specs.Laws.{neg-*ℤ}
 use Rattle.exact.specs.Divide.{nearestDiv}
-use Rattle.exact.specs.Nearest.{nearest-only}
+use Rattle.exact.specs.Nearest.{nearest-only, nearest-times}
 use Rattle.numerals.specs.Number.{signedOf}
-use Rattle.numerals.specs.Numeral.{Digits, worthFrom}
+use Rattle.numerals.specs.Numeral.{Digits, worth, worthFrom, exactly}
 
 -- 10^k
 abbrev pub ten : ℕ → ℕ
@@ -92,3 +94,70 @@ tail-nearest true m v k t h (none e f) = let o = ten-pos k in falls m v (ten k) 
 tail-nearest true m v k t h (below l) = let o = ten-pos k in falls m v (ten k) 0 o (omega (arith, l)) (omega (arith, o))
 tail-nearest true m v k t h (equal e) = let o = ten-pos k in falls m v (ten k) 0 o (omega (arith, e)) (omega (arith, o))
 tail-nearest true m v k t h (above l) = let o = ten-pos k in falls m v (ten k) 1 o (omega (arith, h)) (omega (arith, l))
+
+-- ---- a whole text
+
+-- digits before and after
+spread : (v : ℕ) (ds : List ℕ) → worthFrom v ds ≡ v * ten (length ds) + worthFrom 0 ds
+spread v [] = omega arith
+spread v (d ∷ ds) =
+    let p = ten (length ds) in
+    let e : (v * 10 + d) * p + worthFrom 0 ds ≡ v * (10 * p) + worthFrom (0 + d) ds = omega (arith, spread (0 + d) ds, add-mul 0 d p, add-mul (v * 10) d p, mul-assoc v 10 p) in
+    spread (v * 10 + d) ds ∙ e
+
+worth-small : (ds : List ℕ) → Digits ds → worthFrom 0 ds < ten (length ds)
+worth-small [] h = omega arith
+worth-small (d ∷ ds) h =
+    let p = ten (length ds) in
+    let e : worthFrom (0 + d) ds < 10 * p = omega (arith, mul-le-mul (h .0) (le-refl p), spread (0 + d) ds, worth-small ds (h .1), suc-mul d p, add-mul 0 d p) in
+    e
+
+-- nothing to round
+sharp : (negative : Bool) (m p : ℕ) → 1 ≤ p → signedOf negative m ≡ nearestDiv (signedOf negative (m * p)) (pos p)
+unfolding signedOf
+sharp negative m p o =
+    let e : m ≡ m + 0 = omega arith in
+    let f : m * p + 0 ≡ m * p = omega arith in
+    ap (signedOf negative) e ∙ go negative ∙ ap (λ (n : ℕ). nearestDiv (signedOf negative n) (pos p)) f
+  where
+    go : (negative : Bool) → signedOf negative (m + 0) ≡ nearestDiv (signedOf negative (m * p + 0)) (pos p)
+    go false = rises m 0 p 0 o (omega arith) (omega (arith, o))
+    go true = falls m 0 p 0 o (omega arith) (omega (arith, o))
+
+signed-times : (negative : Bool) (n k : ℕ) → signedOf negative n *ℤ pos k ≡ signedOf negative (n * k)
+unfolding signedOf
+signed-times false n k = refl
+signed-times true n k = neg-*ℤ (pos n) (pos k)
+
+-- "the nearest ten-thousandth": of w before the point and these decimals after it, (all digits × 10,000) / 10^decimals
+module _ (negative : Bool) (w : ℕ) where
+  abbrev Nearest : ℕ → List ℕ → Type 0
+  Nearest m ds = signedOf negative m ≡ nearestDiv (signedOf negative (worthFrom w ds * 10000)) (pos (ten (length ds)))
+
+  short : (m : ℕ) (ds : List ℕ) → worthFrom w ds * 10000 ≡ m * ten (length ds) → Nearest m ds
+  short m ds e = sharp negative m (ten (length ds)) (ten-pos (length ds)) ∙ ap (λ (n : ℕ). nearestDiv (signedOf negative n) (pos (ten (length ds)))) (sym e)
+
+  long : (a b c d : ℕ) (ds : List ℕ) → Digits ds →
+      Nearest ((((w * 10 + a) * 10 + b) * 10 + c) * 10 + d + carryOf negative (tailFrom 0 ds)) (a ∷ b ∷ c ∷ d ∷ ds)
+  long a b c d ds h =
+      let m = (((w * 10 + a) * 10 + b) * 10 + c) * 10 + d in
+      let p = ten (length ds) in
+      let v = worthFrom 0 ds in
+      let n : (m * p + v) * 10000 ≡ worthFrom m ds * 10000 = omega (arith, spread m ds) in
+      let q : p * 10000 ≡ 10 * (10 * (10 * (10 * p))) = omega arith in
+      let k : 0 + length ds ≡ length ds = omega arith in
+      let t : Stands v (length ds) (tailFrom 0 ds) = subst (λ (j : ℕ). Stands v j (tailFrom 0 ds)) k (tail-stands 0 0 0 ds h (none refl refl)) in
+      tail-nearest negative m v (length ds) (tailFrom 0 ds) (worth-small ds h) t
+      ∙ nearest-times (signedOf negative (m * p + v)) (pos p) (pos 10000) (λ e. omega (arith, ord, ten-pos (length ds), e)) (omega (arith, ord))
+      ∙ (λ i. nearestDiv ((signed-times negative (m * p + v) 10000 ∙ ap (signedOf negative) n) i) (pos (q i)))
+
+  -- for texts of any length: four places, and one more or not by the tail
+  pub text-nearest : (ds : List ℕ) → Digits ds → Nearest (w * 10000 + worth (exactly 4 ds) + carryOf negative (tailFrom 0 (drop 4 ds))) ds
+  unfolding carryOf tailFrom
+  text-nearest [] h = short _ [] (omega arith)
+  text-nearest (a ∷ []) h = short _ (a ∷ []) (omega arith)
+  text-nearest (a ∷ b ∷ []) h = short _ (a ∷ b ∷ []) (omega arith)
+  text-nearest (a ∷ b ∷ c ∷ []) h = short _ (a ∷ b ∷ c ∷ []) (omega arith)
+  text-nearest (a ∷ b ∷ c ∷ d ∷ ds) h =
+      let e : w * 10000 + ((((0 + a) * 10 + b) * 10 + c) * 10 + d) ≡ (((w * 10 + a) * 10 + b) * 10 + c) * 10 + d = omega arith in
+      ap (λ (n : ℕ). signedOf negative (n + carryOf negative (tailFrom 0 ds))) e ∙ long a b c d ds (h .1 .1 .1 .1)
