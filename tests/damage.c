@@ -1,7 +1,6 @@
 /* Damages machines in seven ways and hands them to every call: only 40, 41 or strokes within the machine's own hard limits may come, and nothing may
- * be written after a refusal. The count of machines is the argument; the status is 0 if all went well.
- *
- *   cc -std=c99 -Wall -Wextra -Werror -pedantic -O1 -Iinclude -o target/damage tests/damage.c target/staticlib/libvutaroi.a && target/damage 200000
+ * be written after a refusal. A machine is taken for one before it is damaged, and afterwards only where its sum was mended. The count of machines is
+ * the argument; the status is 0 if all went well. tests/boundary compiles and runs it.
  */
 #include <inttypes.h>
 #include <stdio.h>
@@ -82,7 +81,10 @@ static size_t damage(vutaroi_machine *m, int way) {
         m->numbers[j] = kept;
         break;
     default:
-        for (int k = 0; k < 3; k++) m->numbers[HEADER + any(REST)] = any_odd();
+        for (int k = 0; k < 3; k++) {
+            uint64_t place = HEADER + any(REST);
+            m->numbers[place] = any_odd();
+        }
         if (any(2)) mend(m);
     }
     return VUTAROI_NUMBERS;
@@ -150,16 +152,27 @@ static int check(const vutaroi_machine *m, size_t count) {
     return taken;
 }
 
+/* Whether look takes it for a machine. */
+static int stands(const vutaroi_machine *m) {
+    int64_t five[5];
+    return vutaroi_look(m, VUTAROI_NUMBERS, five, 5) == 0;
+}
+
 int main(int argc, char **argv) {
     long machines = argc > 1 ? atol(argv[1]) : 200000, tried[WAYS] = {0}, taken[WAYS] = {0};
+    if (vutaroi_version() != VUTAROI_VERSION) seen.wrong++;
     for (long k = 0; k < machines; k++) {
         int way = (int)any(WAYS);
         vutaroi_machine good = made(), m = good;
+        if (!stands(&good)) seen.wrong++;
         size_t count = damage(&m, way);
         if (count == VUTAROI_NUMBERS && memcmp(&m, &good, sizeof m) == 0) continue;
         tried[way]++;
         taken[way] += check(&m, count);
     }
+    /* only a mended sum may make another machine, and without one nothing was tried of strokes */
+    for (int way = 0; way < WAYS - 1; way++) seen.wrong += taken[way];
+    if (taken[WAYS - 1] == 0 || seen.strokes == 0) seen.wrong++;
     for (int way = 0; way < WAYS; way++) printf("%8ld damaged by %s: %ld taken for machines\n", tried[way], ways[way], taken[way]);
     printf("%ld calls refused with 40, %ld with 41; %ld went on; %ld strokes; %ld wrong; %ld wrote after a refusal\n", seen.refused, seen.too_short, seen.went_on, seen.strokes, seen.wrong, seen.written);
     return seen.wrong != 0 || seen.written != 0;

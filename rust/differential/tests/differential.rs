@@ -16,20 +16,22 @@ fn setting(name: &str, usual: u64) -> u64 {
     }
 }
 
-/// The bytes that a run generates unless told otherwise.
+/// The seed of a run, and the bytes that it generates, unless told otherwise.
+const SEED: u64 = 20_260_101;
 const BYTES: u64 = 2_000_000;
 
 /// The family's share of the bytes. It fails with the shortest input that shows a difference, and
-/// where a full run does not reach all of these numbers and both kinds of paint.
+/// where a full run of the usual seed does not reach all of these numbers and both kinds of paint;
+/// another seed may miss one by chance.
 fn search(family: Family, numbers: &[usize]) {
-    let (seed, bytes) = (setting("SEED", 20_260_101), setting("BYTES", BYTES));
+    let (seed, bytes) = (setting("SEED", SEED), setting("BYTES", BYTES));
     let (generated, tally) =
         match hunt::<Machine>(family, seed, bytes as usize * family.share() / 100 + 1) {
             Ok(seen) => seen,
             Err(finding) => panic!("{finding}"),
         };
     println!("{family:?}: seed {seed}, {generated} bytes generated, no difference: {tally}");
-    if bytes >= BYTES {
+    if seed == SEED && bytes >= BYTES {
         for &number in numbers {
             assert!(tally.numbers[number] > 0, "{number} was never answered: {tally}");
         }
@@ -95,7 +97,7 @@ fn fresh() {
 #[test]
 fn written_drawings() {
     let folder = concat!(env!("CARGO_MANIFEST_DIR"), "/../../crates/drawings/data");
-    let mut dice = Dice::new(setting("SEED", 20_260_101));
+    let mut dice = Dice::new(setting("SEED", SEED));
     let (mut count, mut tally) = (0, Tally::default());
     for entry in std::fs::read_dir(folder).expect(folder) {
         let path = entry.expect(folder).path();

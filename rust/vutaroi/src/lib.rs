@@ -4,7 +4,7 @@
 //! contracts say what a call does (README.md: what crosses the boundary, and what is not proved
 //! there). Numbers are those of document 01, 0 for none.
 //!
-//! ```no_run
+//! ```
 //! use vutaroi::{Machine, Mark};
 //!
 //! let (mut machine, _) = Machine::fresh(-10000, -7000, 10000, 7000);
@@ -13,6 +13,7 @@
 //! for mark in &marks[..fed.stored] {
 //!     println!("{mark:?}");
 //! }
+//! assert_eq!(marks[0].numbers, [1, 0, 0, 100, 50]);
 //! # Ok::<(), vutaroi::NoMachine>(())
 //! ```
 //!
@@ -208,6 +209,31 @@ mod tests {
         let mut marks = [Mark::default(); 8];
         let fed = kept.plot(b"0;", &mut marks).expect("a machine of the calls");
         assert_eq!((fed.stored, marks[0].numbers), (1, [1, 0, 0, 100, 50]));
+    }
+
+    #[test]
+    fn a_list_is_used_to_its_end() {
+        let (mut machine, _) = Machine::fresh(-10000, -7000, 10000, 7000);
+        let mut strokes = [Stroke::default(); 2];
+        let fed = machine.feed(b"SP1;PD1,1,2,2,3,3;", &mut strokes);
+        assert_eq!(fed, Ok(Fed { taken: 18, stored: 2, number: 21 }));
+        assert_eq!(strokes[1], Stroke { pen: 1, x0: 1, y0: 1, x1: 2, y1: 2 });
+        let mut marks = [Mark::default(); 2];
+        let fed = machine.plot(b"??", &mut marks);
+        assert_eq!(fed, Ok(Fed { taken: 1, stored: 2, number: 21 }));
+        assert_eq!(marks.map(|m| m.numbers), [[1, 2, 2, 3, 3], [0, 1, 1, 0, 0]]);
+    }
+
+    #[test]
+    fn byte_by_byte() {
+        let (mut machine, _) = Machine::fresh(-10000, -7000, 10000, 7000);
+        assert!(b"SP2;PD7,9".iter().all(|&byte| machine.take(byte) == Ok(0)));
+        assert_eq!(machine.draw(), Ok(Drawn::Idle));
+        assert_eq!(machine.take(b';'), Ok(0));
+        assert_eq!(machine.take(b';'), Ok(20));
+        let stroke = Stroke { pen: 2, x0: 0, y0: 0, x1: 7, y1: 9 };
+        assert_eq!(machine.draw(), Ok(Drawn::Stroke(stroke)));
+        assert_eq!(machine.look(), Ok(Look { x: 7, y: 9, pen: 2, down: true, bytes: 0 }));
     }
 
     #[test]
