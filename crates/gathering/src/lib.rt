@@ -145,16 +145,17 @@ fn remains(w: Work, at: usize, end: usize) -> bool
 
 // The number that ends it before what comes next, or 0: all records are used, and a segment needs one, or, where refusals are stored, any byte.
 fn halted(on: bool, w: Work, count: usize, room: usize) -> u8
+    requires { ⌜ count ≤ room ⌝ }
     ensures { λ r. ⌜ r ≡ S.haltedOf on w count room ⌝ }
 {
-    if count == room {
-        if on {
-            return LIST_FULL;
-        }
-        if 0 < waiting(w) {
-            return LIST_FULL;
-        }
+    if count < room {
         return 0;
+    }
+    if on {
+        return LIST_FULL;
+    }
+    if 0 < waiting(w) {
+        return LIST_FULL;
     }
     0
 }

@@ -1079,7 +1079,7 @@ gather-spec =
     located-in-requires
     loop-holds
     (λ c κs. search needs)
-    (λ c κs. search needs)
+    (λ c κs. let l : Loop = search in far l .room)
     (λ c κs. search needs)
     (λ c κs. search needs)
     same-length
