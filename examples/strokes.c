@@ -3,48 +3,124 @@
  *     rt staticlib vutaroi
  *     gcc -Wall -Wextra -O2 -Iinclude examples/strokes.c target/staticlib/libvutaroi.a -o strokes
  *     ./strokes < drawing.hpgl
+ *
+ * The lines of what a read gave are written before the next read, so that a live stream is answered as it comes. A read or a write that fails
+ * is told on standard error, and the status is 1; one that a signal interrupted is tried again, and one that has to wait is waited for.
  */
+#define _POSIX_C_SOURCE 200809L
+#include <errno.h>
 #include <inttypes.h>
+#include <poll.h>
 #include <stdio.h>
+#include <unistd.h>
 
 #include "vutaroi.h"
 
-enum { BLOCK = 65536, ROOM = 4096 };
+enum { BLOCK = 65536, ROOM = 4096, LINE = 128, TEXT = 65536 };
 
 static vutaroi_machine machine;
 static uint8_t block[BLOCK];
 static int64_t records[ROOM * VUTAROI_RECORD];
+static char text[TEXT];
+static size_t used;
 
-static void print_strokes(uint64_t stored)
+/* Whether a call that failed is to be tried again; one that has to wait waits here. */
+static int again(int file, short event)
+{
+    struct pollfd ready = {file, event, 0};
+
+    if (errno == EINTR)
+        return 1;
+    if (errno != EAGAIN && errno != EWOULDBLOCK)
+        return 0;
+    return poll(&ready, 1, -1) >= 0 || errno == EINTR;
+}
+
+static ssize_t read_block(void)
+{
+    ssize_t got;
+
+    do
+        got = read(STDIN_FILENO, block, BLOCK);
+    while (got < 0 && again(STDIN_FILENO, POLLIN));
+    return got;
+}
+
+/* Writes out what is gathered; 0 where a write failed. */
+static int flush(void)
+{
+    size_t done = 0;
+
+    while (done < used) {
+        ssize_t put = write(STDOUT_FILENO, text + done, used - done);
+        if (put > 0)
+            done += (size_t)put;
+        else if (put == 0 || !again(STDOUT_FILENO, POLLOUT))
+            return 0;
+    }
+    used = 0;
+    return 1;
+}
+
+/* The lines of some records, and of a refusal on the byte `place`, where number is one; 0 where a write failed. */
+static int print(uint64_t stored, int number, uint64_t place)
 {
     for (uint64_t i = 0; i < stored; i++) {
         const int64_t *r = records + i * VUTAROI_RECORD;
-        printf("%" PRId64 " %" PRId64 " %" PRId64 " %" PRId64 " %" PRId64 "\n", r[0], r[1], r[2], r[3], r[4]);
+        if (TEXT - used < LINE && !flush())
+            return 0;
+        used += (size_t)snprintf(text + used, LINE, "%" PRId64 " %" PRId64 " %" PRId64 " %" PRId64 " %" PRId64 "\n", r[0], r[1], r[2], r[3], r[4]);
     }
+    if (number == 0 || number == VUTAROI_FULL)
+        return 1;
+    if (TEXT - used < LINE && !flush())
+        return 0;
+    used += (size_t)snprintf(text + used, LINE, "E %d %" PRIu64 "\n", number, place);
+    return 1;
+}
+
+/* The lines of the first bytes of the block, which come after as many as `before`: 0, or the status to end with. */
+static int print_block(size_t count, uint64_t before)
+{
+    size_t at = 0;
+    uint8_t number;
+
+    do {
+        uint64_t answer[2];
+        number = vutaroi_feed(&machine, VUTAROI_NUMBERS, block + at, count - at, records, ROOM * VUTAROI_RECORD, answer, 2);
+        if (number == VUTAROI_NO_MACHINE || number == VUTAROI_SHORT) {
+            fprintf(stderr, "strokes: the machine is damaged (%d)\n", number);
+            return 2;
+        }
+        at += answer[0];
+        if (!print(answer[1], number, before + at)) {
+            perror("strokes: standard output");
+            return 1;
+        }
+    } while (number != 0);
+    if (!flush()) {
+        perror("strokes: standard output");
+        return 1;
+    }
+    return 0;
 }
 
 int main(void)
 {
-    uint64_t taken = 0; /* bytes of all the input */
-    size_t got;
+    uint64_t before = 0; /* bytes of the blocks before */
+    ssize_t got;
+    int status;
 
     vutaroi_fresh(-10000, -7000, 10000, 7000, &machine, VUTAROI_NUMBERS);
-    while ((got = fread(block, 1, BLOCK, stdin)) > 0) {
-        size_t at = 0;
-        uint8_t number;
-        do {
-            uint64_t answer[2];
-            number = vutaroi_feed(&machine, VUTAROI_NUMBERS, block + at, got - at, records, ROOM * VUTAROI_RECORD, answer, 2);
-            if (number == VUTAROI_NO_MACHINE || number == VUTAROI_SHORT) {
-                fprintf(stderr, "strokes: the machine is damaged (%d)\n", number);
-                return 2;
-            }
-            at += answer[0];
-            taken += answer[0];
-            print_strokes(answer[1]);
-            if (number != 0 && number != VUTAROI_FULL)
-                printf("E %d %" PRIu64 "\n", number, taken);
-        } while (number != 0);
+    while ((got = read_block()) > 0) {
+        status = print_block((size_t)got, before);
+        if (status != 0)
+            return status;
+        before += (uint64_t)got;
     }
-    return ferror(stdin) || fflush(stdout) != 0;
+    if (got < 0) {
+        perror("strokes: standard input");
+        return 1;
+    }
+    return 0;
 }

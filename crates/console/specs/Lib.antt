@@ -1,4 +1,3 @@
 pub mod Asked
 pub mod Sums
-pub mod Laws
 pub mod Apart

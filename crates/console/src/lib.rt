@@ -1,15 +1,11 @@
-// What the programs share: hard limits from the arguments; and those of the desk: text on standard output, and sums that stay within 64 bits.
+// What the programs share: hard limits from the arguments; and those of the desk: sums that stay within 64 bits, and how far two numbers are apart.
 ghost use mathlib.Core.Path.{_≡_};
-ghost use Prim.Native.Nat.{_+_, _-_, _≤_};
+ghost use Prim.Native.Nat.{_+_, _-_};
 ghost use lib.IntN.{natAbs, _-ℤ_};
-ghost use lib.ListN.{length};
 ghost use Rattle.console.specs.Asked.{defaultLimits, askedOf};
-ghost use Rattle.console.specs.Sums.{added, trimmed};
-use decimals::put_natural;
-use decimals::put_whole;
+ghost use Rattle.console.specs.Sums.{added};
 use decimals::size;
 use libc::STDERR_FILENO;
-use libc::STDOUT_FILENO;
 use textlines::word::Limits;
 use textlines::word::Whole;
 use textlines::word::limits_of;
@@ -55,50 +51,10 @@ pub fn limits() -> Limits {
 
 // Says that the arguments are no limits.
 pub fn bad_arguments() {
-    io::write_all(
+    streams::write_all(
         STDERR_FILENO,
         b"arguments are none, or four whole numbers: left bottom right top, each -32768 to 32767, left below right, bottom below top\n",
     );
-}
-
-// A text, to standard output. Whether it was written is told.
-pub fn say(text: &[u8]) -> bool {
-    io::write_all(STDOUT_FILENO, text)
-}
-
-// A number that is not below 0, and the byte after it.
-pub fn say_natural(n: u64, byte: u8) {
-    let mut text = [0u8; 32];
-    let end = put_natural(&mut text, 0, n, byte);
-    say(&text[..end]);
-}
-
-// Any number, and the byte after it.
-pub fn say_whole(z: i64, byte: u8) {
-    let mut text = [0u8; 32];
-    let end = put_whole(&mut text, 0, z, byte);
-    say(&text[..end]);
-}
-
-// How many bytes a text has without the blanks at its end.
-fn trimmed_length(text: &[u8]) -> usize
-    ensures { λ r. ⌜ r ≡ trimmed (now (text .entry)) ⌝ }
-    ensures { λ r. ⌜ r ≤ length (now (text .entry)) ⌝ }
-{
-    let mut n = text.len();
-    while n > 0 {
-        if text[n - 1] != b' ' {
-            return n;
-        }
-        n -= 1;
-    }
-    n
-}
-
-// A text without the blanks at its end.
-pub fn say_words(text: &[u8]) {
-    let n = trimmed_length(text);
-    say(&text[..n]);
 }
 
 // The sum, or the largest number where it is larger: what is counted that high is known to be at least that.

@@ -100,16 +100,17 @@ pub fn letters_before(l: Letters, bytes: &[u8], at: usize) -> Letters
 pub fn name_of(l: Letters, bytes: &[u8], at: usize, number: u8) -> Letters
     ensures { λ r. ⌜ r ≡ S.nameOf l (now (bytes .entry)) at number ⌝ }
 {
-    let before = letters_before(l, bytes, one_less(at));
+    let earlier = one_less(at);
     if number == 1 {
         let second = letter_before(bytes, at);
         if second == 0 {
             return no_letters();
         }
+        let before = letters_before(l, bytes, earlier);
         return Letters {
             first: before.second,
             second: second,
         };
     }
-    before
+    letters_before(l, bytes, earlier)
 }

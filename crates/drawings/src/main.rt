@@ -5,7 +5,9 @@ ghost use mathlib.Core.Path.{_≡_};
 ghost use Prim.Native.Nat.{_+_, _≤_};
 ghost use lib.ListN.{length, drop};
 ghost use Rattle.drawings.specs.Part.{indexOf, Within};
-use libc::STDOUT_FILENO;
+use output::finish;
+use output::put_bytes;
+use output::put_natural;
 use plotting::files::End;
 use plotting::files::Sink;
 use plotting::files::run;
@@ -79,7 +81,11 @@ fn open(line: &[u8], w: Part) -> i32
 // Whether a file has nothing more.
 fn at_end(file: i32) -> bool {
     let mut byte = [0u8; 1];
-    libc::read(file, &mut byte) == 0
+    let got = streams::read(file, &mut byte);
+    if got.good {
+        return got.count == 0;
+    }
+    false
 }
 
 // Prints a file's name, and what is said of so many lines.
@@ -88,10 +94,12 @@ fn say(line: &[u8], w: Part, what: &[u8], lines: u64, after: &[u8])
 {
     let from = w.from;
     let to = w.to;
-    io::write_all(STDOUT_FILENO, &line[from..to]);
-    io::write_all(STDOUT_FILENO, what);
-    io::print_decimal(STDOUT_FILENO, lines);
-    io::write_all(STDOUT_FILENO, after);
+    let mut text = io::large_buffer();
+    let mut end = put_bytes(&mut text, 0, &line[from..to]);
+    end = put_bytes(&mut text, end, what);
+    end = put_natural(&mut text, end, lines);
+    end = put_bytes(&mut text, end, after);
+    finish(&text, end, b"drawings: standard output");
 }
 
 // Compares the lines of a drawing with those of a file, and says what came of it.
@@ -165,7 +173,12 @@ fn main() {
         os::fail(b"list");
         return;
     }
-    let n = io::read_full(file, &mut space);
+    let got = streams::read_full(file, &mut space);
+    if !got.good {
+        os::fail(b"list");
+        return;
+    }
     libc::close(file);
+    let n = got.count;
     check_list(&space[..n]);
 }

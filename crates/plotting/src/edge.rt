@@ -11,6 +11,7 @@ ghost use Rattle.plotting.specs.Ran.{Next};
 ghost use Rattle.plotting.specs.Tally.{readOf, handedOf, sameOf, Kept};
 use super::files::Sink;
 use machine::Machine;
+use streams::Got;
 
 // What a run counts: the bytes that its reads gave; the bytes of text that were handed over, in 64 bits; and the lines that were found the same.
 pub type Tally = [u64; 3];
@@ -27,12 +28,6 @@ pub fn bytes_read(tally: &Tally) -> u64
     tally[READ]
 }
 
-// What a read gave: so many bytes at the start of the block, or nothing where it failed.
-pub struct Got {
-    pub count: usize,
-    pub good: bool,
-}
-
 // One read.
 pub fn read_block(file: i32, block: &mut [u8], tally: &mut Tally) -> Got
     requires { ⌜ readOf (now tally) + length (now block) < 2 ^ 64 ⌝ }
@@ -42,19 +37,9 @@ pub fn read_block(file: i32, block: &mut [u8], tally: &mut Tally) -> Got
     ensures { λ r. ⌜ sameOf (now (tally .exit)) ≡ sameOf (now (tally .entry)) ⌝ }
     ensures { λ r. ⌜ (r .good ≡ false → r .count ≡ 0) ⌝ }
 {
-    let got = libc::read(file, block);
-    if got < 0 {
-        return Got {
-            count: 0,
-            good: false,
-        };
-    }
-    let n = io::count(got, block);
-    *tally = [tally[READ] + n as u64, tally[HANDED], tally[SAME]];
-    Got {
-        count: n,
-        good: true,
-    }
+    let got = streams::read(file, block);
+    *tally = [tally[READ] + got.count as u64, tally[HANDED], tally[SAME]];
+    got
 }
 
 // How many bytes two texts have in common at their start.
@@ -96,8 +81,9 @@ fn compare(file: i32, text: &[u8], tally: &mut Tally) -> bool
 {
     let mut space = io::large_buffer();
     let n = text.len();
-    let got = io::read_full(file, &mut space[..n]);
-    let same = common(text, &space[..got]);
+    let got = streams::read_full(file, &mut space[..n]);
+    let count = got.count;
+    let same = common(text, &space[..count]);
     let more = line_ends(&text[..same]) as u64;
     let lines = std::num::wrapping_add_u64(tally[SAME], more);
     *tally = [tally[READ], tally[HANDED], lines];
@@ -109,7 +95,7 @@ fn put(sink: Sink, text: &[u8], tally: &mut Tally) -> bool
     ensures { λ _. ⌜ Kept (now (tally .entry)) (now (tally .exit)) ⌝ }
 {
     match sink {
-        Sink::Write(file) => io::write_all(file, text),
+        Sink::Write(file) => streams::write_all(file, text),
         Sink::Compare(file) => compare(file, text, tally),
     }
 }

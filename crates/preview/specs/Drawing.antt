@@ -21,9 +21,9 @@ unfoldable pub dotsOf : List Stroke → ℕ
 dotsOf [] = 0
 dotsOf (s ∷ ss) = dotCount s + dotsOf ss
 
--- feed counts the bytes from the place on
-abbrev pub afterOf : Drawing → Listed → Drawing
-afterOf d l = record {
+-- feed counts the bytes from the place on; how much of the buffer is used then no contract can say
+abbrev pub afterOf : Drawing → Listed → ℕ → Drawing
+afterOf d l used = record {
   machine = l .fed .machine;
   before = d .before;
   at = d .at + l .fed .taken;
@@ -31,11 +31,34 @@ afterOf d l = record {
   dots = added (d .dots) (dotsOf (take (l .fed .stored) (l .list)));
   refusals = notedOf (d .refusals) (l .fed .number) (added (d .before) (d .at + l .fed .taken));
   more = not (eqb (l .fed .number) 0);
+  used = used;
 }
 
 -- a feed of what is left of a block
-abbrev pub stepOf : Drawing → List ℕ → Drawing
-stepOf d block = afterOf d (listedOf (feedOf (d .machine .state) (drop (d .at) block) 64))
+abbrev pub stepOf : Drawing → List ℕ → ℕ → Drawing
+stepOf d block used = afterOf d (listedOf (feedOf (d .machine .state) (drop (d .at) block) 64)) used
 
 abbrev pub begunOf : Drawing → ℕ → Drawing
-begunOf d before = record { machine = d .machine; before = before; at = 0; strokes = d .strokes; dots = d .dots; refusals = d .refusals; more = true }
+begunOf d before = record {
+  machine = d .machine;
+  before = before;
+  at = 0;
+  strokes = d .strokes;
+  dots = d .dots;
+  refusals = d .refusals;
+  more = true;
+  used = d .used;
+}
+
+-- with the buffer written out, or a write that failed
+abbrev pub flushedOf : Drawing → ℕ → Drawing
+flushedOf d used = record {
+  machine = d .machine;
+  before = d .before;
+  at = d .at;
+  strokes = d .strokes;
+  dots = d .dots;
+  refusals = d .refusals;
+  more = d .more;
+  used = used;
+}

@@ -32,9 +32,9 @@ dots-last (t ∷ ss) s = omega (arith, dots-last ss s)
 pub dots-more : (ss : List Stroke) (i : ℕ) (none : Stroke) → i < length ss → dotsOf (take (i + 1) ss) ≡ dotsOf (take i ss) + dotCount (getD ss i none)
 dots-more ss i none h = ap (λ (k : ℕ). dotsOf (take k ss)) (add-one i) ∙ ap dotsOf (take-suc ss i none h) ∙ dots-last (take i ss) (getD ss i none)
 
-module _ (d : Drawing) (block : List ℕ) where
-  pub step-usable : Usable (d .machine .state) → Usable (stepOf d block .machine .state)
+module _ (d : Drawing) (block : List ℕ) (used : ℕ) where
+  pub step-usable : Usable (d .machine .state) → Usable (stepOf d block used .machine .state)
   step-usable h = feed-usable (d .machine .state) (drop (d .at) block) 0 64 h
 
-  pub step-within : d .at ≤ length block → stepOf d block .at ≤ length block
+  pub step-within : d .at ≤ length block → stepOf d block used .at ≤ length block
   step-within h = omega (arith, h, feed-place (d .machine .state) (drop (d .at) block) 0 64 .1, length-drop (d .at) block)

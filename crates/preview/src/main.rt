@@ -11,7 +11,8 @@ mod strokes;
 
 use console::bad_arguments;
 use console::limits;
-use console::say;
+use output::finish;
+use output::put_bytes;
 use refusals::list;
 use sheet::Sheet;
 use sheet::head;
@@ -21,16 +22,14 @@ use strokes::paint;
 fn page(machine: Machine, s: Sheet)
     requires { ⌜ Usable (machine .state) ⌝ }
 {
-    head(s);
-    let p = paint(machine, s.dot);
-    say(b"</svg></g>\n");
-    list(s, p.refusals, p.strokes, p.dots);
-    if !say(b"</g></svg>\n") {
-        os::fail(b"preview: standard output");
-    }
-    if p.unread {
-        os::fail(b"preview: standard input");
-    }
+    let mut text = io::large_buffer();
+    let mut end = head(&mut text, 0, s);
+    let p = paint(machine, &mut text, end, s.dot);
+    let refused = p.refusals;
+    end = put_bytes(&mut text, p.used, b"</svg></g>\n");
+    end = list(&mut text, end, s, refused, p.strokes, p.dots, p.unread);
+    end = put_bytes(&mut text, end, b"</g></svg>\n");
+    finish(&text, end, b"preview: standard output");
 }
 
 fn main() {

@@ -3,9 +3,9 @@ ghost use mathlib.Core.Path.{_≡_};
 ghost use Prim.Native.Nat.{min, max};
 ghost use Rattle.preview.specs.Sheet.{sheetOf};
 use console::apart;
-use console::say;
-use console::say_natural;
-use console::say_whole;
+use output::natural_then;
+use output::put_bytes;
+use output::whole_then;
 
 // Where the sheet begins, and how wide and high it is; the height of a letter, from line to line, and from the middle of a dot to its edge; where
 // sheet and text stand on the page; and how many millimetres the page has.
@@ -75,67 +75,93 @@ pub fn sheet_of(left: i64, bottom: i64, right: i64, top: i64) -> Sheet
 }
 
 // The colours of the pens, and what lines, dots, frame and text look like. A dot has a white rim, to be seen on a line.
-fn style(s: Sheet) {
-    say(b"<style>path{fill:none;stroke:currentColor;stroke-linecap:round;stroke-width:");
-    say_natural(s.letter / 8 + 1, b'}');
-    say(b"\ncircle{fill:currentColor;stroke:#ffffff;stroke-width:");
-    say_natural(s.letter / 8 + 1, b'}');
-    say(b"\n.p1{color:#000000}.p2{color:#d00000}.p3{color:#0040d0}.p4{color:#d0a000}\n");
-    say(b".p5{color:#00902a}.p6{color:#c000c0}.p7{color:#00a0b0}.p8{color:#804000}\n");
-    say(b"rect{fill:none;stroke:#909090;stroke-width:");
-    say_natural(s.letter / 12 + 1, b'}');
-    say(b"\ntext{font-family:monospace;fill:#202020;font-size:");
-    say_natural(s.letter, b'p');
-    say(b"x}</style>\n");
+fn style(text: &mut [u8; 65536], used: usize, s: Sheet) -> usize {
+    let mut end = put_bytes(
+        text,
+        used,
+        b"<style>path{fill:none;stroke:currentColor;stroke-linecap:round;stroke-width:",
+    );
+    end = natural_then(text, end, s.letter / 8 + 1, b'}');
+    end = put_bytes(
+        text,
+        end,
+        b"\ncircle{fill:currentColor;stroke:#ffffff;stroke-width:",
+    );
+    end = natural_then(text, end, s.letter / 8 + 1, b'}');
+    end = put_bytes(
+        text,
+        end,
+        b"\n.p1{color:#000000}.p2{color:#d00000}.p3{color:#0040d0}.p4{color:#d0a000}\n",
+    );
+    end = put_bytes(
+        text,
+        end,
+        b".p5{color:#00902a}.p6{color:#c000c0}.p7{color:#00a0b0}.p8{color:#804000}\n",
+    );
+    end = put_bytes(text, end, b"rect{fill:none;stroke:#909090;stroke-width:");
+    end = natural_then(text, end, s.letter / 12 + 1, b'}');
+    end = put_bytes(
+        text,
+        end,
+        b"\ntext{font-family:monospace;fill:#202020;font-size:",
+    );
+    end = natural_then(text, end, s.letter, b'p');
+    put_bytes(text, end, b"x}</style>\n")
 }
 
 // A width and a height.
-fn size(s: Sheet) {
-    say(b" width=\"");
-    say_natural(s.width, b'"');
-    say(b" height=\"");
-    say_natural(s.height, b'"');
+fn size(text: &mut [u8; 65536], used: usize, s: Sheet) -> usize {
+    let mut end = put_bytes(text, used, b" width=\"");
+    end = natural_then(text, end, s.width, b'"');
+    end = put_bytes(text, end, b" height=\"");
+    natural_then(text, end, s.height, b'"')
 }
 
 // The page, in millimetres; all that stands on it is in units.
-fn page(s: Sheet) {
-    say(b"<svg xmlns=\"http://www.w3.org/2000/svg\" width=\"");
-    say_natural(s.wide, b'm');
-    say(b"m\" height=\"");
-    say_natural(s.high, b'm');
-    say(b"m\" viewBox=\"0 0 ");
-    say_natural(s.wide, b' ');
-    say_natural(s.high, b'"');
-    say(b">\n");
-    style(s);
-    say(
-        b"<rect width=\"100%\" height=\"100%\" style=\"fill:#ffffff;stroke:none\"/>\n<g transform=\"scale(0.025)\">\n",
+fn page(text: &mut [u8; 65536], used: usize, s: Sheet) -> usize {
+    let mut end = put_bytes(
+        text,
+        used,
+        b"<svg xmlns=\"http://www.w3.org/2000/svg\" width=\"",
     );
+    end = natural_then(text, end, s.wide, b'm');
+    end = put_bytes(text, end, b"m\" height=\"");
+    end = natural_then(text, end, s.high, b'm');
+    end = put_bytes(text, end, b"m\" viewBox=\"0 0 ");
+    end = natural_then(text, end, s.wide, b' ');
+    end = natural_then(text, end, s.high, b'"');
+    end = put_bytes(text, end, b">\n");
+    end = style(text, end, s);
+    put_bytes(
+        text,
+        end,
+        b"<rect width=\"100%\" height=\"100%\" style=\"fill:#ffffff;stroke:none\"/>\n<g transform=\"scale(0.025)\">\n",
+    )
 }
 
 // The page as far as the first stroke: the sheet is turned over, so that y goes upwards.
-pub fn head(s: Sheet) {
-    page(s);
-    say(b"<g transform=\"translate(");
-    say_natural(s.margin, b' ');
-    say_natural(s.base, b')');
-    say(b" scale(1 -1)\">\n<rect");
-    size(s);
-    say(b"/>\n<svg overflow=\"visible\"");
-    size(s);
-    say(b" viewBox=\"");
-    say_whole(s.left, b' ');
-    say_whole(s.bottom, b' ');
-    say_natural(s.width, b' ');
-    say_natural(s.height, b'"');
-    say(b">\n");
+pub fn head(text: &mut [u8; 65536], used: usize, s: Sheet) -> usize {
+    let mut end = page(text, used, s);
+    end = put_bytes(text, end, b"<g transform=\"translate(");
+    end = natural_then(text, end, s.margin, b' ');
+    end = natural_then(text, end, s.base, b')');
+    end = put_bytes(text, end, b" scale(1 -1)\">\n<rect");
+    end = size(text, end, s);
+    end = put_bytes(text, end, b"/>\n<svg overflow=\"visible\"");
+    end = size(text, end, s);
+    end = put_bytes(text, end, b" viewBox=\"");
+    end = whole_then(text, end, s.left, b' ');
+    end = whole_then(text, end, s.bottom, b' ');
+    end = natural_then(text, end, s.width, b' ');
+    end = natural_then(text, end, s.height, b'"');
+    put_bytes(text, end, b">\n")
 }
 
 // A line of text begins, so far from the top.
-pub fn row(s: Sheet, y: u64) {
-    say(b"<text x=\"");
-    say_natural(s.column, b'"');
-    say(b" y=\"");
-    say_natural(y, b'"');
-    say(b">");
+pub fn row(text: &mut [u8; 65536], used: usize, s: Sheet, y: u64) -> usize {
+    let mut end = put_bytes(text, used, b"<text x=\"");
+    end = natural_then(text, end, s.column, b'"');
+    end = put_bytes(text, end, b" y=\"");
+    end = natural_then(text, end, y, b'"');
+    put_bytes(text, end, b">")
 }

@@ -4,7 +4,7 @@ ghost use lib.ListN.{length, take};
 ghost use mathlib.Core.Path.{_≡_};
 ghost use Rattle.console.specs.Sums.{largest};
 ghost use Rattle.hpgl.specs.Valid.{Usable};
-ghost use Rattle.preview.specs.Drawing.{dotCount, dotsOf, afterOf, stepOf, begunOf};
+ghost use Rattle.preview.specs.Drawing.{dotCount, dotsOf, afterOf, stepOf, begunOf, flushedOf};
 use super::refusals::Refusals;
 use super::refusals::none;
 use super::refusals::noted;
@@ -15,17 +15,19 @@ use feed::feed_list;
 use hpgl::Stroke;
 use libc::STDIN_FILENO;
 use machine::Machine;
+use output::failed;
 use output::flush;
 use output::put_byte;
 use output::put_bytes;
 use output::put_natural;
 use output::put_whole;
+use streams::read;
 
 // A proved loop has to end: these go round so often at most, which no input uses up.
 const TURNS: u64 = 0x800000000000;
 
-// How far the drawing is: the machine, the bytes before the block, the place in it, the strokes painted, the dots among them, what was refused, and
-// whether some of the block is left.
+// How far the drawing is: the machine, the bytes before the block, the place in it, the strokes painted, the dots among them, what was refused,
+// whether some of the block is left, and how much of the buffer is used.
 struct Drawing {
     machine: Machine,
     before: u64,
@@ -34,14 +36,16 @@ struct Drawing {
     dots: u64,
     refusals: Refusals,
     more: bool,
+    used: usize,
 }
 
-// A whole input.
+// A whole input, or what could be read and written of it.
 pub struct Painted {
     pub strokes: u64,
     pub dots: u64,
     pub refusals: Refusals,
     pub unread: bool,
+    pub used: usize,
 }
 
 // A line of the picture.
@@ -80,17 +84,23 @@ fn element(text: &mut [u8; 65536], used: usize, s: Stroke, radius: u64) -> usize
 }
 
 // The first strokes of a list.
-fn elements(text: &mut [u8; 65536], list: [Stroke; 64], count: usize, radius: u64)
+fn elements(
+    text: &mut [u8; 65536],
+    used: usize,
+    list: [Stroke; 64],
+    count: usize,
+    radius: u64,
+) -> usize
     requires { ⌜ count ≤ 64 ⌝ }
 {
-    let mut used = 0;
+    let mut end = used;
     let mut i = 0;
     while i < count {
         let s = list[i];
-        used = element(text, used, s, radius);
+        end = element(text, end, s, radius);
         i += 1;
     }
-    flush(text, used);
+    end
 }
 
 // One for a dot.
@@ -119,9 +129,9 @@ fn dots_of(list: [Stroke; 64], count: usize) -> u64
 }
 
 // What a feed of the block from its place on leaves: its strokes are counted, and a byte that was refused is kept.
-fn after(d: Drawing, l: Listed) -> Drawing
+fn after(d: Drawing, l: Listed, used: usize) -> Drawing
     requires { ⌜ (l .fed .stored ≤ 64) × (d .at + l .fed .taken ≤ largest) ⌝ }
-    ensures { λ r. ⌜ r ≡ afterOf d l ⌝ }
+    ensures { λ r. ⌜ r ≡ afterOf d l used ⌝ }
 {
     let fed = l.fed;
     let machine = fed.machine;
@@ -138,21 +148,22 @@ fn after(d: Drawing, l: Listed) -> Drawing
         dots: sum(d.dots, dots),
         refusals: noted(refused, fed.number, place),
         more: fed.number != 0,
+        used: used,
     }
 }
 
-// One feed.
+// One feed, with its strokes as text.
 fn step(d: Drawing, block: &[u8], text: &mut [u8; 65536], radius: u64) -> Drawing
     requires { ⌜ Usable (d .machine .state) ⌝ }
     requires { ⌜ d .at ≤ length (now block) ⌝ }
-    ensures { λ r. ⌜ r ≡ stepOf d (now (block .entry)) ⌝ }
+    ensures { λ r. ⌜ r ≡ stepOf d (now (block .entry)) (r .used) ⌝ }
 {
     let machine = d.machine;
     let at = d.at;
     let l = feed_list(machine, &block[at..]);
     let list = l.list;
-    elements(text, list, l.fed.stored, radius);
-    after(d, l)
+    let used = elements(text, d.used, list, l.fed.stored, radius);
+    after(d, l, used)
 }
 
 // The next block begins, with so many bytes before it.
@@ -169,29 +180,53 @@ fn begun(d: Drawing, before: u64) -> Drawing
         dots: d.dots,
         refusals: refused,
         more: true,
+        used: d.used,
     }
 }
 
 // A block, with so many bytes before it.
-fn paint_block(d: Drawing, before: u64, block: &[u8], radius: u64) -> Drawing
+fn paint_block(
+    d: Drawing,
+    before: u64,
+    block: &[u8],
+    text: &mut [u8; 65536],
+    radius: u64,
+) -> Drawing
     requires { ⌜ Usable (d .machine .state) ⌝ }
     ensures { λ r. ⌜ Usable (r .machine .state) ⌝ }
 {
-    let mut text = io::large_buffer();
     let mut q = begun(d, before);
     let mut turns = TURNS;
     while turns > 0 {
         if !q.more {
             return q;
         }
-        q = step(q, block, &mut text, radius);
+        q = step(q, block, text, radius);
         turns -= 1;
     }
     q
 }
 
-// Paints standard input to its end.
-pub fn paint(machine: Machine, radius: u64) -> Painted
+// The text of a block is written out, before the next one is read.
+fn flushed(d: Drawing, text: &[u8; 65536]) -> Drawing
+    ensures { λ r. ⌜ r ≡ flushedOf d (r .used) ⌝ }
+{
+    let machine = d.machine;
+    let refused = d.refusals;
+    Drawing {
+        machine: machine,
+        before: d.before,
+        at: d.at,
+        strokes: d.strokes,
+        dots: d.dots,
+        refusals: refused,
+        more: d.more,
+        used: flush(text, d.used),
+    }
+}
+
+// Paints standard input to its end, or to a read or a write that fails. A read that fails is told at once.
+pub fn paint(machine: Machine, text: &mut [u8; 65536], used: usize, radius: u64) -> Painted
     requires { ⌜ Usable (machine .state) ⌝ }
 {
     let mut block = io::large_buffer();
@@ -203,21 +238,27 @@ pub fn paint(machine: Machine, radius: u64) -> Painted
         dots: 0,
         refusals: none(),
         more: true,
+        used: used,
     };
     let mut before = 0;
     let mut turns = TURNS;
     let mut unread = false;
     while turns > 0 {
-        let got = libc::read(STDIN_FILENO, &mut block);
-        if got < 0 {
+        d = flushed(d, text);
+        if failed(d.used) {
+            break;
+        }
+        let got = read(STDIN_FILENO, &mut block);
+        if !got.good {
+            os::fail(b"preview: standard input");
             unread = true;
             break;
         }
-        let n = io::count(got, &block);
+        let n = got.count;
         if n == 0 {
             break;
         }
-        d = paint_block(d, before, &block[..n], radius);
+        d = paint_block(d, before, &block[..n], text, radius);
         before = sum(before, n as u64);
         turns -= 1;
     }
@@ -227,5 +268,6 @@ pub fn paint(machine: Machine, radius: u64) -> Painted
         dots: d.dots,
         refusals: refused,
         unread: unread,
+        used: d.used,
     }
 }

@@ -24,5 +24,5 @@ fn main() {
     for tenths in 0..TURN {
         used = put_line(&mut buffer, used, &table, tenths);
     }
-    output::flush(&buffer, used);
+    output::finish(&buffer, used, b"sinecheck: standard output");
 }

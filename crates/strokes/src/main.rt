@@ -14,13 +14,13 @@ fn tell(end: End) {
     match end {
         End::Done => {}
         End::NoLimits => {
-            io::write_all(
+            streams::write_all(
                 STDERR_FILENO,
                 b"strokes: arguments are none, or four whole numbers: left bottom right top\n",
             );
         }
         End::Refused => {
-            io::write_all(
+            streams::write_all(
                 STDERR_FILENO,
                 b"strokes: limits refused with 10: each is -32768 to 32767, left < right, bottom < top\n",
             );

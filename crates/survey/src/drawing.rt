@@ -18,6 +18,7 @@ use libc::STDIN_FILENO;
 use machine::Machine;
 use machine::Ran;
 use machine::Worked;
+use streams::read;
 
 // A proved loop has to end: these go round so often at most, which no input uses up.
 const TURNS: u64 = 0x800000000000;
@@ -203,7 +204,7 @@ fn finished(d: Drawing, unread: bool) -> Surveyed
     }
 }
 
-// Standard input to its end.
+// Standard input to its end, or to a read that fails, which is told at once.
 pub fn survey(machine: Machine) -> Surveyed
     requires { ⌜ Usable (machine .state) ⌝ }
 {
@@ -219,11 +220,12 @@ pub fn survey(machine: Machine) -> Surveyed
     };
     let mut turns = TURNS;
     while turns > 0 {
-        let got = libc::read(STDIN_FILENO, &mut block);
-        if got < 0 {
+        let got = read(STDIN_FILENO, &mut block);
+        if !got.good {
+            os::fail(b"survey: standard input");
             return finished(d, true);
         }
-        let n = io::count(got, &block);
+        let n = got.count;
         if n == 0 {
             return finished(d, false);
         }

@@ -1,10 +1,6 @@
 // The page, from its title to its verdict.
 use super::drawing::Surveyed;
 use clip::Rect;
-use console::say;
-use console::say_natural;
-use console::say_whole;
-use console::say_words;
 use counting::refusals::GROUPS;
 use counting::refusals::PLACES;
 use counting::refusals::Refusals;
@@ -18,103 +14,123 @@ use counting::tally::Tally;
 use counting::verdict::cut_off;
 use counting::verdict::fit;
 use counting::verdict::total;
+use output::finish;
+use output::natural_then;
+use output::put_byte;
+use output::put_bytes;
+use output::put_words;
+use output::whole_then;
 use words::harmless;
 use words::of_kind;
 
 // A number at the right of its column, and the byte after it.
-fn say_column(n: u64, width: u64, byte: u8) {
+fn column(text: &mut [u8; 65536], used: usize, n: u64, width: u64, byte: u8) -> usize {
+    let mut end = used;
     let mut rest = n / 10;
     let mut left = width;
     while left > 1 {
         if rest == 0 {
-            say(b" ");
+            end = put_byte(text, end, b' ');
         }
         rest = rest / 10;
         left -= 1;
     }
-    say_natural(n, byte);
+    natural_then(text, end, n, byte)
 }
 
 // A box: its corners.
-fn corners(r: Rect) {
-    say_whole(r.left, b' ');
-    say_whole(r.bottom, b' ');
-    say(b"to ");
-    say_whole(r.right, b' ');
-    say_whole(r.top, b'\n');
+fn corners(text: &mut [u8; 65536], used: usize, r: Rect) -> usize {
+    let mut end = whole_then(text, used, r.left, b' ');
+    end = whole_then(text, end, r.bottom, b' ');
+    end = put_bytes(text, end, b"to ");
+    end = whole_then(text, end, r.right, b' ');
+    whole_then(text, end, r.top, b'\n')
 }
 
-fn title(hard: Rect) {
-    say(b"Survey of a drawing. Hard limits ");
-    corners(hard);
-    say(
+fn title(text: &mut [u8; 65536], used: usize, hard: Rect) -> usize {
+    let mut end = put_bytes(text, used, b"Survey of a drawing. Hard limits ");
+    end = corners(text, end, hard);
+    end = put_bytes(
+        text,
+        end,
         b"A unit is 0.025 mm on paper: 40 are a millimetre. The length of a stroke is the whole part of the root of\n",
     );
-    say(b"dx * dx + dy * dy, in units. Millimetres are whole ones of the sum.\n\n");
-    say(b" pen       strokes           units           mm\n");
+    end = put_bytes(
+        text,
+        end,
+        b"dx * dx + dy * dy, in units. Millimetres are whole ones of the sum.\n\n",
+    );
+    put_bytes(
+        text,
+        end,
+        b" pen       strokes           units           mm\n",
+    )
 }
 
 // A length in units and in millimetres ends a row.
-fn lengths(units: u64) {
-    say_column(units, 15, b' ');
-    say_column(units / 40, 12, b'\n');
+fn lengths(text: &mut [u8; 65536], used: usize, units: u64) -> usize {
+    let mut end = column(text, used, units, 15, b' ');
+    column(text, end, units / 40, 12, b'\n')
 }
 
 // A row for each pen that paints.
-fn pens(p: Paint) {
+fn pens(text: &mut [u8; 65536], used: usize, p: Paint) -> usize {
+    let mut end = used;
     let mut pen: usize = 1;
     while pen < 9 {
         let strokes = p.strokes[pen];
         if strokes > 0 {
-            say_column(pen as u64, 4, b' ');
-            say_column(strokes, 13, b' ');
-            lengths(p.lengths[pen]);
+            end = column(text, end, pen as u64, 4, b' ');
+            end = column(text, end, strokes, 13, b' ');
+            end = lengths(text, end, p.lengths[pen]);
         }
         pen += 1;
     }
+    end
 }
 
-fn paint(p: Paint) {
+fn paint(text: &mut [u8; 65536], used: usize, p: Paint) -> usize {
     let strokes = p.strokes;
     let units = p.lengths;
-    pens(p);
-    say(b" all ");
-    say_column(total(strokes), 13, b' ');
-    lengths(total(units));
-    say(b" empty driving     ");
-    lengths(p.empty);
-    say(
+    let mut end = pens(text, used, p);
+    end = put_bytes(text, end, b" all ");
+    end = column(text, end, total(strokes), 13, b' ');
+    end = lengths(text, end, total(units));
+    end = put_bytes(text, end, b" empty driving     ");
+    end = lengths(text, end, p.empty);
+    put_bytes(
+        text,
+        end,
         b"Empty driving is from the end of each stroke to the start of the next; before the first stroke none is counted.\n\n",
-    );
+    )
 }
 
-fn extent(e: Extent) {
+fn extent(text: &mut [u8; 65536], used: usize, e: Extent) -> usize {
     let area = e.area;
     if e.some {
-        corners(area);
-        return;
+        return corners(text, used, area);
     }
-    say(b"nothing\n");
+    put_bytes(text, used, b"nothing\n")
 }
 
 // Where the drawing lies, and what the limits cut off.
-fn boxes(t: Tally) {
+fn boxes(text: &mut [u8; 65536], used: usize, t: Tally) -> usize {
     let p = t.paint;
     let painted = p.area;
     let asked = t.asked;
-    say(b"Painted:  ");
-    extent(painted);
+    let mut end = put_bytes(text, used, b"Painted:  ");
+    end = extent(text, end, painted);
     if cut_off(t) > 0 {
-        say(b"Drawn:    ");
-        extent(asked);
+        end = put_bytes(text, end, b"Drawn:    ");
+        end = extent(text, end, asked);
     }
-    say(b"Segments: ");
-    say_natural(t.whole, b' ');
-    say(b"whole, ");
-    say_natural(t.clipped, b' ');
-    say(b"clipped by the limits, ");
-    say_natural(t.hidden, b' ');
-    say(b"hidden outside them\n\n");
+    end = put_bytes(text, end, b"Segments: ");
+    end = natural_then(text, end, t.whole, b' ');
+    end = put_bytes(text, end, b"whole, ");
+    end = natural_then(text, end, t.clipped, b' ');
+    end = put_bytes(text, end, b"clipped by the limits, ");
+    end = natural_then(text, end, t.hidden, b' ');
+    put_bytes(text, end, b"hidden outside them\n\n")
 }
 
 // What stands between places, and after the last.
@@ -126,124 +142,146 @@ fn after_place(more: bool) -> u8 {
 }
 
 // The places of a group, the first of 96 places on.
-fn places(list: [u64; 96], group: usize, count: u64) {
+fn places(text: &mut [u8; 65536], used: usize, list: [u64; 96], group: usize, count: u64) -> usize {
+    let mut end = used;
     let mut j: usize = 0;
     while j < PLACES {
         if j as u64 >= count {
-            return;
+            return end;
         }
         if group < GROUPS {
-            say_natural(list[group * PLACES + j], after_place(j as u64 + 1 < count));
+            end = natural_then(
+                text,
+                end,
+                list[group * PLACES + j],
+                after_place(j as u64 + 1 < count),
+            );
         }
         j += 1;
     }
     if count > 6 {
-        say(b"and ");
-        say_natural(count - 6, b' ');
-        say(b"more\n");
+        end = put_bytes(text, end, b"and ");
+        end = natural_then(text, end, count - 6, b' ');
+        end = put_bytes(text, end, b"more\n");
     }
+    end
+}
+
+// What becomes of a group, in words.
+fn fate(text: &mut [u8; 65536], used: usize, kind: u8) -> usize {
+    let words = of_kind(kind);
+    put_words(text, used, &words)
 }
 
 // A group: name, number, count and places, and below it what becomes of it.
-fn group(r: Refusals, i: usize, key: u64, count: u64) {
+fn group(
+    text: &mut [u8; 65536],
+    used: usize,
+    r: Refusals,
+    i: usize,
+    key: u64,
+    count: u64,
+) -> usize {
     let list = r.places;
     let name = name_in(key);
     let letters = [name.first, name.second];
     let kind = kind_of(key);
-    let text = of_kind(kind);
-    say(b"  ");
-    say(&letters);
-    say_column(number_of(key) as u64, 8, b' ');
-    say_column(count, 8, b' ');
-    say(b"  ");
-    places(list, i, count);
-    say(b"       ");
+    let mut end = put_bytes(text, used, b"  ");
+    end = put_bytes(text, end, &letters);
+    end = column(text, end, number_of(key) as u64, 8, b' ');
+    end = column(text, end, count, 8, b' ');
+    end = put_bytes(text, end, b"  ");
+    end = places(text, end, list, i, count);
+    end = put_bytes(text, end, b"       ");
     if harmless(kind) {
-        say(b"harmless: ");
+        end = put_bytes(text, end, b"harmless: ");
     }
-    say_words(&text);
-    say(b"\n");
+    end = fate(text, end, kind);
+    put_bytes(text, end, b"\n")
 }
 
-fn groups(r: Refusals) {
+fn groups(text: &mut [u8; 65536], used: usize, r: Refusals) -> usize {
+    let mut end = used;
     let mut i: usize = 0;
     while i < GROUPS {
         let count = r.counts[i];
         if count == 0 {
-            return;
+            return end;
         }
-        group(r, i, r.keys[i], count);
+        end = group(text, end, r, i, r.keys[i], count);
         i += 1;
     }
+    end
 }
 
-fn refused(r: Refusals) {
+fn refused(text: &mut [u8; 65536], used: usize, r: Refusals) -> usize {
     let counts = r.counts;
     if counts[0] == 0 {
-        say(b"Refused: nothing\n\n");
-        return;
+        return put_bytes(text, used, b"Refused: nothing\n\n");
     }
-    say(b"Refused:\nname  number    count   bytes, counted from 1\n");
-    groups(r);
+    let mut end = put_bytes(
+        text,
+        used,
+        b"Refused:\nname  number    count   bytes, counted from 1\n",
+    );
+    end = groups(text, end, r);
     if r.others > 0 {
-        say(b"  and ");
-        say_natural(r.others, b' ');
-        say(b"more, of other names or numbers\n");
+        end = put_bytes(text, end, b"  and ");
+        end = natural_then(text, end, r.others, b' ');
+        end = put_bytes(text, end, b"more, of other names or numbers\n");
     }
-    say(b"\n");
+    put_bytes(text, end, b"\n")
 }
 
 // Why a drawing is not fit to paint.
-fn reasons(s: Surveyed, harms: u64, cut: u64) {
+fn reasons(text: &mut [u8; 65536], used: usize, s: Surveyed, harms: u64, cut: u64) -> usize {
     let t = s.tally;
     let p = t.paint;
-    let end = p.end;
+    let last = p.end;
+    let mut end = used;
     if harms > 0 {
-        say(b" refusals that change the drawing: ");
-        say_natural(harms, b'.');
+        end = put_bytes(text, end, b" refusals that change the drawing: ");
+        end = natural_then(text, end, harms, b'.');
     }
     if cut > 0 {
-        say(b" segments cut off by the limits: ");
-        say_natural(cut, b'.');
+        end = put_bytes(text, end, b" segments cut off by the limits: ");
+        end = natural_then(text, end, cut, b'.');
     }
     if s.unended {
-        say(b" the last instruction is not ended.");
+        end = put_bytes(text, end, b" the last instruction is not ended.");
     }
     if s.unread {
-        say(b" the drawing could not be read to its end.");
+        end = put_bytes(text, end, b" the drawing could not be read to its end.");
     }
-    if !end.some {
-        say(b" nothing is painted.");
+    if !last.some {
+        end = put_bytes(text, end, b" nothing is painted.");
     }
+    end
 }
 
-fn verdict(s: Surveyed) {
+fn verdict(text: &mut [u8; 65536], used: usize, s: Surveyed) -> usize {
     let t = s.tally;
     let r = s.refusals;
     let keys = r.keys;
     let counts = r.counts;
     let harms = harm(keys, counts, r.others);
     if fit(t, harms, s.unended, s.unread) {
-        say(b"fit to paint");
-        return;
+        return put_bytes(text, used, b"fit to paint");
     }
-    say(b"not fit to paint:");
-    reasons(s, harms, cut_off(t));
+    let end = put_bytes(text, used, b"not fit to paint:");
+    reasons(text, end, s, harms, cut_off(t))
 }
 
 pub fn page(hard: Rect, s: Surveyed) {
     let t = s.tally;
     let p = t.paint;
     let r = s.refusals;
-    title(hard);
-    paint(p);
-    boxes(t);
-    refused(r);
-    verdict(s);
-    if !say(b"\n") {
-        os::fail(b"survey: standard output");
-    }
-    if s.unread {
-        os::fail(b"survey: standard input");
-    }
+    let mut text = io::large_buffer();
+    let mut end = title(&mut text, 0, hard);
+    end = paint(&mut text, end, p);
+    end = boxes(&mut text, end, t);
+    end = refused(&mut text, end, r);
+    end = verdict(&mut text, end, s);
+    end = put_byte(&mut text, end, b'\n');
+    finish(&text, end, b"survey: standard output");
 }

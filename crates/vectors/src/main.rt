@@ -213,11 +213,16 @@ fn run_lines(text: &[u8]) {
         }
         used = put_byte(&mut out, used, b'\n');
     }
-    output::flush(&out, used);
+    output::finish(&out, used, b"vectors: standard output");
 }
 
 fn main() {
     let mut input = io::large_buffer();
-    let n = io::read_full(STDIN_FILENO, &mut input);
+    let got = streams::read_full(STDIN_FILENO, &mut input);
+    if !got.good {
+        os::fail(b"vectors: standard input");
+        return;
+    }
+    let n = got.count;
     run_lines(&input[..n]);
 }

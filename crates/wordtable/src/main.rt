@@ -1,32 +1,43 @@
 // Prints the table of refusals as docs/USERS.md has it: number, cause, what to do.
-use console::say;
-use console::say_natural;
-use console::say_words;
+use output::finish;
+use output::natural_then;
+use output::put_bytes;
+use output::put_words;
 use words::advice;
 use words::cause;
 
-fn row(number: u8) {
-    say(b"| ");
-    say_natural(number as u64, b' ');
-    say(b"| ");
+fn row(text: &mut [u8; 65536], used: usize, number: u8) -> usize {
+    let mut end = put_bytes(text, used, b"| ");
+    end = natural_then(text, end, number as u64, b' ');
+    end = put_bytes(text, end, b"| ");
     let why = cause(number);
-    say_words(&why);
-    say(b" | ");
+    end = put_words(text, end, &why);
+    end = put_bytes(text, end, b" | ");
     let what = advice(number);
-    say_words(&what);
-    say(b" |\n");
+    end = put_words(text, end, &what);
+    put_bytes(text, end, b" |\n")
+}
+
+fn rows(text: &mut [u8; 65536], used: usize) -> usize {
+    let mut end = row(text, used, 1);
+    end = row(text, end, 2);
+    end = row(text, end, 3);
+    end = row(text, end, 6);
+    end = row(text, end, 7);
+    end = row(text, end, 10);
+    end = row(text, end, 11);
+    end = row(text, end, 12);
+    end = row(text, end, 20);
+    row(text, end, 21)
 }
 
 fn main() {
-    say(b"| number | cause | what to do |\n|---|---|---|\n");
-    row(1);
-    row(2);
-    row(3);
-    row(6);
-    row(7);
-    row(10);
-    row(11);
-    row(12);
-    row(20);
-    row(21);
+    let mut text = io::large_buffer();
+    let mut end = put_bytes(
+        &mut text,
+        0,
+        b"| number | cause | what to do |\n|---|---|---|\n",
+    );
+    end = rows(&mut text, end);
+    finish(&text, end, b"wordtable: standard output");
 }

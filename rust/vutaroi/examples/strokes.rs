@@ -1,5 +1,6 @@
 //! Prints the strokes of standard input, as the program strokes does: pen, x0, y0, x1, y1 a line, or
-//! E, number, byte counted from 1.
+//! E, number, byte counted from 1. The lines of what a read gave are written before the next read, so that a
+//! live stream is answered as it comes. A read or a write that fails is told, and the status is 1.
 
 use std::io::{self, BufWriter, Read, Write};
 use vutaroi::{Machine, Mark};
@@ -14,9 +15,9 @@ fn main() -> io::Result<()> {
     let mut marks = vec![Mark::default(); 4096];
     let mut before = 0;
     loop {
-        let got = input.read(&mut block)?;
+        let got = read(&mut input, &mut block)?;
         if got == 0 {
-            return output.flush();
+            return Ok(());
         }
         let mut at = 0;
         loop {
@@ -29,7 +30,18 @@ fn main() -> io::Result<()> {
                 break;
             }
         }
+        output.flush()?;
         before += got;
+    }
+}
+
+/// One read; one that a signal interrupted is tried again.
+fn read(input: &mut impl Read, block: &mut [u8]) -> io::Result<usize> {
+    loop {
+        match input.read(block) {
+            Err(error) if error.kind() == io::ErrorKind::Interrupted => {}
+            answered => return answered,
+        }
     }
 }
 

@@ -5,10 +5,10 @@ use Rattle.sinecheck.proofs.main.Statement.{statement}
 use Rattle.sinecheck.proofs.main.Tie as tie
 
 abbrev Inv-loop : tie.InvT-loop
-Inv-loop table buffer₀ used₀ tenths₀ buffer used tenths = tenths ≤ 3600
+Inv-loop table buffer₀ used₀ tenths₀ t buffer used tenths = tenths ≤ 3600
 
 abbrev μ-loop : tie.MeasureT-loop
-μ-loop table buffer₀ used₀ tenths₀ buffer used tenths = 3600 - tenths
+μ-loop table buffer₀ used₀ tenths₀ t buffer used tenths = 3600 - tenths
 
 table-requires : tie.Need-table-requires Inv-loop μ-loop
 table-requires c κs = search needs
@@ -34,8 +34,11 @@ loop-less c = search needs
 loop-again : tie.Need-loop-again Inv-loop μ-loop
 loop-again c = search needs
 
-flush-requires : tie.Need-flush-requires Inv-loop μ-loop
-flush-requires c κs = search needs
+slice-aggregate-finish : tie.Need-slice-aggregate-finish Inv-loop μ-loop
+slice-aggregate-finish c = search needs
+
+finish-requires : tie.Need-finish-requires Inv-loop μ-loop
+finish-requires c κs = search needs
 
 returns : tie.Need-returns Inv-loop μ-loop
 returns c = search needs
@@ -54,5 +57,6 @@ main-spec =
     add-tenths
     loop-less
     loop-again
-    flush-requires
+    slice-aggregate-finish
+    finish-requires
     returns)

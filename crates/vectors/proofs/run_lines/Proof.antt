@@ -6,10 +6,10 @@ use Rattle.vectors.proofs.run_lines.Statement.{statement}
 use Rattle.vectors.proofs.run_lines.Tie as tie
 
 abbrev Inv-loop : tie.InvT-loop
-Inv-loop text out₀ used₀ limits₀ at₀ out used limits at = Unit {0}
+Inv-loop text out₀ used₀ limits₀ at₀ t out used limits at = Unit {0}
 
 abbrev μ-loop : tie.MeasureT-loop
-μ-loop text out₀ used₀ limits₀ at₀ out used limits at = length text - at
+μ-loop text out₀ used₀ limits₀ at₀ t out used limits at = length text - at
 
 large-buffer-requires : tie.Need-large-buffer-requires Inv-loop μ-loop
 large-buffer-requires c κs = search needs
@@ -62,8 +62,11 @@ loop-less-2 c = search needs
 loop-again-2 : tie.Need-loop-again-2 Inv-loop μ-loop
 loop-again-2 c = search needs
 
-flush-requires : tie.Need-flush-requires Inv-loop μ-loop
-flush-requires c κs = search needs
+slice-aggregate-finish : tie.Need-slice-aggregate-finish Inv-loop μ-loop
+slice-aggregate-finish c = search needs
+
+finish-requires : tie.Need-finish-requires Inv-loop μ-loop
+finish-requires c κs = search needs
 
 returns : tie.Need-returns Inv-loop μ-loop
 returns c = search needs
@@ -91,5 +94,6 @@ run-lines-spec =
     put-byte-requires
     loop-less-2
     loop-again-2
-    flush-requires
+    slice-aggregate-finish
+    finish-requires
     returns)

@@ -40,11 +40,11 @@ element-copy-out-wrapping-add-u64 c = search needs
 wrapping-add-u64-requires : tie.Need-wrapping-add-u64-requires
 wrapping-add-u64-requires c κs = search needs
 
-element-copy-out-t20 : tie.Need-element-copy-out-t20
-element-copy-out-t20 c = search needs
+element-copy-out-t21 : tie.Need-element-copy-out-t21
+element-copy-out-t21 c = search needs
 
-element-copy-out-t25 : tie.Need-element-copy-out-t25
-element-copy-out-t25 c = search needs
+element-copy-out-t26 : tie.Need-element-copy-out-t26
+element-copy-out-t26 c = search needs
 
 returns : tie.Need-returns
 returns c = search needs
@@ -64,6 +64,6 @@ compare-spec =
     line-ends-requires
     element-copy-out-wrapping-add-u64
     wrapping-add-u64-requires
-    element-copy-out-t20
-    element-copy-out-t25
+    element-copy-out-t21
+    element-copy-out-t26
     returns)

@@ -5,10 +5,10 @@ use Rattle.preview.proofs.refusals.rows.Statement.{statement}
 use Rattle.preview.proofs.refusals.rows.Tie as tie
 
 abbrev Inv-loop : tie.InvT-loop
-Inv-loop s from r y₀ i₀ t7 y i = (i ≤ 40)
+Inv-loop text₀ used s from r end₀ y₀ i₀ t text end y i = (i ≤ 40)
 
 abbrev μ-loop : tie.MeasureT-loop
-μ-loop s from r y₀ i₀ t7 y i = 40 - i
+μ-loop text₀ used s from r end₀ y₀ i₀ t text end y i = 40 - i
 
 loop-holds : tie.Need-loop-holds Inv-loop μ-loop
 loop-holds c = search needs
@@ -31,11 +31,11 @@ element-copy-out-refusal-2 c = search needs
 refusal-requires : tie.Need-refusal-requires Inv-loop μ-loop
 refusal-requires c κs = search needs
 
-slice-aggregate-say : tie.Need-slice-aggregate-say Inv-loop μ-loop
-slice-aggregate-say c = search needs
+slice-aggregate-put-bytes : tie.Need-slice-aggregate-put-bytes Inv-loop μ-loop
+slice-aggregate-put-bytes c = search needs
 
-say-requires : tie.Need-say-requires Inv-loop μ-loop
-say-requires c κs = search needs
+put-bytes-requires : tie.Need-put-bytes-requires Inv-loop μ-loop
+put-bytes-requires c κs = search needs
 
 sum-requires : tie.Need-sum-requires Inv-loop μ-loop
 sum-requires c κs = search needs
@@ -65,8 +65,8 @@ rows-spec =
     mul-refusal
     element-copy-out-refusal-2
     refusal-requires
-    slice-aggregate-say
-    say-requires
+    slice-aggregate-put-bytes
+    put-bytes-requires
     sum-requires
     add-i
     loop-less

@@ -5,10 +5,10 @@ use Rattle.preview.proofs.strokes.elements.Statement.{statement}
 use Rattle.preview.proofs.strokes.elements.Tie as tie
 
 abbrev Inv-loop : tie.InvT-loop
-Inv-loop text₀ count radius list used₀ i₀ text used i = (i ≤ count)
+Inv-loop text₀ used count radius list end₀ i₀ text end i = (i ≤ count)
 
 abbrev μ-loop : tie.MeasureT-loop
-μ-loop text₀ count radius list used₀ i₀ text used i = count - i
+μ-loop text₀ used count radius list end₀ i₀ text end i = count - i
 
 loop-holds : tie.Need-loop-holds Inv-loop μ-loop
 loop-holds c = search needs
@@ -31,9 +31,6 @@ loop-less c = search needs
 loop-again : tie.Need-loop-again Inv-loop μ-loop
 loop-again c = search needs
 
-flush-requires : tie.Need-flush-requires Inv-loop μ-loop
-flush-requires c κs = search needs
-
 returns : tie.Need-returns Inv-loop μ-loop
 returns c = search needs
 
@@ -50,5 +47,4 @@ elements-spec =
     add-i
     loop-less
     loop-again
-    flush-requires
     returns)

@@ -8,10 +8,10 @@ use Rattle.preview.proofs.strokes.paint.Statement.{statement}
 use Rattle.preview.proofs.strokes.paint.Tie as tie
 
 abbrev Inv-loop : tie.InvT-loop
-Inv-loop radius block₀ d₀ before₀ turns₀ unread₀ block d before turns unread = (65536 ≡ length block) × Usable (d .machine .state)
+Inv-loop text₀ used radius block₀ d₀ before₀ turns₀ unread₀ t text block d before turns unread = (65536 ≡ length block) × Usable (d .machine .state)
 
 abbrev μ-loop : tie.MeasureT-loop
-μ-loop radius block₀ d₀ before₀ turns₀ unread₀ block d before turns unread = turns
+μ-loop text₀ used radius block₀ d₀ before₀ turns₀ unread₀ t text block d before turns unread = turns
 
 large-buffer-requires : tie.Need-large-buffer-requires Inv-loop μ-loop
 large-buffer-requires c κs = search needs
@@ -25,17 +25,23 @@ loop-holds c =
     let b : tie.After-large-buffer Inv-loop μ-loop = search in
     (b .large-buffer .ensures, s .pre)
 
+flushed-requires : tie.Need-flushed-requires Inv-loop μ-loop
+flushed-requires c κs = search needs
+
+failed-requires : tie.Need-failed-requires Inv-loop μ-loop
+failed-requires c κs = search needs
+
 slice-aggregate-read : tie.Need-slice-aggregate-read Inv-loop μ-loop
 slice-aggregate-read c = search needs
 
 read-requires : tie.Need-read-requires Inv-loop μ-loop
 read-requires c κs = search needs
 
-slice-aggregate-count : tie.Need-slice-aggregate-count Inv-loop μ-loop
-slice-aggregate-count c = search needs
+slice-aggregate-fail : tie.Need-slice-aggregate-fail Inv-loop μ-loop
+slice-aggregate-fail c = search needs
 
-count-requires : tie.Need-count-requires Inv-loop μ-loop
-count-requires c κs = search needs
+fail-requires : tie.Need-fail-requires Inv-loop μ-loop
+fail-requires c κs = search needs
 
 array-share-prefix-block : tie.Need-array-share-prefix-block Inv-loop μ-loop
 array-share-prefix-block c = search needs
@@ -43,18 +49,27 @@ array-share-prefix-block c = search needs
 slice-aggregate-paint-block : tie.Need-slice-aggregate-paint-block Inv-loop μ-loop
 slice-aggregate-paint-block c = search needs
 
+-- from a read back to where the text was written out, and to the turn of the loop
+abbrev written : tie.After-read Inv-loop μ-loop → tie.After-flushed Inv-loop μ-loop
+written r = search
+
+abbrev begins : tie.After-flushed Inv-loop μ-loop → tie.In-loop Inv-loop μ-loop
+begins f = search
+
 paint-block-requires : tie.Need-paint-block-requires Inv-loop μ-loop
-paint-block-requires c κs = let l : tie.At-loop Inv-loop μ-loop = search in l .loop .inv .1
+paint-block-requires c κs =
+    let r : tie.After-read Inv-loop μ-loop = search in
+    rw (written r .flushed .ensures) (begins (written r) .before .loop .inv .1)
 
 sum-requires : tie.Need-sum-requires Inv-loop μ-loop
 sum-requires c κs = search needs
 
--- from a block that is painted back to the turn of the loop, and to where it was read
-abbrev turn : tie.After-paint-block Inv-loop μ-loop → tie.In-loop Inv-loop μ-loop
-turn p = search
-
+-- from a block that is painted back to where it was read, and to the turn of the loop
 abbrev read : tie.After-paint-block Inv-loop μ-loop → tie.After-read Inv-loop μ-loop
 read p = search
+
+abbrev turn : tie.After-paint-block Inv-loop μ-loop → tie.In-loop Inv-loop μ-loop
+turn p = begins (written (read p))
 
 sub-turns : tie.Need-sub-turns Inv-loop μ-loop
 sub-turns c = let p : tie.After-paint-block Inv-loop μ-loop = search in omega (arith, turn p .loop-test .taken)
@@ -80,10 +95,12 @@ paint-spec =
     large-buffer-requires
     none-requires
     loop-holds
+    flushed-requires
+    failed-requires
     slice-aggregate-read
     read-requires
-    slice-aggregate-count
-    count-requires
+    slice-aggregate-fail
+    fail-requires
     array-share-prefix-block
     slice-aggregate-paint-block
     paint-block-requires

@@ -10,13 +10,10 @@ use Rattle.preview.proofs.strokes.paint_block.Statement.{statement}
 use Rattle.preview.proofs.strokes.paint_block.Tie as tie
 
 abbrev Inv-loop : tie.InvT-loop
-Inv-loop before block radius text₀ q₀ turns₀ text q turns = Usable (q .machine .state) × (q .at ≤ length block)
+Inv-loop before block text₀ radius q₀ turns₀ text q turns = Usable (q .machine .state) × (q .at ≤ length block)
 
 abbrev μ-loop : tie.MeasureT-loop
-μ-loop before block radius text₀ q₀ turns₀ text q turns = turns
-
-large-buffer-requires : tie.Need-large-buffer-requires Inv-loop μ-loop
-large-buffer-requires c κs = tt
+μ-loop before block text₀ radius q₀ turns₀ text q turns = turns
 
 begun-requires : tie.Need-begun-requires Inv-loop μ-loop
 begun-requires c κs = search needs
@@ -40,7 +37,7 @@ loop-again : tie.Need-loop-again Inv-loop μ-loop
 loop-again c =
     let l : tie.At-loop Inv-loop μ-loop = search in
     let s : tie.Start Inv-loop μ-loop = search in
-    rw (c .step .ensures) (step-usable (l .loop .q) (now (s .args .block)) (l .loop .inv .0), step-within (l .loop .q) (now (s .args .block)) (l .loop .inv .1))
+    rw (c .step .ensures) (step-usable (l .loop .q) (now (s .args .block)) 0 (l .loop .inv .0), step-within (l .loop .q) (now (s .args .block)) 0 (l .loop .inv .1))
 
 returns-2 : tie.Need-returns-2 Inv-loop μ-loop
 returns-2 c = let l : tie.At-loop Inv-loop μ-loop = search in l .loop .inv .0
@@ -51,7 +48,6 @@ paint-block-spec =
     (tie.spec
     Inv-loop
     μ-loop
-    large-buffer-requires
     begun-requires
     loop-holds
     returns

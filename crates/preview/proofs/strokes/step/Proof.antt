@@ -9,6 +9,7 @@ use lib.ListN.{length, take, drop, length-drop}
 use lib.Seq.{take-length}
 use Rattle.feeding.specs.Feed.{feedOf}
 use Rattle.feeding.specs.FeedLaws.{feed-stored}
+use Rattle.feed.specs.declared.Listed.{Listed}
 use Rattle.feed.specs.Fed.{listedOf}
 use Rattle.preview.specs.Drawing.{afterOf}
 use Rattle.preview.specs.DrawingLaws.{step-within}
@@ -48,13 +49,14 @@ after-requires c κs =
     let l : tie.After-feed-list = search in
     let s : tie.Start = search in
     let long : length (now (s .args .block)) < 2 ^ 64 = search needs in
-    (few l, rw (listed l) (omega (arith, step-within (s .args .d) (now (s .args .block)) (s .pre .1), long)))
+    (few l, rw (listed l) (omega (arith, step-within (s .args .d) (now (s .args .block)) 0 (s .pre .1), long)))
 
 returns : tie.Need-returns
 returns c =
     let l : tie.After-feed-list = search in
     let s : tie.Start = search in
-    c .after .ensures ∙ ap (afterOf (s .args .d)) (listed l)
+    let e : tie.After-elements = search in
+    rw (c .after .ensures) (ap (λ (x : Listed). afterOf (s .args .d) x (e .elements .result)) (listed l))
 
 pub step-spec : {M : Type 1} → statement M
 step-spec =

@@ -8,10 +8,10 @@ use Rattle.survey.proofs.drawing.survey.Statement.{statement}
 use Rattle.survey.proofs.drawing.survey.Tie as tie
 
 abbrev Inv-loop : tie.InvT-loop
-Inv-loop block₀ d₀ turns₀ block d turns = (65536 ≡ length block) × Usable (d .machine .state)
+Inv-loop block₀ d₀ turns₀ t block d turns = (65536 ≡ length block) × Usable (d .machine .state)
 
 abbrev μ-loop : tie.MeasureT-loop
-μ-loop block₀ d₀ turns₀ block d turns = turns
+μ-loop block₀ d₀ turns₀ t block d turns = turns
 
 large-buffer-requires : tie.Need-large-buffer-requires Inv-loop μ-loop
 large-buffer-requires c κs = search needs
@@ -37,17 +37,17 @@ slice-aggregate-read c = search needs
 read-requires : tie.Need-read-requires Inv-loop μ-loop
 read-requires c κs = search needs
 
+slice-aggregate-fail : tie.Need-slice-aggregate-fail Inv-loop μ-loop
+slice-aggregate-fail c = search needs
+
+fail-requires : tie.Need-fail-requires Inv-loop μ-loop
+fail-requires c κs = search needs
+
 finished-requires : tie.Need-finished-requires Inv-loop μ-loop
 finished-requires c κs = let l : tie.At-loop Inv-loop μ-loop = search in l .loop .inv .1
 
 returns : tie.Need-returns Inv-loop μ-loop
 returns c = tt
-
-slice-aggregate-count : tie.Need-slice-aggregate-count Inv-loop μ-loop
-slice-aggregate-count c = search needs
-
-count-requires : tie.Need-count-requires Inv-loop μ-loop
-count-requires c κs = search needs
 
 finished-requires-2 : tie.Need-finished-requires-2 Inv-loop μ-loop
 finished-requires-2 c κs = let l : tie.At-loop Inv-loop μ-loop = search in l .loop .inv .1
@@ -101,10 +101,10 @@ survey-spec =
     loop-holds
     slice-aggregate-read
     read-requires
+    slice-aggregate-fail
+    fail-requires
     finished-requires
     returns
-    slice-aggregate-count
-    count-requires
     finished-requires-2
     returns-2
     array-share-prefix-block

@@ -5,10 +5,10 @@ use Rattle.survey.proofs.page.groups.Statement.{statement}
 use Rattle.survey.proofs.page.groups.Tie as tie
 
 abbrev Inv-loop : tie.InvT-loop
-Inv-loop r i₀ i = i ≤ 16
+Inv-loop text₀ used r end₀ i₀ text end i = i ≤ 16
 
 abbrev μ-loop : tie.MeasureT-loop
-μ-loop r i₀ i = 16 - i
+μ-loop text₀ used r end₀ i₀ text end i = 16 - i
 
 loop-holds : tie.Need-loop-holds Inv-loop μ-loop
 loop-holds c = search needs

@@ -5,10 +5,10 @@ use Rattle.survey.proofs.page.pens.Statement.{statement}
 use Rattle.survey.proofs.page.pens.Tie as tie
 
 abbrev Inv-loop : tie.InvT-loop
-Inv-loop p pen₀ pen = pen ≤ 9
+Inv-loop text₀ used p end₀ pen₀ text end pen = pen ≤ 9
 
 abbrev μ-loop : tie.MeasureT-loop
-μ-loop p pen₀ pen = 9 - pen
+μ-loop text₀ used p end₀ pen₀ text end pen = 9 - pen
 
 loop-holds : tie.Need-loop-holds Inv-loop μ-loop
 loop-holds c = search needs
@@ -19,11 +19,11 @@ mul-strokes c = search needs
 element-copy-out-strokes : tie.Need-element-copy-out-strokes Inv-loop μ-loop
 element-copy-out-strokes c = search needs
 
-say-column-requires : tie.Need-say-column-requires Inv-loop μ-loop
-say-column-requires c κs = search needs
+column-requires : tie.Need-column-requires Inv-loop μ-loop
+column-requires c κs = search needs
 
-say-column-requires-2 : tie.Need-say-column-requires-2 Inv-loop μ-loop
-say-column-requires-2 c κs = search needs
+column-requires-2 : tie.Need-column-requires-2 Inv-loop μ-loop
+column-requires-2 c κs = search needs
 
 mul-lengths : tie.Need-mul-lengths Inv-loop μ-loop
 mul-lengths c = search needs
@@ -55,8 +55,8 @@ pens-spec =
     loop-holds
     mul-strokes
     element-copy-out-strokes
-    say-column-requires
-    say-column-requires-2
+    column-requires
+    column-requires-2
     mul-lengths
     element-copy-out-lengths
     lengths-requires

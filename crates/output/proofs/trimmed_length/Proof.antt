@@ -4,10 +4,10 @@ use Prim.Native.Nat.{_≤_}
 use native.Mathlib.Omega.{arith}
 use denote.Ref.{now}
 use lib.ListN.{length}
-use Rattle.console.specs.Sums.{trimmed, trimmedTo}
-use Rattle.console.specs.Laws.{trim-blank, trim-other}
-use Rattle.console.proofs.trimmed_length.Statement.{statement}
-use Rattle.console.proofs.trimmed_length.Tie as tie
+use Rattle.output.specs.Words.{trimmed, trimmedTo}
+use Rattle.output.specs.WordsLaws.{trim-blank, trim-other}
+use Rattle.output.proofs.trimmed_length.Statement.{statement}
+use Rattle.output.proofs.trimmed_length.Tie as tie
 
 abbrev Inv-loop : tie.InvT-loop
 Inv-loop text n₀ n = (n ≤ length text) × (trimmed text ≡ trimmedTo text n)

@@ -6,7 +6,7 @@ use Prim.Native.Nat.{ℕ, zero, suc, _-_, _<_}
 use native.Mathlib.Omega.{arith}
 use borrow.Author.Tests.{eq-eqb, ne-eqb}
 use lib.ListN.{getD}
-use Rattle.console.specs.Sums.{trimmedTo}
+use Rattle.output.specs.Words.{trimmedTo}
 
 module _ (text : List ℕ) where
   pub trim-blank : (n : ℕ) → 0 < n → getD text (n - 1) 0 ≡ code " " → trimmedTo text n ≡ trimmedTo text (n - 1)

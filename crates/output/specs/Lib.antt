@@ -1,0 +1,3 @@
+pub mod Gathered
+pub mod Words
+pub mod WordsLaws
