@@ -11,12 +11,11 @@ use Rattle.hpgl.specs.declared.Work.the-variants.{Nothing, Line, Chords, Edges}
 use Rattle.hpgl.specs.declared.State.{State}
 use Rattle.hpgl.specs.declared.Stroke.{Stroke}
 use Rattle.hpgl.specs.declared.Drawn.{Drawn}
-use Rattle.hpgl.specs.declared.Drawn.the-variants as drawn
+use Rattle.hpgl.specs.declared.Drawn.the-variants as answer
 use Rattle.hpgl.specs.Machine.{waiting, workAfter, takeState, drawWork, drawState, drawAnswer}
 use Rattle.feeding.specs.DrawOff.{drewBy, drawOffBy}
 use lib.ListN.{length}
-use Rattle.hpgl.specs.Valid.{Usable}
-use Rattle.hpgl.specs.ValidKept.{usable-take, usable-draw}
+use Rattle.feeding.specs.Led.{Led, here, taken, drawn}
 
 -- ---- how many segments wait, and what draw answers
 
@@ -39,7 +38,7 @@ pub draw-less : (m : State) (k : ℕ) → waiting (m .work) ≡ suc k → waitin
 unfolding drawState
 draw-less m k h = work-less (m .work) k h
 
-idle-work : (m : State) (w : Work) → waiting w ≡ 0 → drawWork m w ≡ drawn.Idle
+idle-work : (m : State) (w : Work) → waiting w ≡ 0 → drawWork m w ≡ answer.Idle
 unfolding waiting drawWork
 idle-work m Nothing h = refl
 idle-work m (Line a b) h = absurd (omega arith)
@@ -49,7 +48,7 @@ idle-work m (Edges i zero) h = refl
 idle-work m (Edges i (suc n)) h = absurd (omega arith)
 
 -- "or idle if none waits"
-pub draw-idle : (m : State) → waiting (m .work) ≡ 0 → drawAnswer m ≡ drawn.Idle
+pub draw-idle : (m : State) → waiting (m .work) ≡ 0 → drawAnswer m ≡ answer.Idle
 unfolding drawAnswer
 draw-idle m h = idle-work m (m .work) h
 
@@ -87,35 +86,34 @@ module _ {A : Type 0} (drew : Drawn → ℕ → (ℕ → A) → A) (full : State
 -- a stroke uses a record
 pub drew-all : {A : Type 0} (store : Stroke → A → A) (P : ℕ → A → Type 0) → ((s : Stroke) (r : ℕ) (f : A) → P r f → P (suc r) (store s f))
     → (d : Drawn) (r : ℕ) (next : ℕ → A) → ((q : ℕ) → P q (next q)) → P (suc r) (drewBy store d r next)
-drew-all store P k (drawn.Stroke s) r next h = k s r (next r) (h r)
-drew-all store P k drawn.Hidden r next h = h (suc r)
-drew-all store P k drawn.Idle r next h = h (suc r)
+drew-all store P k (answer.Stroke s) r next h = k s r (next r) (h r)
+drew-all store P k answer.Hidden r next h = h (suc r)
+drew-all store P k answer.Idle r next h = h (suc r)
 
 -- ---- what is left
 
--- from the machine m, with t bytes taken, n left, which are bytes where B holds, and r records free, to the machine i, with k bytes taken and j records used
-pub record Kept (m : State) (t n r : ℕ) (i : State) (k j : ℕ) : Type 0 where
+-- from the machine m, with t bytes taken, these bytes left and r records free, to the machine i, with k bytes taken and j records used
+pub record Kept (m : State) (t : ℕ) (bs : List ℕ) (r : ℕ) (i : State) (k j : ℕ) : Type 0 where
   pub least : t ≤ k
-  pub most : k ≤ t + n
+  pub most : k ≤ t + length bs
   pub stored : j ≤ r
-  pub usable : Usable m → Usable i
+  pub led : Led m bs i
 
-module _ {t n : ℕ} {i : State} {k j : ℕ} where
-  pub stored-kept : {m : State} {r : ℕ} → Kept m t n r i k j → Kept m t n (suc r) i k (suc j)
-  stored-kept h = record { least = h .least; most = h .most; stored = omega (arith, h .stored); usable = h .usable }
+module _ {t : ℕ} {bs : List ℕ} {i : State} {k j : ℕ} where
+  pub stored-kept : {m : State} {r : ℕ} → Kept m t bs r i k j → Kept m t bs (suc r) i k (suc j)
+  stored-kept h = record { least = h .least; most = h .most; stored = omega (arith, h .stored); led = h .led }
 
-  pub drawn-kept : {m : State} {r : ℕ} → Kept (drawState m) t n r i k j → Kept m t n r i k j
-  drawn-kept h = record { least = h .least; most = h .most; stored = h .stored; usable = λ w. h .usable (usable-draw w) }
+  pub drawn-kept : {m : State} {r : ℕ} → Kept (drawState m) t bs r i k j → Kept m t bs r i k j
+  drawn-kept h = record { least = h .least; most = h .most; stored = h .stored; led = drawn (h .led) }
 
-pub stop-kept : (m : State) (t n r : ℕ) → Kept m t n r m t 0
-stop-kept m t n r = record { least = omega arith; most = omega arith; stored = omega arith; usable = λ w. w }
+pub stop-kept : (m : State) (t : ℕ) (bs : List ℕ) (r : ℕ) → Kept m t bs r m t 0
+stop-kept m t bs r = record { least = omega arith; most = omega arith; stored = omega arith; led = here }
 
 -- a byte is taken, and what is left follows
-pub byte-kept : {i : State} {k j : ℕ} (m : State) (b : ℕ) (bs : List ℕ) (t r : ℕ) → Kept (takeState m b) (t + 1) (length bs) r i k j →
-    Kept m t (suc (length bs)) r i k j
+pub byte-kept : {i : State} {k j : ℕ} (m : State) (b : ℕ) (bs : List ℕ) (t r : ℕ) → Kept (takeState m b) (t + 1) bs r i k j → Kept m t (b ∷ bs) r i k j
 byte-kept m b bs t r h = record {
   least = omega (arith, h .least);
   most = omega (arith, h .most);
   stored = h .stored;
-  usable = λ w. h .usable (usable-take b w);
+  led = taken b (h .led);
 }

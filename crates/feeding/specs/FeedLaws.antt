@@ -14,9 +14,11 @@ use Rattle.feeding.specs.DrawOff.{listFull}
 use Rattle.hpgl.specs.Machine.{waiting, takeState, takeNumber, drawState, drawAnswer}
 use Rattle.feeding.specs.Feed.{Feed, stop, store, drew, drawOff, feedFrom}
 pub use Rattle.feeding.specs.DrawOffLaws.{draw-less, draw-idle}
-use lib.ListN.{length}
+use lib.ListN.{length, getD}
 use Rattle.feeding.specs.DrawOffLaws.{off-idle, off-full, off-draw, off-all, drew-all, Kept, stored-kept, drawn-kept, stop-kept, byte-kept}
 use Rattle.hpgl.specs.Valid.{Usable}
+use Rattle.hpgl.specs.Made.{Made}
+use Rattle.feeding.specs.Led.{Led, usable-led, made-led}
 
 -- ---- one step
 
@@ -71,25 +73,25 @@ module _ (m : State) (bs : List ℕ) (t : ℕ) where
 
 -- ---- what feed leaves
 
-module _ (t n : ℕ) where
+module _ (t : ℕ) (bs : List ℕ) where
   abbrev Leaves : State → ℕ → Feed → Type 0
-  Leaves m r f = Kept m t n r (f .state) (f .taken) (length (f .strokes))
+  Leaves m r f = Kept m t bs r (f .state) (f .taken) (length (f .strokes))
 
   off-kept : (k : ℕ) (m : State) (r : ℕ) (idle : State → ℕ → Feed) → ((i : State) (q : ℕ) → Leaves i q (idle i q)) → Leaves m r (drawOff k m t r idle)
   unfolding drawOff drew
   off-kept k m r idle h =
-      off-all drew (full t) idle Leaves h (λ i. stop-kept i t n 0)
+      off-all drew (full t) idle Leaves h (λ i. stop-kept i t bs 0)
       (λ i q next l. drew-all store (Leaves i) (λ s p f. stored-kept) (drawAnswer i) q next (λ p. drawn-kept (l p))) k m r
 
-kept : (m : State) (bs : List ℕ) (t r : ℕ) → Leaves t (length bs) m r (feedFrom m bs t r)
+kept : (m : State) (bs : List ℕ) (t r : ℕ) → Leaves t bs m r (feedFrom m bs t r)
 unfolding feedFrom
-kept m [] t r = off-kept t 0 (waiting (m .work)) m r (λ i q. stop i t 0) (λ i q. stop-kept i t 0 q)
-kept m (b ∷ bs) t r = off-kept t (suc (length bs)) (waiting (m .work)) m r _ (λ i q. byte-kept i b bs t q (go i q (eqb (takeNumber i b) 0) (kept (takeState i b) bs (t + 1) q)))
+kept m [] t r = off-kept t [] (waiting (m .work)) m r (λ i q. stop i t 0) (λ i q. stop-kept i t [] q)
+kept m (b ∷ bs) t r = off-kept t (b ∷ bs) (waiting (m .work)) m r _ (λ i q. byte-kept i b bs t q (go i q (eqb (takeNumber i b) 0) (kept (takeState i b) bs (t + 1) q)))
   where
-    go : (i : State) (q : ℕ) (e : Bool) → Leaves (t + 1) (length bs) (takeState i b) q (feedFrom (takeState i b) bs (t + 1) q) →
-        Leaves (t + 1) (length bs) (takeState i b) q (cond e (feedFrom (takeState i b) bs (t + 1) q) (stop (takeState i b) (t + 1) (takeNumber i b)))
+    go : (i : State) (q : ℕ) (e : Bool) → Leaves (t + 1) bs (takeState i b) q (feedFrom (takeState i b) bs (t + 1) q) →
+        Leaves (t + 1) bs (takeState i b) q (cond e (feedFrom (takeState i b) bs (t + 1) q) (stop (takeState i b) (t + 1) (takeNumber i b)))
     go i q true h = h
-    go i q false h = stop-kept (takeState i b) (t + 1) (length bs) q
+    go i q false h = stop-kept (takeState i b) (t + 1) bs q
 
 -- no byte is taken twice, and none past the end
 pub feed-place : (m : State) (bs : List ℕ) (t r : ℕ) → (t ≤ feedFrom m bs t r .taken) × (feedFrom m bs t r .taken ≤ t + length bs)
@@ -99,6 +101,13 @@ feed-place m bs t r = let k = kept m bs t r in (k .least, k .most)
 pub feed-stored : (m : State) (bs : List ℕ) (t r : ℕ) → length (feedFrom m bs t r .strokes) ≤ r
 feed-stored m bs t r = kept m bs t r .stored
 
--- the machine after it may be used again
+-- take and draw would have led there, byte by byte
+pub feed-led : (m : State) (bs : List ℕ) (t r : ℕ) → Led m bs (feedFrom m bs t r .state)
+feed-led m bs t r = kept m bs t r .led
+
+-- so the machine after it may be used again, and comes from the calls if the one before it does
 pub feed-usable : (m : State) (bs : List ℕ) (t r : ℕ) → Usable m → Usable (feedFrom m bs t r .state)
-feed-usable m bs t r w = kept m bs t r .usable w
+feed-usable m bs t r w = usable-led (feed-led m bs t r) w
+
+pub feed-made : (m : State) (bs : List ℕ) (t r : ℕ) → ((k : ℕ) → getD bs k 0 < 256) → Made m → Made (feedFrom m bs t r .state)
+feed-made m bs t r h w = made-led (feed-led m bs t r) h w

@@ -1,6 +1,7 @@
 pub mod DrawOff
 pub mod Feed
 pub mod Plot
+pub mod Led
 pub mod DrawOffLaws
 pub mod FeedLaws
 pub mod PlotLaws

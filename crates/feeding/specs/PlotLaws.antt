@@ -9,9 +9,11 @@ use Rattle.hpgl.specs.declared.State.{State}
 use Rattle.feeding.specs.DrawOff.{listFull}
 use Rattle.hpgl.specs.Machine.{waiting, takeState, takeNumber, drawState, drawAnswer}
 use Rattle.feeding.specs.Plot.{Plot, stroke, refusal, stop, store, drew, took, drawOff, takeOn, plotFrom}
-use lib.ListN.{length}
+use lib.ListN.{length, getD}
 use Rattle.feeding.specs.DrawOffLaws.{off-idle, off-full, off-draw, off-all, drew-all, Kept, stored-kept, drawn-kept, stop-kept, byte-kept}
 use Rattle.hpgl.specs.Valid.{Usable}
+use Rattle.hpgl.specs.Made.{Made}
+use Rattle.feeding.specs.Led.{Led, usable-led, made-led}
 
 -- ---- one step
 
@@ -66,9 +68,9 @@ took-refused (suc n) t r next f = refl
 
 -- ---- what plot leaves
 
-module _ (t n : ℕ) where
+module _ (t : ℕ) (bs : List ℕ) where
   abbrev Leaves : State → ℕ → Plot → Type 0
-  Leaves m r f = Kept m t n r (f .state) (f .taken) (length (f .marks))
+  Leaves m r f = Kept m t bs r (f .state) (f .taken) (length (f .marks))
 
   took-kept : (m : State) (k i r : ℕ) (next : ℕ → Plot) → ((q : ℕ) → Leaves m q (next q)) → Leaves m (suc r) (took k i r next)
   unfolding took
@@ -78,21 +80,21 @@ module _ (t n : ℕ) where
   off-kept : (k : ℕ) (m : State) (r : ℕ) (idle : State → ℕ → Plot) → ((i : State) (q : ℕ) → Leaves i q (idle i q)) → Leaves m r (drawOff k m t r idle)
   unfolding drawOff drew
   off-kept k m r idle h =
-      off-all drew (full t) idle Leaves h (λ i. stop-kept i t n 0)
+      off-all drew (full t) idle Leaves h (λ i. stop-kept i t bs 0)
       (λ i q next l. drew-all (λ s. store (stroke s)) (Leaves i) (λ s p f. stored-kept) (drawAnswer i) q next (λ p. drawn-kept (l p))) k m r
 
 take-kept : (m : State) (b : ℕ) (bs : List ℕ) (t r : ℕ) (next : State → ℕ → Plot) →
-    ((q : ℕ) → Leaves (t + 1) (length bs) (takeState m b) q (next (takeState m b) q)) → Leaves t (suc (length bs)) m r (takeOn m b t r next)
+    ((q : ℕ) → Leaves (t + 1) bs (takeState m b) q (next (takeState m b) q)) → Leaves t (b ∷ bs) m r (takeOn m b t r next)
 unfolding takeOn
-take-kept m b bs t zero next h = stop-kept m t (suc (length bs)) 0
+take-kept m b bs t zero next h = stop-kept m t (b ∷ bs) 0
 take-kept m b bs t (suc r) next h =
-    took-kept t (suc (length bs)) m (takeNumber m b) (t + 1) r (λ q. next (takeState m b) q) (λ q. byte-kept m b bs t q (h q))
+    took-kept t (b ∷ bs) m (takeNumber m b) (t + 1) r (λ q. next (takeState m b) q) (λ q. byte-kept m b bs t q (h q))
 
-kept : (m : State) (bs : List ℕ) (t r : ℕ) → Leaves t (length bs) m r (plotFrom m bs t r)
+kept : (m : State) (bs : List ℕ) (t r : ℕ) → Leaves t bs m r (plotFrom m bs t r)
 unfolding plotFrom
-kept m [] t r = off-kept t 0 (waiting (m .work)) m r (λ i q. stop i t 0) (λ i q. stop-kept i t 0 q)
+kept m [] t r = off-kept t [] (waiting (m .work)) m r (λ i q. stop i t 0) (λ i q. stop-kept i t [] q)
 kept m (b ∷ bs) t r =
-    off-kept t (suc (length bs)) (waiting (m .work)) m r _
+    off-kept t (b ∷ bs) (waiting (m .work)) m r _
     (λ i q. take-kept i b bs t q (λ j p. plotFrom j bs (t + 1) p) (λ p. kept (takeState i b) bs (t + 1) p))
 
 -- no byte is taken twice, and none past the end
@@ -103,6 +105,13 @@ plot-place m bs t r = let k = kept m bs t r in (k .least, k .most)
 pub plot-stored : (m : State) (bs : List ℕ) (t r : ℕ) → length (plotFrom m bs t r .marks) ≤ r
 plot-stored m bs t r = kept m bs t r .stored
 
--- the machine after it may be used again
+-- take and draw would have led there, byte by byte
+pub plot-led : (m : State) (bs : List ℕ) (t r : ℕ) → Led m bs (plotFrom m bs t r .state)
+plot-led m bs t r = kept m bs t r .led
+
+-- so the machine after it may be used again, and comes from the calls if the one before it does
 pub plot-usable : (m : State) (bs : List ℕ) (t r : ℕ) → Usable m → Usable (plotFrom m bs t r .state)
-plot-usable m bs t r w = kept m bs t r .usable w
+plot-usable m bs t r w = usable-led (plot-led m bs t r) w
+
+pub plot-made : (m : State) (bs : List ℕ) (t r : ℕ) → ((k : ℕ) → getD bs k 0 < 256) → Made m → Made (plotFrom m bs t r .state)
+plot-made m bs t r h w = made-led (plot-led m bs t r) h w

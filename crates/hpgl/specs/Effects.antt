@@ -110,8 +110,8 @@ abbrev pub newWindow : Core → Numbers → Window
 newWindow c n = cond (eqb (n .count) 0) noWindow (record { set = true; area = orderedOf (firstCorner c n) (secondCorner c n) })
 
 -- bytes: "9 for each point, 2 when the point is the first of a PU or PD that itself changed the pen"; the point that closes a subpolygon
-abbrev pub pointBytes : Core → ℕ
-pointBytes c = cond (c .carriage .pen .changed) 11 9
+abbrev pub pairBytes : Core → ℕ
+pairBytes c = cond (c .carriage .pen .changed) 11 9
 
 abbrev pub closingBytes : Core → ℕ
 closingBytes c = cond (closes c) 9 0
@@ -133,7 +133,7 @@ atName op c =
 
 abbrev pub atPair : Core → Coordinates → Polygon → Core
 atPair c n g =
-    cond (c .carriage .polygon .mode) (c ▸ position (target c n) ▸ penChanged false ▸ polygon g true (bytes c + pointBytes c))
+    cond (c .carriage .polygon .mode) (c ▸ position (target c n) ▸ penChanged false ▸ polygon g true (bytes c + pairBytes c))
     (c ▸ position (target c n) ▸ penChanged false)
 
 -- ---- an instruction that ends

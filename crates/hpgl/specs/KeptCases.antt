@@ -1,4 +1,4 @@
--- How the proof is put together that a rule keeps the core valid: it is the rule's definition with each leaf replaced, and each `cond` by `when`, or by
+-- How the proof is put together that a rule keeps the core valid: it is the rule's definition with each leaf replaced, and each `cond` by `whether`, or by
 -- `pick` of Cases.antt where the test does not matter.
 use mathlib.Core.Path.{_≡_, refl}
 use mathlib.Core.Bool.{Bool, true, false, cond, _&&_}
@@ -18,11 +18,6 @@ use Rattle.hpgl.specs.Rules.{done, refuse, inked}
 use Rattle.hpgl.specs.Machine.{waiting, queued}
 use Rattle.hpgl.specs.Valid.{ValidSettings, Placed, KeptPosition, ValidPolygon, ValidCore, ValidAction, Inked, ValidActed}
 use Rattle.hpgl.specs.Cases.{never}
-
--- with what the test says
-pub when : {A : Type 0} (P : A → Type 0) (t : Bool) {x y : A} → (t ≡ true → P x) → (t ≡ false → P y) → P (cond t x y)
-when P true g h = g refl
-when P false g h = h refl
 
 -- a core, by the parts of which something is asked
 pub valid-core : {d : Core} → ValidSettings (d .settings) → Placed (d .settings) (d .carriage .position) → d .carriage .pen .number ≤ mostPen →

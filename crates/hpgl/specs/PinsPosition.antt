@@ -58,7 +58,7 @@ fromLeast true r n = n -ℤ r .min
 fromLeast false r n = n
 
 -- e is P1 + (n − min) × D / W on each axis; with scaling off it is n / 10,000
-pub record Placed (s : Settings) (e : Exact) (n : Coordinates) : Type 0 where
+pub record StandsFor (s : Settings) (e : Exact) (n : Coordinates) : Type 0 where
   pub x : Moves (whole (startOf (s .scale .on) (s .p1 .x))) (e .x) (fromLeast (s .scale .on) (s .scale .x) (n .x))
       (spanOf (s .scale .on) (s .p1 .x) (s .p2 .x)) (widthOf (s .scale .on) (s .scale .x))
   pub y : Moves (whole (startOf (s .scale .on) (s .p1 .y))) (e .y) (fromLeast (s .scale .on) (s .scale .y) (n .y))
@@ -135,7 +135,7 @@ shifted s p n w = record {
   y = axis-moved (s .scale .on) (s .p1 .y) (s .p2 .y) (s .scale .y) (p .y) (n .y) (w .y);
 }
 
-pub placed : (s : Settings) (n : Coordinates) → Sound s → Placed s (exactPosition s (absolutePosition s n)) n
+pub placed : (s : Settings) (n : Coordinates) → Sound s → StandsFor s (exactPosition s (absolutePosition s n)) n
 unfolding exactPosition absolutePosition axisX axisY
 placed s n w = record {
   x = axis-put (s .scale .on) (s .p1 .x) (s .p2 .x) (s .scale .x) (n .x) (w .x);
@@ -189,12 +189,12 @@ module _ (c : Core) where
 
   -- "Absolute mode sets B to P1 and O to number − min (off: B 0, O number)."
   pub absolute-pair : (n : Coordinates) → Sound (c .settings) → c .carriage .relative ≡ false → pairRule c n .number ≡ 0 →
-      Placed (c .settings) (standing (pairRule c n .core)) n
+      StandsFor (c .settings) (standing (pairRule c n .core)) n
   unfolding aimed
   absolute-pair n w r e =
       let a : Arrives c (pairRule c n .core) (aimed c n) = goes-pair n e in
       let k : aimed c n ≡ absolutePosition (c .settings) n = cond-false (c .carriage .relative) _ _ r in
-      subst (λ (f : Exact). Placed (c .settings) f n) (sym (stands a ∙ ap (exactPosition (c .settings)) k)) (placed (c .settings) n w)
+      subst (λ (f : Exact). StandsFor (c .settings) f n) (sym (stands a ∙ ap (exactPosition (c .settings)) k)) (placed (c .settings) n w)
 
 -- ---- a chain of pairs. It excludes "Rounding a PR to whole units before adding": as many roundings as there are pairs would add up
 

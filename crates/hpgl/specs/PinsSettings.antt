@@ -31,7 +31,7 @@ use Rattle.hpgl.specs.Change.{withRelative, withCarriage}
 use Rattle.hpgl.specs.Rules.{done, refuse, freshSettings, freshCarriage, rebased, inRule, dfRule, goodCorners, setCorners, ipRule, scRule, setTurn, roRule, setWindow, iwRule, endRule}
 use Rattle.hpgl.specs.Related.{Sound}
 use Rattle.hpgl.specs.PolygonLinked.{location-nearest}
-use Rattle.hpgl.specs.PinsPosition.{Placed, placed}
+use Rattle.hpgl.specs.PinsPosition.{StandsFor, placed}
 
 -- ---- "When IN, DF, IP, SC or RO is carried out, B becomes the location and O 0."
 
@@ -56,7 +56,7 @@ Stays corners c d = SameLocation c d
 Stays scale c d = SameLocation c d
 Stays turn c d = SamePage c d
 
-pub record Rests (Same : Core → Core → Type 0) (c d : Core) : Type 0 where
+pub record Rested (Same : Core → Core → Type 0) (c d : Core) : Type 0 where
   -- B is the location and O 0
   pub rests : d .carriage .position ≡ restAt (location (d .settings) (d .carriage .position))
   pub stays : Same c d
@@ -89,14 +89,14 @@ rest-located s p = λ i. point (rest-axis (axisX s) (p .x) i) (rest-axis (axisY 
 -- ---- the rules
 
 -- new settings with the turn as it was
-unturned : (c : Core) → c .settings .turn < turnCount → (s : Settings) → s .turn ≡ c .settings .turn → Rests SameLocation c (rebased c s)
+unturned : (c : Core) → c .settings .turn < turnCount → (s : Settings) → s .turn ≡ c .settings .turn → Rested SameLocation c (rebased c s)
 unfolding rebased pagePoint
 unturned c h s e = record {
   rests = ap restAt (sym (rest-located s _));
   stays = rest-located s _ ∙ ap (turnedBackOf (turnedOf (location (c .settings) (c .carriage .position)) (c .settings .turn))) e ∙ back-forth _ (c .settings .turn) h;
 }
 
-turned : (c : Core) (s : Settings) → s .turn < turnCount → Rests SamePage c (rebased c s)
+turned : (c : Core) (s : Settings) → s .turn < turnCount → Rested SamePage c (rebased c s)
 unfolding rebased pagePoint
 turned c s l = record {
   rests = ap restAt (sym (rest-located s _));
@@ -105,7 +105,7 @@ turned c s l = record {
 
 module _ (c : Core) (h : c .settings .turn < turnCount) where
   abbrev Settles : (Core → Core → Type 0) → Acted → Type 0
-  Settles Same t = t .number ≡ 0 → Rests Same c (t .core)
+  Settles Same t = t .number ≡ 0 → Rested Same c (t .core)
 
   refuses : (Same : Core → Core → Type 0) (d : Core) (k : ℕ) → Settles Same (refuse d (suc k))
   unfolding refuse
@@ -145,7 +145,7 @@ module _ (c : Core) (h : c .settings .turn < turnCount) where
       (pick (Settles SamePage) (rounded (n .first) ≡? pos quarterAngle) (λ e. turned c _ (omega arith)) (refuses SamePage _ _)))
 
   -- IN, DF, IP, SC and RO, carried out
-  pub settled : {op : ℕ} (k : Rebasing op) (n : Numbers) → endRule c op n .number ≡ 0 → Rests (Stays k) c (endRule c op n .core)
+  pub settled : {op : ℕ} (k : Rebasing op) (n : Numbers) → endRule c op n .number ≡ 0 → Rested (Stays k) c (endRule c op n .core)
   unfolding endRule
   settled initialize n = settles-in
   settled defaults n = settles-df
@@ -159,8 +159,8 @@ module _ (c : Core) (h : c .settings .turn < turnCount) where
 pub record Windowed (c : Core) (n : Numbers) (d : Core) : Type 0 where
   pub corner : Exact
   pub opposite : Exact
-  pub first : Placed (c .settings) corner (record { x = n .first; y = n .second })
-  pub second : Placed (c .settings) opposite (record { x = n .third; y = n .fourth })
+  pub first : StandsFor (c .settings) corner (record { x = n .first; y = n .second })
+  pub second : StandsFor (c .settings) opposite (record { x = n .third; y = n .fourth })
   pub set : d .settings .window .set ≡ true
   pub area : d .settings .window .area ≡ orderedOf (nearest corner) (nearest opposite)
   -- "the limits: hard limits and, if set, the turned window"

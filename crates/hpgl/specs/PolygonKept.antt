@@ -19,8 +19,8 @@ use Rattle.hpgl.specs.Place.{rounded, location, inRange}
 use Rattle.hpgl.specs.Rules.{inked, edgeTo, begun, pm0, closes, endedWith, ended, pm1In, pm1, leave, pm2In, pm2, pmRule, epRule, rectangular, rectangleTo, eaRule, erRule}
 use Rattle.hpgl.specs.Valid.{LocatablePosition, Placed, ValidPolygon, ValidCore, ValidAction, ValidActed}
 use Rattle.hpgl.specs.ValidFacts.{absolute-locatable, relative-locatable, located-placed, placed-kept, edge-room}
-use Rattle.hpgl.specs.Cases.{pick}
-use Rattle.hpgl.specs.KeptCases.{Inks, when, valid-core, closed-polygon, joins, with-ink, rectangle-with-ink, refuses, acts, keeps}
+use Rattle.hpgl.specs.Cases.{pick, whether}
+use Rattle.hpgl.specs.KeptCases.{Inks, valid-core, closed-polygon, joins, with-ink, rectangle-with-ink, refuses, acts, keeps}
 use Rattle.hpgl.specs.PositionKept.{edge-valid}
 
 -- ---- PM
@@ -67,12 +67,12 @@ module _ {c : Core} (w : ValidCore c) (o : c .carriage .polygon .mode ≡ true) 
   valid-pm1-in =
       let b : ℕ = c .carriage .polygon .bytes in
       pick (ValidActed c) (closes c)
-      (when (ValidActed c) (leb (b + (modeBytes + pointBytes)) polygonBytes)
+      (whether (ValidActed c) (leb (b + (modeBytes + pointBytes)) polygonBytes)
       (λ e. let r = room-of (modeBytes + pointBytes) (omega arith) e in
       acts c _ _ (edge-valid w (w .polygon .first o) r)
       (ended-valid (modeBytes + pointBytes) 1 (c .carriage .polygon .first) (w .polygon .first o) e (omega (arith, r)) (omega arith)) (edge-quiet _))
       (λ e. refuses c c polygonFull (omega arith) w))
-      (when (ValidActed c) (leb (b + modeBytes) polygonBytes)
+      (whether (ValidActed c) (leb (b + modeBytes) polygonBytes)
       (λ e. keeps c _ (ended-valid modeBytes 0 (c .carriage .position) (w .position) e (omega (arith, w .polygon .edges)) (omega arith)))
       (λ e. refuses c c polygonFull (omega arith) w))
 
@@ -86,7 +86,7 @@ module _ {c : Core} (w : ValidCore c) (o : c .carriage .polygon .mode ≡ true) 
       let b : ℕ = c .carriage .polygon .bytes in
       let plain : ValidCore (leave c 0 0) = leave-valid 0 0 (omega (arith, w .polygon .bytes)) (omega (arith, w .polygon .edges)) in
       pick (ValidActed c) (closes c)
-      (when (ValidActed c) (leb (b + pointBytes) polygonBytes)
+      (whether (ValidActed c) (leb (b + pointBytes) polygonBytes)
       (λ e. let r = room-of pointBytes (omega arith) e in
       acts c _ _ (edge-valid w (w .polygon .first o) r) (leave-valid pointBytes 1 (leb-true (b + pointBytes) polygonBytes e) (omega (arith, r))) (edge-quiet _))
       (λ e. refuses c _ polygonFull (omega arith) plain))
@@ -94,11 +94,11 @@ module _ {c : Core} (w : ValidCore c) (o : c .carriage .polygon .mode ≡ true) 
 
 pub valid-pm1 : {c : Core} → ValidCore c → ValidActed c (pm1 c)
 unfolding pm1
-valid-pm1 {c} w = when (ValidActed c) (c .carriage .polygon .mode) (λ o. valid-pm1-in w o) (λ o. refuses c c outOfRange (omega arith) w)
+valid-pm1 {c} w = whether (ValidActed c) (c .carriage .polygon .mode) (λ o. valid-pm1-in w o) (λ o. refuses c c outOfRange (omega arith) w)
 
 pub valid-pm2 : {c : Core} → ValidCore c → ValidActed c (pm2 c)
 unfolding pm2
-valid-pm2 {c} w = when (ValidActed c) (c .carriage .polygon .mode) (λ o. valid-pm2-in w o) (λ o. refuses c c outOfRange (omega arith) w)
+valid-pm2 {c} w = whether (ValidActed c) (c .carriage .polygon .mode) (λ o. valid-pm2-in w o) (λ o. refuses c c outOfRange (omega arith) w)
 
 pub valid-pm : {c : Core} (n : Numbers) → ValidCore c → ValidActed c (pmRule c n)
 unfolding pmRule
@@ -122,7 +122,7 @@ rectangular-valid w = closed-polygon refl (omega arith) (omega arith) (w .first-
 pub valid-rectangle : {c : Core} {p : Position} → ValidCore c → LocatablePosition (c .settings) p → ValidActed c (rectangleTo c p)
 unfolding rectangleTo inked
 valid-rectangle {c} {p} w h =
-    when (ValidActed c) (inRange (location (c .settings) p))
+    whether (ValidActed c) (inRange (location (c .settings) p))
     (λ e. acts c _ _ (w .position .near, located-placed h e .near) (valid-core (w .settings) (w .position) (w .pen) (rectangular-valid (w .polygon))) (rectangle-with-ink _ _ _))
     (λ e. refuses c c tooFar (omega arith) w)
 

@@ -15,8 +15,8 @@ use Rattle.hpgl.specs.Place.{location, inRange}
 use Rattle.hpgl.specs.Rules.{inked, moveTo, pointCost, longer, edgeTo, storePoint, goTo, pairRule}
 use Rattle.hpgl.specs.Valid.{LocatablePosition, Placed, KeptPosition, ValidCore, ValidAction, ValidActed}
 use Rattle.hpgl.specs.ValidFacts.{page-small, aimed-locatable, located-placed, placed-kept, cost-least, edge-room}
-use Rattle.hpgl.specs.Cases.{pick}
-use Rattle.hpgl.specs.KeptCases.{Inks, when, valid-core, quiet, joins, down-with-ink, refuses, acts}
+use Rattle.hpgl.specs.Cases.{pick, whether}
+use Rattle.hpgl.specs.KeptCases.{Inks, valid-core, quiet, joins, down-with-ink, refuses, acts}
 
 pub valid-move : {c : Core} {p : Position} → ValidCore c → Placed (c .settings) p → ValidActed c (moveTo c p)
 unfolding moveTo inked
@@ -53,7 +53,7 @@ valid-store {c} {p} w o h =
     let g = c .carriage .polygon in
     let n : ℕ = pointCost (c .carriage .pen) in
     let l : pointBytes ≤ n = cost-least (c .carriage .pen) in
-    when (ValidActed c) (leb (g .bytes + n) polygonBytes)
+    whether (ValidActed c) (leb (g .bytes + n) polygonBytes)
     (λ e. let b : g .bytes + n ≤ polygonBytes = leb-true (g .bytes + n) polygonBytes e in
     let r : g .edges < mostEdges = edge-room (w .polygon) o l b in
     acts c _ _ (pick (ValidAction (g .edges)) (g .empty) tt (edge-valid w h r))
@@ -73,8 +73,8 @@ valid-store {c} {p} w o h =
 pub valid-go : {c : Core} {p : Position} → ValidCore c → LocatablePosition (c .settings) p → ValidActed c (goTo c p)
 unfolding goTo
 valid-go {c} {p} w h =
-    when (ValidActed c) (inRange (location (c .settings) p))
-    (λ e. when (ValidActed c) (c .carriage .polygon .mode) (λ o. valid-store w o (located-placed h e)) (λ o. valid-move w (located-placed h e)))
+    whether (ValidActed c) (inRange (location (c .settings) p))
+    (λ e. whether (ValidActed c) (c .carriage .polygon .mode) (λ o. valid-store w o (located-placed h e)) (λ o. valid-move w (located-placed h e)))
     (λ e. refuses c c tooFar (omega arith) w)
 
 pub valid-pair : {c : Core} {n : Coordinates} → ValidCore c → SmallPair n → ValidActed c (pairRule c n)

@@ -16,7 +16,7 @@ use Rattle.plane.specs.Circle.{vertexPointOf}
 use Rattle.hpgl.specs.declared.Core.{Core}
 use Rattle.hpgl.specs.Place.{axisX, axisY, location, absolutePosition, relativePosition}
 use Rattle.hpgl.specs.Instruction.{Instruction, IN, DF, EP, IP, SC, IW, RO, SP, PM, CI, EA, ER, PU, PD, PA, PR}
-use Rattle.hpgl.specs.Effects.{target, newP1, newP2, firstCorner, secondCorner, pointBytes, closingBytes, bytes, Happens, nothing, name, pair, end, refusal}
+use Rattle.hpgl.specs.Effects.{target, newP1, newP2, firstCorner, secondCorner, pairBytes, closingBytes, bytes, Happens, nothing, name, pair, end, refusal}
 
 -- where P is met, what follows is so; where it is not, the number t is k
 pub record Needs (P : Type 0) (k t : ℕ) (rest : Type 0) : Type 0 where
@@ -64,8 +64,8 @@ pub data Known : ℕ → Type 0 where
   polygon : Known code.PM
   initialize : Known code.IN
 
-abbrev pub modeOn : Core → Type 0
-modeOn c = c .carriage .polygon .mode ≡ true
+abbrev pub PolygonMode : Core → Type 0
+PolygonMode c = c .carriage .polygon .mode ≡ true
 
 -- "P1 and P2 must be within −32768 to 32767 and differ in x and in y"
 pub record GoodCorners (p q : Point) : Type 0 where
@@ -121,8 +121,8 @@ Judged PR c n t = t ≡ 0
 
 abbrev pub Numbered : {e : Event} → Happens e → Core → ℕ → Type 0
 Numbered nothing c t = t ≡ 0
-Numbered (name {op} i) c t = Needs (modeOn c → Known op) 1 t (t ≡ 0)
-Numbered (pair n) c t = Needs (InRange (location (c .settings) (target c n))) 6 t (Needs (modeOn c → bytes c + pointBytes c ≤ 1024) 7 t (t ≡ 0))
+Numbered (name {op} i) c t = Needs (PolygonMode c → Known op) 1 t (t ≡ 0)
+Numbered (pair n) c t = Needs (InRange (location (c .settings) (target c n))) 6 t (Needs (PolygonMode c → bytes c + pairBytes c ≤ 1024) 7 t (t ≡ 0))
 Numbered (end i n) c t = Judged i c n t
 Numbered (refusal k) c t = t ≡ k
 

@@ -35,9 +35,9 @@ use Rattle.hpgl.specs.Rules.{done, refuse, freshSettings, carried, nameR
 use Rattle.hpgl.specs.Machine.{rect, goodLimits, hardLimits, freshNumber}
 use Rattle.hpgl.specs.Related.{Sound}
 use Rattle.hpgl.specs.Instruction.{Instruction, IN, DF, EP, IP, SC, IW, RO, SP, PM, CI, EA, ER, PU, PD, PA, PR}
-use Rattle.hpgl.specs.Effects.{asked, newP1, newP2, firstCorner, secondCorner, target, pointBytes, closingBytes, bytes, Happens, nothing, name, pair, end, refusal}
+use Rattle.hpgl.specs.Effects.{asked, newP1, newP2, firstCorner, secondCorner, target, pairBytes, closingBytes, bytes, Happens, nothing, name, pair, end, refusal}
 use Rattle.hpgl.specs.Refusals as asked-of
-use Rattle.hpgl.specs.Refusals.{Needs, Between, InRange, IsNearest, Asked, Angle, Known, modeOn, GoodCorners, Allows, begins, ends, leaves, Closing, Fits, pointAt, FourPoints, Judged, Numbered, GoodLimits}
+use Rattle.hpgl.specs.Refusals.{Needs, Between, InRange, IsNearest, Asked, Angle, Known, PolygonMode, GoodCorners, Allows, begins, ends, leaves, Closing, Fits, pointAt, FourPoints, Judged, Numbered, GoodLimits}
 
 -- ---- tests
 
@@ -198,21 +198,21 @@ module _ (c : Core) where
   judged-name {op} i = refuses (c .carriage .polygon .mode && not (knownInPolygon op)) 1 _ _ (in-mode (known op)) refl refl
 
   judged-store : (n : Coordinates) → c .carriage .polygon .mode ≡ true →
-      Needs (modeOn c → bytes c + pointBytes c ≤ 1024) 7 (storePoint c (target c n) .number) (storePoint c (target c n) .number ≡ 0)
+      Needs (PolygonMode c → bytes c + pairBytes c ≤ 1024) 7 (storePoint c (target c n) .number) (storePoint c (target c n) .number ≡ 0)
   unfolding storePoint pointCost done refuse
   judged-store n m =
-      needs (leb (bytes c + pointBytes c) 1024) 7 _ _ (λ (t : ℕ). t ≡ 0) (alike (λ h e. h) (λ f. f m) (fits-tells (bytes c + pointBytes c) 1024)) refl (λ e. refl)
+      needs (leb (bytes c + pairBytes c) 1024) 7 _ _ (λ (t : ℕ). t ≡ 0) (alike (λ h e. h) (λ f. f m) (fits-tells (bytes c + pairBytes c) 1024)) refl (λ e. refl)
 
   judged-move : (n : Coordinates) → c .carriage .polygon .mode ≡ false →
-      Needs (modeOn c → bytes c + pointBytes c ≤ 1024) 7 (moveTo c (target c n) .number) (moveTo c (target c n) .number ≡ 0)
+      Needs (PolygonMode c → bytes c + pairBytes c ≤ 1024) 7 (moveTo c (target c n) .number) (moveTo c (target c n) .number ≡ 0)
   unfolding moveTo done
   judged-move n m = record { met = λ p. refl; unmet = λ u. absurd (u (λ e. absurd (true≢false (sym e ∙ m)))) }
 
   judged-pair : (n : Coordinates) → Numbered (pair n) c (pairRule c n .number)
   unfolding pairRule goTo aimed refuse
   judged-pair n =
-      needs (inRange (location (c .settings) (target c n))) 6 _ _ (λ (t : ℕ). Needs (modeOn c → bytes c + pointBytes c ≤ 1024) 7 t (t ≡ 0)) (range-tells _) refl
-      (λ e. whether (λ (t : Acted). Needs (modeOn c → bytes c + pointBytes c ≤ 1024) 7 (t .number) (t .number ≡ 0)) (c .carriage .polygon .mode) (judged-store n) (judged-move n))
+      needs (inRange (location (c .settings) (target c n))) 6 _ _ (λ (t : ℕ). Needs (PolygonMode c → bytes c + pairBytes c ≤ 1024) 7 t (t ≡ 0)) (range-tells _) refl
+      (λ e. whether (λ (t : Acted). Needs (PolygonMode c → bytes c + pairBytes c ≤ 1024) 7 (t .number) (t .number ≡ 0)) (c .carriage .polygon .mode) (judged-store n) (judged-move n))
 
   -- ---- settings
 

@@ -30,8 +30,8 @@ use Rattle.hpgl.specs.Change.{withSettings, withCarriage, withCorners, w
 use Rattle.hpgl.specs.Rules.{origin, unscaled, noWindow, freshSettings, noPolygon, freshCarriage, letters, nameRule, rebased, inRule, dfRule, int16, goodCorners, setCorners, ipRule, scRule, setTurn, roRule, setWindow, iwRule, setPen, spRule}
 use Rattle.hpgl.specs.Valid.{ShortPoint, ShortRect, ValidRange, ValidSettings, Placed, KeptPosition, ValidPolygon, ValidCore, ValidActed}
 use Rattle.hpgl.specs.ValidFacts.{and-both, from-to, in-range-small, rest-placed, page-small, back-small, relative-valid}
-use Rattle.hpgl.specs.Cases.{never, pick}
-use Rattle.hpgl.specs.KeptCases.{when, valid-core, closed-polygon, refuses, keeps}
+use Rattle.hpgl.specs.Cases.{never, pick, whether}
+use Rattle.hpgl.specs.KeptCases.{valid-core, closed-polygon, refuses, keeps}
 
 -- ---- names
 
@@ -187,7 +187,7 @@ module _ {c : Core} (w : ValidCore c) (o : c .carriage .polygon .mode ≡ false)
   pub valid-corners : (p q : Point) → ValidActed c (setCorners c p q)
   unfolding setCorners
   valid-corners p q =
-      when (ValidActed c) (goodCorners p q) (λ e. keeps c _ (rebased-valid c w o (with-corners (w .settings) (good-corners p q e))))
+      whether (ValidActed c) (goodCorners p q) (λ e. keeps c _ (rebased-valid c w o (with-corners (w .settings) (good-corners p q e))))
       (λ e. refuses c c outOfRange (omega arith) w)
 
   pub valid-ip : (n : Numbers) → ValidActed c (ipRule c n)
@@ -201,8 +201,8 @@ module _ {c : Core} (w : ValidCore c) (o : c .carriage .polygon .mode ≡ false)
   unfolding scRule
   valid-sc {n} h =
       pick (ValidActed c) (eqb (n .count) 0) (keeps c _ (rebased-valid c w o (with-scale (w .settings) no-ranges)))
-      (when (ValidActed c) (n .first ≡? n .second) (λ e. refuses c c outOfRange (omega arith) w)
-      (λ x. when (ValidActed c) (n .third ≡? n .fourth) (λ e. refuses c c outOfRange (omega arith) w)
+      (whether (ValidActed c) (n .first ≡? n .second) (λ e. refuses c c outOfRange (omega arith) w)
+      (λ x. whether (ValidActed c) (n .third ≡? n .fourth) (λ e. refuses c c outOfRange (omega arith) w)
       (λ y. keeps c _
       (rebased-valid c w o
       (with-scale (w .settings) (record {
@@ -225,7 +225,7 @@ module _ {c : Core} (w : ValidCore c) (o : c .carriage .polygon .mode ≡ false)
   pub valid-window : (p q : Point) → ValidActed c (setWindow c p q)
   unfolding setWindow
   valid-window p q =
-      when (ValidActed c) (inRange p && inRange q)
+      whether (ValidActed c) (inRange p && inRange q)
       (λ e. let b = and-both (inRange p) (inRange q) e in
       keeps c _ (window-valid c w o (ordered-small (in-range-small {p = p} (b .0)) (in-range-small {p = q} (b .1)))))
       (λ e. refuses c c outOfRange (omega arith) w)
@@ -243,4 +243,4 @@ unfolding spRule
 valid-sp {c} n w =
     let z : ℤ = rounded (n .first) in
     pick (ValidActed c) (eqb (n .count) 0) (valid-pen 0 w (omega arith))
-    (when (ValidActed c) ((pos 0 ≤? z) && (z ≤? pos mostPen)) (λ e. valid-pen (natAbs z) w (from-to 0 mostPen z e .2)) (λ e. refuses c c outOfRange (omega arith) w))
+    (whether (ValidActed c) ((pos 0 ≤? z) && (z ≤? pos mostPen)) (λ e. valid-pen (natAbs z) w (from-to 0 mostPen z e .2)) (λ e. refuses c c outOfRange (omega arith) w))

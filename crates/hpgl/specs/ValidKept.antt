@@ -34,8 +34,8 @@ use Rattle.hpgl.specs.Numbers.{mostEdges}
 use Rattle.hpgl.specs.Valid.{ValidSettings, ValidCore, ValidEvent, SmallEdge, ValidAction, ValidActed, ValidWork, Every, none, more, Inked, Knows, Valid, Usable}
 use Rattle.hpgl.specs.Made as made
 use Rattle.hpgl.specs.ValidFacts.{and-both, rest-placed, origin-small, unknown-outside, chords-most}
-use Rattle.hpgl.specs.Cases.{never, pick}
-use Rattle.hpgl.specs.KeptCases.{when, valid-core, refuses, keeps}
+use Rattle.hpgl.specs.Cases.{never, pick, whether}
+use Rattle.hpgl.specs.KeptCases.{valid-core, refuses, keeps}
 use Rattle.hpgl.specs.SettingsKept.{valid-name, int16-short, fresh-settings, no-polygon, valid-in, valid-df, valid-ip, valid-sc, valid-ro, valid-iw, valid-sp}
 use Rattle.hpgl.specs.PositionKept.{valid-pair}
 use Rattle.hpgl.specs.PolygonKept.{valid-pm, valid-ep, valid-ea, valid-er}
@@ -140,7 +140,7 @@ good-limits r e =
 hard-valid : (r : Rect) → ValidSettings (freshSettings (hardLimits r))
 unfolding hardLimits
 hard-valid r =
-    when (λ (q : Rect). ValidSettings (freshSettings q)) (goodLimits r) (good-limits r)
+    whether (λ (q : Rect). ValidSettings (freshSettings q)) (goodLimits r) (good-limits r)
     (λ e. fresh-settings (record { left = bd-lit tt; bottom = bd-lit tt; right = bd-lit tt; top = bd-lit tt }) (omega (arith, ord)) (omega (arith, ord)))
 
 -- with bad limits too

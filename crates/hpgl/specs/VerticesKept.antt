@@ -13,15 +13,15 @@ use Rattle.hpgl.specs.Numbers.{outOfRange, tooFar, leastAngle}
 use Rattle.hpgl.specs.Rules.{inked, circleFits, circleWith, chordAngle, ciRule}
 use Rattle.hpgl.specs.Valid.{ValidCore, ValidAction, ValidActed}
 use Rattle.hpgl.specs.ValidFacts.{from-to, circle-valid}
-use Rattle.hpgl.specs.Cases.{pick}
-use Rattle.hpgl.specs.KeptCases.{when, with-ink, refuses, acts}
+use Rattle.hpgl.specs.Cases.{pick, whether}
+use Rattle.hpgl.specs.KeptCases.{with-ink, refuses, acts}
 
 pub valid-circle : {c : Core} {r : ℤ} (a : ℤ) → ValidCore c → Bd r mostNumber → ValidActed c (circleWith c r a)
 unfolding circleWith
 valid-circle {c} {r} a w h =
-    when (ValidActed c) ((pos leastAngle ≤? a) && (a ≤? pos mostAngle))
+    whether (ValidActed c) ((pos leastAngle ≤? a) && (a ≤? pos mostAngle))
     (λ e. let b = from-to leastAngle mostAngle a e in
-    when (ValidActed c) (circleFits c r)
+    whether (ValidActed c) (circleFits c r)
     (λ f. acts c _ _ (pick (ValidAction (c .carriage .polygon .edges)) (inked c) (circle-valid w h (b .1) (b .2) f) tt) w (with-ink c _))
     (λ f. refuses c c tooFar (omega arith) w))
     (λ e. refuses c c outOfRange (omega arith) w)

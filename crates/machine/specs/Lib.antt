@@ -1,4 +1,5 @@
 pub mod Calls
+pub mod Loadable
 pub mod Run
 pub mod RunLaws
 pub mod Gather

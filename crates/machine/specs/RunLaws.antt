@@ -1,4 +1,4 @@
--- What a run of bytes leaves: a machine that may be used, a place within the input, and why it ended there; and that it is a feed with no room.
+-- What a run of bytes leaves: a place within the input, and why it ended there; that it is a feed with no room, and so a machine that may be used and comes from the calls.
 -- Why: each by the bytes that are taken, one after the other.
 use mathlib.Core.Path.{_≡_, refl, sym, ap, _∙_}
 use mathlib.Core.Bool.{Bool, true, false, cond}
@@ -7,29 +7,17 @@ use Prim.Native.Nat.{ℕ, zero, suc, _+_, _≤_, _<_}
 use native.Mathlib.Omega.{arith}
 use borrow.Author.Tests.{eq-eqb, ne-eqb, eqb-true, eqb-false}
 use lib.Dec.{eqb}
-use lib.ListN.{length}
+use lib.ListN.{length, getD}
 use Rattle.hpgl.specs.declared.State.{State}
 use Rattle.hpgl.specs.Machine.{waiting, takeState, takeNumber}
 use Rattle.feeding.specs.DrawOff.{listFull}
 use Rattle.feeding.specs.Feed.{Feed, feedFrom}
-use Rattle.feeding.specs.FeedLaws.{at-end, at-byte, at-refused, at-full}
+use Rattle.feeding.specs.FeedLaws.{at-end, at-byte, at-refused, at-full, feed-usable, feed-made}
 use Rattle.feeding.specs.PartsOfFeed.{take-not-full}
+use Rattle.hpgl.specs.Made.{Made}
 use Rattle.hpgl.specs.Valid.{Usable}
-use Rattle.hpgl.specs.ValidKept.{usable-take}
 use Rattle.machine.specs.declared.Ran.{Ran}
 use Rattle.machine.specs.Run.{ranOf, runOf}
-
--- the machine after a run may be drawn, looked at and run again
-pub run-usable : (m : State) (bs : List ℕ) (at : ℕ) → Usable m → Usable (runOf m bs at .machine .state)
-unfolding runOf
-run-usable m [] at h = h
-run-usable m (b ∷ bs) at h = go (eqb (waiting (m .work)) 0) (eqb (takeNumber m b) 0) (run-usable (takeState m b) bs (at + 1) (usable-take b h))
-  where
-    go : (s t : Bool) → Usable (runOf (takeState m b) bs (at + 1) .machine .state) →
-        Usable (cond s (cond t (runOf (takeState m b) bs (at + 1)) (ranOf (takeState m b) (at + 1) (takeNumber m b))) (ranOf m at 0) .machine .state)
-    go true true r = r
-    go true false r = usable-take b h
-    go false t r = h
 
 -- no byte is taken twice, and none past the end
 pub run-place : (m : State) (bs : List ℕ) (at : ℕ) → (at ≤ runOf m bs at .at) × (runOf m bs at .at ≤ at + length bs)
@@ -100,6 +88,13 @@ run-feeds m (b ∷ bs) at = by (waiting (m .work)) refl (run-feeds (takeState m 
     by (suc k) e h =
         let w : 0 < waiting (m .work) = omega (arith, e) in
         waits-run m (b ∷ bs) at w ∙ rw (at-full m (b ∷ bs) at w) refl
+
+-- so the machine after it may be drawn, looked at and run again, and comes from the calls if the one before it does
+pub run-usable : (m : State) (bs : List ℕ) (at : ℕ) → Usable m → Usable (runOf m bs at .machine .state)
+run-usable m bs at w = rw (run-feeds m bs at) (feed-usable m bs at 0 w)
+
+pub run-made : (m : State) (bs : List ℕ) (at : ℕ) → ((k : ℕ) → getD bs k 0 < 256) → Made m → Made (runOf m bs at .machine .state)
+run-made m bs at h w = rw (run-feeds m bs at) (feed-made m bs at 0 h w)
 
 -- ---- a byte is a run of one
 

@@ -10,6 +10,7 @@ ghost use Rattle.feeding.specs.Plot.{plotFrom, laidMarks};
 ghost use Rattle.hpgl.specs.Valid.{Usable};
 ghost use Rattle.saved.specs.Saved.{stateNumbers, savedOf, loadedOf};
 ghost use Rattle.machine.specs.Calls.{startedOf, takenOf, workedOf};
+ghost use Rattle.machine.specs.Loadable.{Loadable};
 ghost use Rattle.machine.specs.Run.{runOf};
 ghost use Rattle.machine.specs.Gather.{gatheredOf, plottedOf, gatheredBy};
 use clip::Rect;
@@ -245,10 +246,10 @@ impl Machine {
         save(m, numbers);
     }
 
-    // The machine that a list of numbers holds. `save` writes such lists; whether another one holds a machine that may be used, the crate soundness decides.
+    // The machine that a list of numbers holds, which has to be one that may be used, as those are that `save` writes. The crate soundness decides it of any list.
     pub fn load(numbers: &[i64]) -> Machine
-        requires { ⌜ length (now numbers) ≡ stateNumbers ⌝ }
-        ensures { λ r. ⌜ r .state ≡ loadedOf (now (numbers .entry)) ⌝ }
+        requires { ⌜ Loadable (now numbers) ⌝ }
+        ensures { λ r. ⌜ (r .state ≡ loadedOf (now (numbers .entry))) × Usable (r .state) ⌝ }
     {
         Machine {
             state: load(numbers),

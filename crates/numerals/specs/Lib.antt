@@ -5,4 +5,5 @@ pub mod Run
 pub mod Numeral
 pub mod Marks
 pub mod NumeralLaws
+pub mod Tail
 pub mod RunLaws

@@ -21,7 +21,7 @@ use Rattle.hpgl.specs.declared.Segment.{Segment}
 use Rattle.hpgl.specs.declared.Segment.the-variants as segment
 use Rattle.hpgl.specs.Numbers.{unknown}
 use Rattle.hpgl.specs.Place.{point, axisX, axisY, location, pagePoint, limits}
-use Rattle.hpgl.specs.Rules.{done, refuse, letters, nameRule, longer}
+use Rattle.hpgl.specs.Rules.{done, refuse, letters, spent, nameRule, longer}
 use Rattle.hpgl.specs.Valid.{ValidCore}
 use Rattle.rulekit.specs.declared.places.Frame.{Frame}
 use Rattle.rulekit.specs.declared.hand.Hand.{Hand}
@@ -42,6 +42,10 @@ carriageOf h g = record { position = h .position; pen = h .pen; relative = h .re
 
 abbrev pub coreOf : Settings → Hand → Polygon → Core
 coreOf s h g = record { settings = s; carriage = carriageOf h g }
+
+-- the hand after a pair: elsewhere, and the mark of its pen is spent
+abbrev pub movedTo : Hand → Position → Hand
+movedTo h p = record { position = p; pen = spent (h .pen); relative = h .relative }
 
 -- a line to draw waits as one
 unfoldable pub lineOf : Segment → Action

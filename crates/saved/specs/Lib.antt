@@ -1,3 +1,4 @@
+pub mod Places
 pub mod SavedReader
 pub mod Saved
 pub mod SavedLaws

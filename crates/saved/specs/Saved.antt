@@ -1,5 +1,5 @@
--- Which number of a list stands for which part of a machine: rows of five, each with its place.
-use Prim.Native.Nat.{ℕ, zero, suc, _+_}
+-- Which number of a list stands for which part of a machine: rows of five, each with its place (Places.antt).
+use Prim.Native.Nat.{ℕ, zero, suc, _+_, _*_}
 use mathlib.Core.Bool.{Bool, cond}
 use mathlib.Core.List.{List, [], _∷_}
 use lib.Dec.{eqb}
@@ -10,6 +10,7 @@ use Rattle.clip.specs.declared.Point.{Point}
 use Rattle.clip.specs.declared.Rect.{Rect}
 use Rattle.plane.specs.declared.circle.Centre.{Centre}
 use Rattle.plane.specs.declared.circle.Way.{Way}
+use Rattle.saved.specs.Places.{limitsPlace, cornersPlace, scalePlace, windowPlace, positionPlace, penPlace, polygonPlace, firstPlace, savedPlace, workPlace, acrossPlace, alongPlace, edgesPlace}
 use Rattle.saved.specs.SavedReader.{readerThen, readerAt}
 use Rattle.hpgl.specs.declared.Position.{Position}
 use Rattle.hpgl.specs.declared.Range.{Range}
@@ -28,9 +29,9 @@ use Rattle.hpgl.specs.declared.Work.the-variants.{Nothing, Line, Chords, Edges}
 use Rattle.hpgl.specs.declared.State.{State}
 use Rattle.hpgl.specs.Numbers.{mostEdges}
 
--- 15 rows, and one for each edge
+-- a row for each edge comes last
 abbrev pub stateNumbers : ℕ
-stateNumbers = 635
+stateNumbers = edgesPlace + mostEdges * 5
 
 -- ---- what a row may end with
 
@@ -40,7 +41,7 @@ flagIn r = flagOf (r .e)
 unfoldable pub smallIn : Row → ℕ
 smallIn r = smallOf mostByte (r .e)
 
--- ---- the settings, from 15 on
+-- ---- the settings
 
 unfoldable pub limitsRow : Rect → ℕ → Row
 limitsRow r turn = row (r .left) (r .bottom) (r .right) (r .top) (placeNumber turn)
@@ -86,9 +87,9 @@ settingsOf limits corners scale window = record {
 }
 
 unfoldable pub settingsAt : List ℤ → Settings
-settingsAt zs = settingsOf (rowAt zs 15) (rowAt zs 20) (rowAt zs 25) (rowAt zs 30)
+settingsAt zs = settingsOf (rowAt zs limitsPlace) (rowAt zs cornersPlace) (rowAt zs scalePlace) (rowAt zs windowPlace)
 
--- ---- the carriage, from 35 on
+-- ---- the carriage
 
 unfoldable pub positionRow : Position → Bool → Row
 positionRow p on = row (p .x .base) (p .x .offset) (p .y .base) (p .y .offset) (flagNumber on)
@@ -139,9 +140,9 @@ carriageOf place pen polygon first saved = record {
 }
 
 unfoldable pub carriageAt : List ℤ → Carriage
-carriageAt zs = carriageOf (rowAt zs 35) (rowAt zs 40) (rowAt zs 45) (rowAt zs 50) (rowAt zs 55)
+carriageAt zs = carriageOf (rowAt zs positionPlace) (rowAt zs penPlace) (rowAt zs polygonPlace) (rowAt zs firstPlace) (rowAt zs savedPlace)
 
--- ---- the work, from 60 on: a row that ends with what it is, and the circle on each axis
+-- ---- the work: a row that ends with what it is, and the circle on each axis
 
 unfoldable pub blankRow : Row
 blankRow = row (pos 0) (pos 0) (pos 0) (pos 0) (pos 0)
@@ -205,9 +206,9 @@ workOf r across along =
     Nothing))
 
 unfoldable pub workAt : List ℤ → Work
-workAt zs = workOf (rowAt zs 60) (rowAt zs 65) (rowAt zs 70)
+workAt zs = workOf (rowAt zs workPlace) (rowAt zs acrossPlace) (rowAt zs alongPlace)
 
--- ---- the edges, from 75 on
+-- ---- the edges
 
 unfoldable pub edgeRow : Edge → Row
 edgeRow e = row (e .from .x) (e .from .y) (e .to .x) (e .to .y) (flagNumber (e .down))
@@ -225,7 +226,7 @@ edgesFrom zs i zero = []
 edgesFrom zs i (suc n) = edgeOf (rowAt zs i) ∷ edgesFrom zs (i + 5) n
 
 unfoldable pub storeAt : List ℤ → Store
-storeAt zs = record { edges = edgesFrom zs 75 mostEdges }
+storeAt zs = record { edges = edgesFrom zs edgesPlace mostEdges }
 
 -- ---- the machine
 

@@ -13,6 +13,7 @@ use Rattle.rows.specs.declared.Row.{Row}
 use Rattle.rows.specs.Rows.{lay, rowAt, smallOf, mostByte, mostShort}
 use Rattle.rows.specs.RowLaws.{flag-back, small-back, place-back}
 use Rattle.reader.specs.Sizes.{Readable}
+use Rattle.saved.specs.Places.{edgesPlace}
 use Rattle.saved.specs.SavedReader.{readerAt, reader-back}
 use Rattle.hpgl.specs.declared.Edge.{Edge}
 use Rattle.hpgl.specs.declared.Work.{Work}
@@ -102,7 +103,7 @@ edges-read (e ∷ es) zs i h =
 store-back : (m : State) → length (m .store .edges) ≡ mostEdges → storeAt (savedOf m) ≡ m .store
 unfolding storeAt savedOf
 store-back m h =
-    let all = ap (edgesFrom (savedOf m) 75) (sym h) ∙ edges-read (m .store .edges) (savedOf m) 75 refl in
+    let all = ap (edgesFrom (savedOf m) edgesPlace) (sym h) ∙ edges-read (m .store .edges) (savedOf m) edgesPlace refl in
     λ i. record { edges = all i }
 
 edges-length : (es : List Edge) → length (edgesNumbers es) ≡ length es * 5

@@ -3,7 +3,13 @@ ghost use mathlib.Core.Path.{_≡_};
 ghost use Prim.Native.Nat.{_≤_};
 ghost use lib.ListN.{length};
 ghost use Rattle.rows.specs.Rows.{over};
+ghost use Rattle.saved.specs.Places.{positionPlace, workPlace};
 ghost use Rattle.saved.specs.Saved as S;
+use super::places::FIRST;
+use super::places::PEN;
+use super::places::POLYGON;
+use super::places::POSITION;
+use super::places::SAVED;
 use super::sheet::flag_in;
 use hpgl::Carriage;
 use hpgl::Pen;
@@ -126,8 +132,8 @@ fn carriage_of(place: Row, pen: Row, polygon: Row, first: Row, saved: Row) -> Ca
 }
 
 pub fn put_carriage(c: Carriage, numbers: &mut [i64])
-    requires { ⌜ 60 ≤ length (now numbers) ⌝ }
-    ensures { λ _. ⌜ now (numbers .exit) ≡ over (now (numbers .entry)) 35 (S.carriageNumbers c) ⌝ }
+    requires { ⌜ workPlace ≤ length (now numbers) ⌝ }
+    ensures { λ _. ⌜ now (numbers .exit) ≡ over (now (numbers .entry)) positionPlace (S.carriageNumbers c) ⌝ }
 {
     let position = c.position;
     let pen = c.pen;
@@ -135,23 +141,23 @@ pub fn put_carriage(c: Carriage, numbers: &mut [i64])
     let first = polygon.first;
     let saved = polygon.saved;
     let before = saved.position;
-    put_row(numbers, 35, position_row(position, c.relative));
-    put_row(numbers, 40, pen_row(pen));
-    put_row(numbers, 45, polygon_row(polygon));
-    put_row(numbers, 50, position_row(first, polygon.empty));
-    put_row(numbers, 55, position_row(before, saved.relative));
+    put_row(numbers, POSITION, position_row(position, c.relative));
+    put_row(numbers, PEN, pen_row(pen));
+    put_row(numbers, POLYGON, polygon_row(polygon));
+    put_row(numbers, FIRST, position_row(first, polygon.empty));
+    put_row(numbers, SAVED, position_row(before, saved.relative));
 }
 
 pub fn carriage_at(numbers: &[i64]) -> Carriage
-    requires { ⌜ 60 ≤ length (now numbers) ⌝ }
+    requires { ⌜ workPlace ≤ length (now numbers) ⌝ }
     ensures { λ r. ⌜ r ≡ S.carriageAt (now (numbers .entry)) ⌝ }
 {
-    let polygon = row_at(numbers, 45);
-    let first = row_at(numbers, 50);
-    let saved = row_at(numbers, 55);
+    let polygon = row_at(numbers, POLYGON);
+    let first = row_at(numbers, FIRST);
+    let saved = row_at(numbers, SAVED);
     carriage_of(
-        row_at(numbers, 35),
-        row_at(numbers, 40),
+        row_at(numbers, POSITION),
+        row_at(numbers, PEN),
         polygon,
         first,
         saved,

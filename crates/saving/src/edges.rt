@@ -3,7 +3,9 @@ ghost use mathlib.Core.Path.{_≡_};
 ghost use lib.ListN.{length};
 ghost use Rattle.hpgl.specs.Numbers.{mostEdges};
 ghost use Rattle.rows.specs.Rows.{over};
+ghost use Rattle.saved.specs.Places.{edgesPlace};
 ghost use Rattle.saved.specs.Saved as S;
+use super::places::EDGES;
 use super::sheet::flag_in;
 use super::sheet::from_of;
 use super::sheet::to_of;
@@ -15,9 +17,6 @@ use rows::Row;
 use rows::flag_number;
 use rows::put_row;
 use rows::row_at;
-
-// Where the first edge stands.
-const EDGES: usize = 75;
 
 const ROW: usize = 5;
 
@@ -47,7 +46,7 @@ fn edge_of(row: Row) -> Edge
 
 pub fn put_edges(s: Store, numbers: &mut [i64])
     requires { ⌜ (length (s .edges) ≡ mostEdges) × (length (now numbers) ≡ S.stateNumbers) ⌝ }
-    ensures { λ _. ⌜ now (numbers .exit) ≡ over (now (numbers .entry)) 75 (S.edgesNumbers (s .edges)) ⌝ }
+    ensures { λ _. ⌜ now (numbers .exit) ≡ over (now (numbers .entry)) edgesPlace (S.edgesNumbers (s .edges)) ⌝ }
 {
     let mut i = 0;
     while i < MOST_EDGES {

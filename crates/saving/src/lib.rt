@@ -7,6 +7,7 @@ ghost use Rattle.saved.specs.Saved.{stateNumbers, savedOf, loadedOf};
 
 mod carriage;
 mod edges;
+pub mod places;
 mod reading;
 pub mod sheet;
 mod work;

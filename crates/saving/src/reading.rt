@@ -4,6 +4,7 @@ ghost use Prim.Native.Nat.{_≤_};
 ghost use lib.ListN.{length};
 ghost use Rattle.rows.specs.Rows.{over};
 ghost use Rattle.saved.specs.SavedReader.{modeTag, modeLetter, modeOf, placeRow, numbersRow, numbersOf, numberRow, numberOf, readerNumbers, readerOf, readerAt};
+ghost use Rattle.saved.specs.Places.{limitsPlace};
 use numerals::number::Number;
 use reader::Mode;
 use reader::Numbers;
@@ -141,7 +142,7 @@ fn number_of(row: Row) -> Number
 
 // Stores a reader at the start of a list.
 pub fn put_reader(r: Reader, list: &mut [i64])
-    requires { ⌜ 15 ≤ length (now list) ⌝ }
+    requires { ⌜ limitsPlace ≤ length (now list) ⌝ }
     ensures { λ _. ⌜ now (list .exit) ≡ over (now (list .entry)) 0 (readerNumbers r) ⌝ }
 {
     let mode = r.mode;
@@ -170,7 +171,7 @@ fn reader_of(place: Row, numbers: Row, number: Row) -> Reader
 
 // The reader at the start of a list.
 pub fn reader_at(list: &[i64]) -> Reader
-    requires { ⌜ 15 ≤ length (now list) ⌝ }
+    requires { ⌜ limitsPlace ≤ length (now list) ⌝ }
     ensures { λ r. ⌜ r ≡ readerAt (now (list .entry)) ⌝ }
 {
     reader_of(row_at(list, 0), row_at(list, 5), row_at(list, 10))

@@ -3,7 +3,12 @@ ghost use mathlib.Core.Path.{_≡_};
 ghost use Prim.Native.Nat.{_≤_};
 ghost use lib.ListN.{length};
 ghost use Rattle.rows.specs.Rows.{over};
+ghost use Rattle.saved.specs.Places.{limitsPlace, positionPlace};
 ghost use Rattle.saved.specs.Saved as S;
+use super::places::CORNERS;
+use super::places::LIMITS;
+use super::places::SCALE;
+use super::places::WINDOW;
 use clip::Point;
 use clip::Rect;
 use hpgl::Range;
@@ -145,28 +150,28 @@ fn settings_of(limits: Row, corners: Row, scale: Row, window: Row) -> Settings
 }
 
 pub fn put_settings(s: Settings, numbers: &mut [i64])
-    requires { ⌜ 35 ≤ length (now numbers) ⌝ }
-    ensures { λ _. ⌜ now (numbers .exit) ≡ over (now (numbers .entry)) 15 (S.settingsNumbers s) ⌝ }
+    requires { ⌜ positionPlace ≤ length (now numbers) ⌝ }
+    ensures { λ _. ⌜ now (numbers .exit) ≡ over (now (numbers .entry)) limitsPlace (S.settingsNumbers s) ⌝ }
 {
     let hard = s.hard;
     let p1 = s.p1;
     let p2 = s.p2;
     let scale = s.scale;
     let window = s.window;
-    put_row(numbers, 15, limits_row(hard, s.turn));
-    put_row(numbers, 20, corners_row(p1, p2));
-    put_row(numbers, 25, scale_row(scale));
-    put_row(numbers, 30, window_row(window));
+    put_row(numbers, LIMITS, limits_row(hard, s.turn));
+    put_row(numbers, CORNERS, corners_row(p1, p2));
+    put_row(numbers, SCALE, scale_row(scale));
+    put_row(numbers, WINDOW, window_row(window));
 }
 
 pub fn settings_at(numbers: &[i64]) -> Settings
-    requires { ⌜ 35 ≤ length (now numbers) ⌝ }
+    requires { ⌜ positionPlace ≤ length (now numbers) ⌝ }
     ensures { λ r. ⌜ r ≡ S.settingsAt (now (numbers .entry)) ⌝ }
 {
     settings_of(
-        row_at(numbers, 15),
-        row_at(numbers, 20),
-        row_at(numbers, 25),
-        row_at(numbers, 30),
+        row_at(numbers, LIMITS),
+        row_at(numbers, CORNERS),
+        row_at(numbers, SCALE),
+        row_at(numbers, WINDOW),
     )
 }

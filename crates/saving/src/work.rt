@@ -3,7 +3,11 @@ ghost use mathlib.Core.Path.{_≡_};
 ghost use Prim.Native.Nat.{_≤_};
 ghost use lib.ListN.{length};
 ghost use Rattle.rows.specs.Rows.{over};
+ghost use Rattle.saved.specs.Places.{workPlace, edgesPlace};
 ghost use Rattle.saved.specs.Saved as S;
+use super::places::ACROSS;
+use super::places::ALONG;
+use super::places::WORK;
 use super::sheet::from_of;
 use super::sheet::to_of;
 use clip::Point;
@@ -190,21 +194,21 @@ fn work_of(row: Row, across: Row, along: Row) -> Work
 }
 
 pub fn put_work(w: Work, numbers: &mut [i64])
-    requires { ⌜ 75 ≤ length (now numbers) ⌝ }
-    ensures { λ _. ⌜ now (numbers .exit) ≡ over (now (numbers .entry)) 60 (S.workNumbers w) ⌝ }
+    requires { ⌜ edgesPlace ≤ length (now numbers) ⌝ }
+    ensures { λ _. ⌜ now (numbers .exit) ≡ over (now (numbers .entry)) workPlace (S.workNumbers w) ⌝ }
 {
-    put_row(numbers, 60, work_row(w));
-    put_row(numbers, 65, work_across(w));
-    put_row(numbers, 70, work_along(w));
+    put_row(numbers, WORK, work_row(w));
+    put_row(numbers, ACROSS, work_across(w));
+    put_row(numbers, ALONG, work_along(w));
 }
 
 pub fn work_at(numbers: &[i64]) -> Work
-    requires { ⌜ 75 ≤ length (now numbers) ⌝ }
+    requires { ⌜ edgesPlace ≤ length (now numbers) ⌝ }
     ensures { λ r. ⌜ r ≡ S.workAt (now (numbers .entry)) ⌝ }
 {
     work_of(
-        row_at(numbers, 60),
-        row_at(numbers, 65),
-        row_at(numbers, 70),
+        row_at(numbers, WORK),
+        row_at(numbers, ACROSS),
+        row_at(numbers, ALONG),
     )
 }

@@ -12,7 +12,7 @@ ghost use Rattle.hpgl.specs.Numbers.{polygonBytes, mostEdges};
 ghost use Rattle.hpgl.specs.Place as P;
 ghost use Rattle.hpgl.specs.Rules as R;
 ghost use Rattle.hpgl.specs.Valid.{LocatablePosition, ValidCore};
-ghost use Rattle.rulekit.specs.Hand.{frameOf, carriageOf, coreOf, shiftedOf, pointedOf, lineOf, locationIn, ValidHand, nameNumber};
+ghost use Rattle.rulekit.specs.Hand.{frameOf, carriageOf, coreOf, movedTo, shiftedOf, pointedOf, lineOf, locationIn, ValidHand, nameNumber};
 use clip::Point;
 use hpgl::Action;
 use hpgl::Core;
@@ -127,7 +127,7 @@ pub fn inked(c: Core) -> bool
 
 // The hand at p.
 fn moved(h: Hand, p: Position) -> Hand
-    ensures { λ r. ⌜ r ≡ record { position = p; pen = R.spent (h .pen); relative = h .relative } ⌝ }
+    ensures { λ r. ⌜ r ≡ movedTo h p ⌝ }
 {
     let pen = h.pen;
     let mut r = h;

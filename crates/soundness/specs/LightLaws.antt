@@ -14,6 +14,7 @@ use Rattle.rows.specs.declared.Row.{Row}
 use Rattle.rows.specs.Rows.{row, rowAt}
 use Rattle.seal.specs.Light.{rowCount, headCount, mostAt, LightRow, Light}
 use Rattle.hpgl.specs.ValidFacts.{and-both}
+use Rattle.saved.specs.Places.{limitsPlace, cornersPlace, scalePlace, windowPlace, positionPlace, penPlace, polygonPlace, firstPlace, savedPlace, workPlace, acrossPlace, alongPlace, edgesPlace}
 use Rattle.saved.specs.Saved.{stateNumbers, positionOf, circleOf, settingsAt}
 use Rattle.soundness.specs.Sound.{betweenOf, fourLow, fourHigh, fiveOf, blankSound, placeSound, numbersSound, numberSound, readerSound, limitsSound, cornersSound, scaleSound, boxSound, settingsSound, placedOf, positionLow, positionHigh, positionSound, penSound, polygonSound, keptSound, positionsSound, partsSound, carriageSound, knownSound, roundOf, centreLow, centreHigh, chordsSound, blanksSound, lineSound, outlineSound, workSound, inkedSound, edgesSound, soundOf}
 use Rattle.soundness.specs.RowTests.{between-true}
@@ -178,16 +179,16 @@ record Head (zs : List ℤ) : Type 0 where
   r0 : LightRow most (rowAt zs 0)
   r1 : LightRow most (rowAt zs 5)
   r2 : LightRow most (rowAt zs 10)
-  r3 : LightRow most (rowAt zs 15)
-  r4 : LightRow most (rowAt zs 20)
-  r5 : LightRow most (rowAt zs 25)
-  r6 : LightRow most (rowAt zs 30)
-  r7 : LightRow most (rowAt zs 35)
-  r8 : LightRow most (rowAt zs 40)
-  r9 : LightRow most (rowAt zs 45)
-  r10 : LightRow most (rowAt zs 50)
-  r11 : LightRow most (rowAt zs 55)
-  rest : Three (rowAt zs 60) (rowAt zs 65) (rowAt zs 70)
+  r3 : LightRow most (rowAt zs limitsPlace)
+  r4 : LightRow most (rowAt zs cornersPlace)
+  r5 : LightRow most (rowAt zs scalePlace)
+  r6 : LightRow most (rowAt zs windowPlace)
+  r7 : LightRow most (rowAt zs positionPlace)
+  r8 : LightRow most (rowAt zs penPlace)
+  r9 : LightRow most (rowAt zs polygonPlace)
+  r10 : LightRow most (rowAt zs firstPlace)
+  r11 : LightRow most (rowAt zs savedPlace)
+  rest : Three (rowAt zs workPlace) (rowAt zs acrossPlace) (rowAt zs alongPlace)
 
 head-row : {zs : List ℤ} → Head zs → (k : ℕ) → k < 15 → LightRow most (rowAt zs (k * 5))
 head-row h zero l = h .r0
@@ -207,7 +208,7 @@ head-row h (suc (suc (suc (suc (suc (suc (suc (suc (suc (suc (suc (suc (suc zero
 head-row h (suc (suc (suc (suc (suc (suc (suc (suc (suc (suc (suc (suc (suc (suc zero)))))))))))))) l = h .rest .its-along
 head-row h (suc (suc (suc (suc (suc (suc (suc (suc (suc (suc (suc (suc (suc (suc (suc k))))))))))))))) l = absurd (omega (arith, l))
 
-light-list : (zs : List ℤ) → length zs ≡ stateNumbers → Head zs → edgesSound zs 75 112 ≡ true → Light zs
+light-list : (zs : List ℤ) → length zs ≡ stateNumbers → Head zs → edgesSound zs edgesPlace 112 ≡ true → Light zs
 unfolding mostAt
 light-list zs e h t = record { long = e; row = λ k l. by k l (ltb k headCount) refl }
   where
@@ -215,20 +216,20 @@ light-list zs e h t = record { long = e; row = λ k l. by k l (ltb k headCount) 
     by k l true g = head-row h k (ltb-true k headCount g)
     by k l false g =
         let c = ltb-false k headCount g in
-        let at : k * 5 ≡ 75 + (k - 15) * 5 = omega (arith, c) in
-        rw at (edge-light zs 75 112 (k - 15) t (omega (arith, l, c)))
+        let at : k * 5 ≡ edgesPlace + (k - 15) * 5 = omega (arith, c) in
+        rw at (edge-light zs edgesPlace 112 (k - 15) t (omega (arith, l, c)))
 
 pub sound-light : (zs : List ℤ) → length zs ≡ stateNumbers → soundOf zs ≡ true → Light zs
 unfolding soundOf readerSound settingsSound carriageSound partsSound positionsSound
 sound-light zs e t =
-    let settings = limitsSound (rowAt zs 15) && (cornersSound (rowAt zs 20) && (scaleSound (rowAt zs 25) && boxSound (rowAt zs 30))) in
-    let positions = positionSound (rowAt zs 35) && (positionSound (rowAt zs 50) && positionSound (rowAt zs 55)) in
-    let parts = positions && (penSound (rowAt zs 40) && polygonSound (rowAt zs 45)) in
-    let placed = placedOf (settingsAt zs) (positionOf (rowAt zs 35)) && keptSound (settingsAt zs) (rowAt zs 45) (rowAt zs 50) (rowAt zs 55) in
-    let known = knownSound (rowAt zs 0) (rowAt zs 45) in
-    let work = workSound (rowAt zs 60) (rowAt zs 65) (rowAt zs 70) in
-    let inked = inkedSound (rowAt zs 40) (rowAt zs 60) in
-    let edges = edgesSound zs 75 112 in
+    let settings = limitsSound (rowAt zs limitsPlace) && (cornersSound (rowAt zs cornersPlace) && (scaleSound (rowAt zs scalePlace) && boxSound (rowAt zs windowPlace))) in
+    let positions = positionSound (rowAt zs positionPlace) && (positionSound (rowAt zs firstPlace) && positionSound (rowAt zs savedPlace)) in
+    let parts = positions && (penSound (rowAt zs penPlace) && polygonSound (rowAt zs polygonPlace)) in
+    let placed = placedOf (settingsAt zs) (positionOf (rowAt zs positionPlace)) && keptSound (settingsAt zs) (rowAt zs polygonPlace) (rowAt zs firstPlace) (rowAt zs savedPlace) in
+    let known = knownSound (rowAt zs 0) (rowAt zs polygonPlace) in
+    let work = workSound (rowAt zs workPlace) (rowAt zs acrossPlace) (rowAt zs alongPlace) in
+    let inked = inkedSound (rowAt zs penPlace) (rowAt zs workPlace) in
+    let edges = edgesSound zs edgesPlace 112 in
     let reader = placeSound (rowAt zs 0) && (numbersSound (rowAt zs 5) && numberSound (rowAt zs 10)) in
     let t1 = and-both reader (settings && (parts && placed && (known && (work && (inked && edges))))) t in
     let t2 = and-both settings (parts && placed && (known && (work && (inked && edges)))) (t1 .1) in
@@ -238,28 +239,28 @@ sound-light zs e t =
     let t6 = and-both inked edges (t5 .1) in
     let a1 = and-both (placeSound (rowAt zs 0)) (numbersSound (rowAt zs 5) && numberSound (rowAt zs 10)) (t1 .0) in
     let a2 = and-both (numbersSound (rowAt zs 5)) (numberSound (rowAt zs 10)) (a1 .1) in
-    let b1 = and-both (limitsSound (rowAt zs 15)) (cornersSound (rowAt zs 20) && (scaleSound (rowAt zs 25) && boxSound (rowAt zs 30))) (t2 .0) in
-    let b2 = and-both (cornersSound (rowAt zs 20)) (scaleSound (rowAt zs 25) && boxSound (rowAt zs 30)) (b1 .1) in
-    let b3 = and-both (scaleSound (rowAt zs 25)) (boxSound (rowAt zs 30)) (b2 .1) in
+    let b1 = and-both (limitsSound (rowAt zs limitsPlace)) (cornersSound (rowAt zs cornersPlace) && (scaleSound (rowAt zs scalePlace) && boxSound (rowAt zs windowPlace))) (t2 .0) in
+    let b2 = and-both (cornersSound (rowAt zs cornersPlace)) (scaleSound (rowAt zs scalePlace) && boxSound (rowAt zs windowPlace)) (b1 .1) in
+    let b3 = and-both (scaleSound (rowAt zs scalePlace)) (boxSound (rowAt zs windowPlace)) (b2 .1) in
     let c0 = and-both parts placed (t3 .0) in
-    let c1 = and-both positions (penSound (rowAt zs 40) && polygonSound (rowAt zs 45)) (c0 .0) in
-    let c2 = and-both (positionSound (rowAt zs 35)) (positionSound (rowAt zs 50) && positionSound (rowAt zs 55)) (c1 .0) in
-    let c3 = and-both (positionSound (rowAt zs 50)) (positionSound (rowAt zs 55)) (c2 .1) in
-    let c4 = and-both (penSound (rowAt zs 40)) (polygonSound (rowAt zs 45)) (c1 .1) in
+    let c1 = and-both positions (penSound (rowAt zs penPlace) && polygonSound (rowAt zs polygonPlace)) (c0 .0) in
+    let c2 = and-both (positionSound (rowAt zs positionPlace)) (positionSound (rowAt zs firstPlace) && positionSound (rowAt zs savedPlace)) (c1 .0) in
+    let c3 = and-both (positionSound (rowAt zs firstPlace)) (positionSound (rowAt zs savedPlace)) (c2 .1) in
+    let c4 = and-both (penSound (rowAt zs penPlace)) (polygonSound (rowAt zs polygonPlace)) (c1 .1) in
     light-list zs e
     (record {
       r0 = place-light (rowAt zs 0) (a1 .0);
       r1 = numbers-light (rowAt zs 5) (a2 .0);
       r2 = number-light (rowAt zs 10) (a2 .1);
-      r3 = limits-light (rowAt zs 15) (b1 .0);
-      r4 = corners-light (rowAt zs 20) (b2 .0);
-      r5 = scale-light (rowAt zs 25) (b3 .0);
-      r6 = box-light most (rowAt zs 30) refl refl (b3 .1);
-      r7 = position-light (rowAt zs 35) (c2 .0);
-      r8 = pen-light (rowAt zs 40) (c4 .0);
-      r9 = polygon-light (rowAt zs 45) (c4 .1);
-      r10 = position-light (rowAt zs 50) (c3 .0);
-      r11 = position-light (rowAt zs 55) (c3 .1);
-      rest = work-light (rowAt zs 60) (rowAt zs 65) (rowAt zs 70) (t5 .0);
+      r3 = limits-light (rowAt zs limitsPlace) (b1 .0);
+      r4 = corners-light (rowAt zs cornersPlace) (b2 .0);
+      r5 = scale-light (rowAt zs scalePlace) (b3 .0);
+      r6 = box-light most (rowAt zs windowPlace) refl refl (b3 .1);
+      r7 = position-light (rowAt zs positionPlace) (c2 .0);
+      r8 = pen-light (rowAt zs penPlace) (c4 .0);
+      r9 = polygon-light (rowAt zs polygonPlace) (c4 .1);
+      r10 = position-light (rowAt zs firstPlace) (c3 .0);
+      r11 = position-light (rowAt zs savedPlace) (c3 .1);
+      rest = work-light (rowAt zs workPlace) (rowAt zs acrossPlace) (rowAt zs alongPlace) (t5 .0);
     })
     (t6 .1)

@@ -17,6 +17,7 @@ use Rattle.hpgl.specs.declared.Position.{Position}
 use Rattle.hpgl.specs.declared.Settings.{Settings}
 use Rattle.hpgl.specs.declared.Circle.{Circle}
 use Rattle.hpgl.specs.Place.{axisX, axisY, location, inRange}
+use Rattle.saved.specs.Places.{limitsPlace, cornersPlace, scalePlace, windowPlace, positionPlace, penPlace, polygonPlace, firstPlace, savedPlace, workPlace, acrossPlace, alongPlace, edgesPlace}
 use Rattle.saved.specs.Saved.{positionOf, circleOf, settingsAt}
 
 -- ---- rows between two rows
@@ -184,9 +185,9 @@ edgesSound zs i (suc n) = boxSound (rowAt zs i) && edgesSound zs (i + 5) n
 unfoldable pub soundOf : List ℤ → Bool
 soundOf zs =
     readerSound (rowAt zs 0) (rowAt zs 5) (rowAt zs 10)
-    && (settingsSound (rowAt zs 15) (rowAt zs 20) (rowAt zs 25) (rowAt zs 30)
-    && (carriageSound (settingsAt zs) (rowAt zs 35) (rowAt zs 40) (rowAt zs 45) (rowAt zs 50) (rowAt zs 55)
-    && (knownSound (rowAt zs 0) (rowAt zs 45)
-    && (workSound (rowAt zs 60) (rowAt zs 65) (rowAt zs 70)
-    && (inkedSound (rowAt zs 40) (rowAt zs 60)
-    && edgesSound zs 75 112)))))
+    && (settingsSound (rowAt zs limitsPlace) (rowAt zs cornersPlace) (rowAt zs scalePlace) (rowAt zs windowPlace)
+    && (carriageSound (settingsAt zs) (rowAt zs positionPlace) (rowAt zs penPlace) (rowAt zs polygonPlace) (rowAt zs firstPlace) (rowAt zs savedPlace)
+    && (knownSound (rowAt zs 0) (rowAt zs polygonPlace)
+    && (workSound (rowAt zs workPlace) (rowAt zs acrossPlace) (rowAt zs alongPlace)
+    && (inkedSound (rowAt zs penPlace) (rowAt zs workPlace)
+    && edgesSound zs edgesPlace 112)))))

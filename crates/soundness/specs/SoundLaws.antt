@@ -17,6 +17,7 @@ use Rattle.hpgl.specs.Valid.{Knows, Valid, Usable}
 use Rattle.hpgl.specs.Made.{Made}
 use Rattle.hpgl.specs.ValidFacts.{and-both}
 use Rattle.hpgl.specs.ValidKept.{made-usable}
+use Rattle.saved.specs.Places.{limitsPlace, cornersPlace, scalePlace, windowPlace, positionPlace, penPlace, polygonPlace, firstPlace, savedPlace, workPlace, acrossPlace, alongPlace, edgesPlace}
 use Rattle.saved.specs.SavedReader.{numbersRow, numberRow, readerOf, readerAt}
 use Rattle.saved.specs.Saved.{stateNumbers, settingsOf, settingsAt, positionRow, penRow, polygonRow, penOf, pm0Of, polygonOf, carriageOf, carriageAt, workAt, storeAt, savedOf, loadedOf}
 use Rattle.saved.specs.SavedLaws.{saved-back}
@@ -51,24 +52,24 @@ pub record Passed (zs : List ℤ) : Type 0 where
 -- a list of that length, row by row
 by-rows : (zs : List ℤ) → length zs ≡ stateNumbers →
     zs ≡ lay (rowAt zs 0) (lay (rowAt zs 5) (lay (rowAt zs 10)
-    (lay (rowAt zs 15) (lay (rowAt zs 20) (lay (rowAt zs 25) (lay (rowAt zs 30)
-    (lay (rowAt zs 35) (lay (rowAt zs 40) (lay (rowAt zs 45) (lay (rowAt zs 50) (lay (rowAt zs 55)
-    (lay (rowAt zs 60) (lay (rowAt zs 65) (lay (rowAt zs 70) (drop 75 zs)))))))))))))))
+    (lay (rowAt zs limitsPlace) (lay (rowAt zs cornersPlace) (lay (rowAt zs scalePlace) (lay (rowAt zs windowPlace)
+    (lay (rowAt zs positionPlace) (lay (rowAt zs penPlace) (lay (rowAt zs polygonPlace) (lay (rowAt zs firstPlace) (lay (rowAt zs savedPlace)
+    (lay (rowAt zs workPlace) (lay (rowAt zs acrossPlace) (lay (rowAt zs alongPlace) (drop edgesPlace zs)))))))))))))))
 by-rows zs e =
     row-of 0 (omega (arith, e)) ∙ ap (lay (rowAt zs 0))
     (row-of 5 (omega (arith, e)) ∙ ap (lay (rowAt zs 5))
     (row-of 10 (omega (arith, e)) ∙ ap (lay (rowAt zs 10))
-    (row-of 15 (omega (arith, e)) ∙ ap (lay (rowAt zs 15))
-    (row-of 20 (omega (arith, e)) ∙ ap (lay (rowAt zs 20))
-    (row-of 25 (omega (arith, e)) ∙ ap (lay (rowAt zs 25))
-    (row-of 30 (omega (arith, e)) ∙ ap (lay (rowAt zs 30))
-    (row-of 35 (omega (arith, e)) ∙ ap (lay (rowAt zs 35))
-    (row-of 40 (omega (arith, e)) ∙ ap (lay (rowAt zs 40))
-    (row-of 45 (omega (arith, e)) ∙ ap (lay (rowAt zs 45))
-    (row-of 50 (omega (arith, e)) ∙ ap (lay (rowAt zs 50))
-    (row-of 55 (omega (arith, e)) ∙ ap (lay (rowAt zs 55))
-    (row-of 60 (omega (arith, e)) ∙ ap (lay (rowAt zs 60))
-    (row-of 65 (omega (arith, e)) ∙ ap (lay (rowAt zs 65)) (row-of 70 (omega (arith, e))))))))))))))))
+    (row-of limitsPlace (omega (arith, e)) ∙ ap (lay (rowAt zs limitsPlace))
+    (row-of cornersPlace (omega (arith, e)) ∙ ap (lay (rowAt zs cornersPlace))
+    (row-of scalePlace (omega (arith, e)) ∙ ap (lay (rowAt zs scalePlace))
+    (row-of windowPlace (omega (arith, e)) ∙ ap (lay (rowAt zs windowPlace))
+    (row-of positionPlace (omega (arith, e)) ∙ ap (lay (rowAt zs positionPlace))
+    (row-of penPlace (omega (arith, e)) ∙ ap (lay (rowAt zs penPlace))
+    (row-of polygonPlace (omega (arith, e)) ∙ ap (lay (rowAt zs polygonPlace))
+    (row-of firstPlace (omega (arith, e)) ∙ ap (lay (rowAt zs firstPlace))
+    (row-of savedPlace (omega (arith, e)) ∙ ap (lay (rowAt zs savedPlace))
+    (row-of workPlace (omega (arith, e)) ∙ ap (lay (rowAt zs workPlace))
+    (row-of acrossPlace (omega (arith, e)) ∙ ap (lay (rowAt zs acrossPlace)) (row-of alongPlace (omega (arith, e))))))))))))))))
   where
     row-of : (i : ℕ) → i + 5 ≤ length zs → drop i zs ≡ lay (rowAt zs i) (drop (i + 5) zs)
     row-of i h = row-drop zs i h
@@ -77,12 +78,12 @@ pub sound-passed : (zs : List ℤ) → length zs ≡ stateNumbers → soundOf zs
 unfolding soundOf loadedOf savedOf readerAt readerOf settingsAt settingsOf carriageAt carriageOf penOf polygonOf pm0Of workAt storeAt Knows
 sound-passed zs e t =
     let reader = readerSound (rowAt zs 0) (rowAt zs 5) (rowAt zs 10) in
-    let settings = settingsSound (rowAt zs 15) (rowAt zs 20) (rowAt zs 25) (rowAt zs 30) in
-    let carriage = carriageSound (settingsOf (rowAt zs 15) (rowAt zs 20) (rowAt zs 25) (rowAt zs 30)) (rowAt zs 35) (rowAt zs 40) (rowAt zs 45) (rowAt zs 50) (rowAt zs 55) in
-    let known = knownSound (rowAt zs 0) (rowAt zs 45) in
-    let work = workSound (rowAt zs 60) (rowAt zs 65) (rowAt zs 70) in
-    let inked = inkedSound (rowAt zs 40) (rowAt zs 60) in
-    let edges = edgesSound zs 75 112 in
+    let settings = settingsSound (rowAt zs limitsPlace) (rowAt zs cornersPlace) (rowAt zs scalePlace) (rowAt zs windowPlace) in
+    let carriage = carriageSound (settingsOf (rowAt zs limitsPlace) (rowAt zs cornersPlace) (rowAt zs scalePlace) (rowAt zs windowPlace)) (rowAt zs positionPlace) (rowAt zs penPlace) (rowAt zs polygonPlace) (rowAt zs firstPlace) (rowAt zs savedPlace) in
+    let known = knownSound (rowAt zs 0) (rowAt zs polygonPlace) in
+    let work = workSound (rowAt zs workPlace) (rowAt zs acrossPlace) (rowAt zs alongPlace) in
+    let inked = inkedSound (rowAt zs penPlace) (rowAt zs workPlace) in
+    let edges = edgesSound zs edgesPlace 112 in
     let t1 = and-both reader (settings && (carriage && (known && (work && (inked && edges))))) t in
     let t2 = and-both settings (carriage && (known && (work && (inked && edges)))) (t1 .1) in
     let t3 = and-both carriage (known && (work && (inked && edges))) (t2 .1) in
@@ -90,14 +91,14 @@ sound-passed zs e t =
     let t5 = and-both work (inked && edges) (t4 .1) in
     let t6 = and-both inked edges (t5 .1) in
     let r = reader-law (rowAt zs 0) (rowAt zs 5) (rowAt zs 10) (t1 .0) in
-    let s = part.settings-law (rowAt zs 15) (rowAt zs 20) (rowAt zs 25) (rowAt zs 30) (t2 .0) in
-    let c = part.carriage-law (rowAt zs 35) (rowAt zs 40) (rowAt zs 45) (rowAt zs 50) (rowAt zs 55) (s .valid) (t3 .0) in
-    let w = last.work-law (rowAt zs 60) (rowAt zs 65) (rowAt zs 70) (t5 .0) in
-    let d = last.edges-law zs 75 112 (t6 .1) (omega (arith, e)) in
+    let s = part.settings-law (rowAt zs limitsPlace) (rowAt zs cornersPlace) (rowAt zs scalePlace) (rowAt zs windowPlace) (t2 .0) in
+    let c = part.carriage-law (rowAt zs positionPlace) (rowAt zs penPlace) (rowAt zs polygonPlace) (rowAt zs firstPlace) (rowAt zs savedPlace) (s .valid) (t3 .0) in
+    let w = last.work-law (rowAt zs workPlace) (rowAt zs acrossPlace) (rowAt zs alongPlace) (t5 .0) in
+    let d = last.edges-law zs edgesPlace 112 (t6 .1) (omega (arith, e)) in
     record {
       usable = record {
-        valid = record { reader = r .valid; known = last.known-law (rowAt zs 0) (rowAt zs 45) (r .its-place) (t4 .0); core = c .valid; edges = d .0; length = d .2; work = w .valid };
-        inked = record { pen = last.inked-law (rowAt zs 60) (rowAt zs 65) (rowAt zs 70) (rowAt zs 40) (t6 .0) (c .pen-low) (c .pen-high) };
+        valid = record { reader = r .valid; known = last.known-law (rowAt zs 0) (rowAt zs polygonPlace) (r .its-place) (t4 .0); core = c .valid; edges = d .0; length = d .2; work = w .valid };
+        inked = record { pen = last.inked-law (rowAt zs workPlace) (rowAt zs acrossPlace) (rowAt zs alongPlace) (rowAt zs penPlace) (t6 .0) (c .pen-low) (c .pen-high) };
       };
       same =
           (λ j. lay (r .its-place .same j) (lay (r .its-numbers j) (lay (r .its-number j)
@@ -122,7 +123,7 @@ usable-sound {m} u =
     (both (ap (λ (s : Settings). carriageSound s (positionRow (k .position) (k .relative)) (penRow (k .pen)) (polygonRow (k .polygon)) (positionRow (k .polygon .first) (k .polygon .empty)) (positionRow (k .polygon .saved .position) (k .polygon .saved .relative))) (settings-back m v) ∙ part.carriage-of (m .core .settings) k (v .core))
     (both (last.known-of (m .reader .mode) (m .reader .op) (m .core .carriage .polygon) (v .reader .op) (v .known))
     (both (last.work-of (m .work) (v .work))
-    (both (last.inked-of (m .core .carriage .pen) (m .work) (u .inked .pen)) (ap (edgesSound (savedOf m) 75) (sym (v .length)) ∙ last.edges-of (m .store .edges) (savedOf m) 75 refl (v .edges)))))))
+    (both (last.inked-of (m .core .carriage .pen) (m .work) (u .inked .pen)) (ap (edgesSound (savedOf m) edgesPlace) (sym (v .length)) ∙ last.edges-of (m .store .edges) (savedOf m) edgesPlace refl (v .edges)))))))
   where
     k : Carriage
     k = m .core .carriage

@@ -3,6 +3,7 @@
 ghost use mathlib.Core.Path.{_≡_};
 ghost use lib.ListN.{length};
 ghost use Rattle.hpgl.specs.Valid.{ValidSettings};
+ghost use Rattle.saved.specs.Places.{limitsPlace, cornersPlace, scalePlace, windowPlace, positionPlace, penPlace, polygonPlace, firstPlace, savedPlace, workPlace, acrossPlace, alongPlace, edgesPlace};
 ghost use Rattle.saved.specs.Saved.{stateNumbers, settingsAt};
 ghost use Rattle.rows.specs.Rows.{rowAt};
 ghost use Rattle.soundness.specs.Sound as S;
@@ -19,14 +20,24 @@ use hpgl::MOST_EDGES;
 use reading::known_sound;
 use reading::reader_sound;
 use rows::row_at;
+use saving::places::ACROSS;
+use saving::places::ALONG;
+use saving::places::CORNERS;
+use saving::places::EDGES;
+use saving::places::FIRST;
+use saving::places::LIMITS;
+use saving::places::PEN;
+use saving::places::POLYGON;
+use saving::places::POSITION;
+use saving::places::SAVED;
+use saving::places::SCALE;
+use saving::places::WINDOW;
+use saving::places::WORK;
 use saving::sheet::settings_at;
 use sheet::box_sound;
 use sheet::settings_sound;
 use work::inked_sound;
 use work::work_sound;
-
-// Where the first edge stands.
-const EDGES: usize = 75;
 
 const ROW: usize = 5;
 
@@ -39,28 +50,28 @@ fn reader_here(numbers: &[i64]) -> bool
 
 fn settings_here(numbers: &[i64]) -> bool
     requires { ⌜ length (now numbers) ≡ stateNumbers ⌝ }
-    ensures { λ r. ⌜ r ≡ S.settingsSound (rowAt (now (numbers .entry)) 15) (rowAt (now (numbers .entry)) 20) (rowAt (now (numbers .entry)) 25) (rowAt (now (numbers .entry)) 30) ⌝ }
+    ensures { λ r. ⌜ r ≡ S.settingsSound (rowAt (now (numbers .entry)) limitsPlace) (rowAt (now (numbers .entry)) cornersPlace) (rowAt (now (numbers .entry)) scalePlace) (rowAt (now (numbers .entry)) windowPlace) ⌝ }
 {
     settings_sound(
-        row_at(numbers, 15),
-        row_at(numbers, 20),
-        row_at(numbers, 25),
-        row_at(numbers, 30),
+        row_at(numbers, LIMITS),
+        row_at(numbers, CORNERS),
+        row_at(numbers, SCALE),
+        row_at(numbers, WINDOW),
     )
 }
 
 fn carriage_here(numbers: &[i64]) -> bool
     requires { ⌜ (length (now numbers) ≡ stateNumbers) × ValidSettings (settingsAt (now numbers)) ⌝ }
-    ensures { λ r. ⌜ r ≡ S.carriageSound (settingsAt (now (numbers .entry))) (rowAt (now (numbers .entry)) 35) (rowAt (now (numbers .entry)) 40) (rowAt (now (numbers .entry)) 45) (rowAt (now (numbers .entry)) 50) (rowAt (now (numbers .entry)) 55) ⌝ }
+    ensures { λ r. ⌜ r ≡ S.carriageSound (settingsAt (now (numbers .entry))) (rowAt (now (numbers .entry)) positionPlace) (rowAt (now (numbers .entry)) penPlace) (rowAt (now (numbers .entry)) polygonPlace) (rowAt (now (numbers .entry)) firstPlace) (rowAt (now (numbers .entry)) savedPlace) ⌝ }
 {
     let s = settings_at(numbers);
-    let polygon = row_at(numbers, 45);
-    let first = row_at(numbers, 50);
-    let saved = row_at(numbers, 55);
+    let polygon = row_at(numbers, POLYGON);
+    let first = row_at(numbers, FIRST);
+    let saved = row_at(numbers, SAVED);
     carriage_sound(
         s,
-        row_at(numbers, 35),
-        row_at(numbers, 40),
+        row_at(numbers, POSITION),
+        row_at(numbers, PEN),
         polygon,
         first,
         saved,
@@ -69,32 +80,32 @@ fn carriage_here(numbers: &[i64]) -> bool
 
 fn known_here(numbers: &[i64]) -> bool
     requires { ⌜ length (now numbers) ≡ stateNumbers ⌝ }
-    ensures { λ r. ⌜ r ≡ S.knownSound (rowAt (now (numbers .entry)) 0) (rowAt (now (numbers .entry)) 45) ⌝ }
+    ensures { λ r. ⌜ r ≡ S.knownSound (rowAt (now (numbers .entry)) 0) (rowAt (now (numbers .entry)) polygonPlace) ⌝ }
 {
-    known_sound(row_at(numbers, 0), row_at(numbers, 45))
+    known_sound(row_at(numbers, 0), row_at(numbers, POLYGON))
 }
 
 fn work_here(numbers: &[i64]) -> bool
     requires { ⌜ length (now numbers) ≡ stateNumbers ⌝ }
-    ensures { λ r. ⌜ r ≡ S.workSound (rowAt (now (numbers .entry)) 60) (rowAt (now (numbers .entry)) 65) (rowAt (now (numbers .entry)) 70) ⌝ }
+    ensures { λ r. ⌜ r ≡ S.workSound (rowAt (now (numbers .entry)) workPlace) (rowAt (now (numbers .entry)) acrossPlace) (rowAt (now (numbers .entry)) alongPlace) ⌝ }
 {
     work_sound(
-        row_at(numbers, 60),
-        row_at(numbers, 65),
-        row_at(numbers, 70),
+        row_at(numbers, WORK),
+        row_at(numbers, ACROSS),
+        row_at(numbers, ALONG),
     )
 }
 
 fn inked_here(numbers: &[i64]) -> bool
     requires { ⌜ length (now numbers) ≡ stateNumbers ⌝ }
-    ensures { λ r. ⌜ r ≡ S.inkedSound (rowAt (now (numbers .entry)) 40) (rowAt (now (numbers .entry)) 60) ⌝ }
+    ensures { λ r. ⌜ r ≡ S.inkedSound (rowAt (now (numbers .entry)) penPlace) (rowAt (now (numbers .entry)) workPlace) ⌝ }
 {
-    inked_sound(row_at(numbers, 40), row_at(numbers, 60))
+    inked_sound(row_at(numbers, PEN), row_at(numbers, WORK))
 }
 
 fn edges_here(numbers: &[i64]) -> bool
     requires { ⌜ length (now numbers) ≡ stateNumbers ⌝ }
-    ensures { λ r. ⌜ r ≡ S.edgesSound (now (numbers .entry)) 75 112 ⌝ }
+    ensures { λ r. ⌜ r ≡ S.edgesSound (now (numbers .entry)) edgesPlace 112 ⌝ }
 {
     let mut i = 0;
     while i < MOST_EDGES {

@@ -1,5 +1,4 @@
 -- Which lists are a machine, and when a call goes on: every list that is lent is long enough, and the machine's begins with its header, is sound and has its sum.
-use mathlib.Core.Path.{_≡_}
 use mathlib.Core.Bool.{Bool, cond, _&&_}
 use mathlib.Core.List.{List}
 use Prim.Native.Nat.{ℕ}
@@ -9,8 +8,7 @@ use lib.ListN.{length, drop}
 use Rattle.rows.specs.Rows.{rowAt}
 use Rattle.seal.specs.Seal.{sealedOf, headerSound, sumStands}
 use Rattle.hpgl.specs.declared.State.{State}
-use Rattle.hpgl.specs.Valid.{Usable}
-use Rattle.saved.specs.Saved.{stateNumbers, savedOf, loadedOf}
+use Rattle.saved.specs.Saved.{savedOf, loadedOf}
 use Rattle.soundness.specs.Sound.{soundOf}
 
 -- the list is no machine
@@ -38,8 +36,3 @@ machineStands zs = headerSound (rowAt zs 0) && (soundOf (drop 5 zs) && sumStands
 -- 0, or the number that a call is refused with; a list of `lent` elements is lent besides, of which it needs so many
 unfoldable pub readyOf : List ℤ → ℕ → ℕ → ℕ
 readyOf zs needed lent = cond (ltb lent needed) tooShort (cond (eqb (length zs) listNumbers) (cond (machineStands zs) 0 noMachine) tooShort)
-
--- the numbers after the header, of a machine that may be used
-pub record Holds (zs : List ℤ) : Type 0 where
-  pub long : length zs ≡ stateNumbers
-  pub usable : Usable (loadedOf zs)

@@ -28,7 +28,8 @@ use Rattle.saved.specs.SavedLaws.{saved-back, saved-length}
 use Rattle.soundness.specs.Sound.{soundOf}
 use Rattle.soundness.specs.SoundLaws.{Passed, sound-passed, usable-sound}
 use Rattle.soundness.specs.LightLaws.{sound-light}
-use Rattle.vutaroi.specs.Ready.{noMachine, tooShort, listNumbers, listOf, machineIn, machineStands, readyOf, Holds}
+use Rattle.machine.specs.Loadable.{Loadable}
+use Rattle.vutaroi.specs.Ready.{noMachine, tooShort, listNumbers, listOf, machineIn, machineStands, readyOf}
 
 -- ---- a list that passes
 
@@ -61,8 +62,8 @@ module _ {zs : List ℤ} {needed lent : ℕ} (g : Goes zs needed lent) where
   passed : Passed (drop 5 zs)
   passed = sound-passed (drop 5 zs) rest-long (tests .1)
 
-  pub goes-holds : Holds (drop 5 zs)
-  goes-holds = record { long = rest-long; usable = passed .usable }
+  pub goes-loadable : Loadable (drop 5 zs)
+  goes-loadable = record { long = rest-long; usable = passed .usable }
 
   -- what it holds may be used, and it is that machine's list
   pub goes-usable : Usable (machineIn zs)

@@ -10,7 +10,8 @@ ghost use Rattle.hpgl.specs.Machine.{rect, freshState, freshNumber, takeState, 
 ghost use Rattle.feeding.specs.Feed.{feedOf, laidNumbers};
 ghost use Rattle.feeding.specs.Plot.{plotFrom, laidMarks};
 ghost use Rattle.saved.specs.Saved.{stateNumbers, savedOf, loadedOf};
-ghost use Rattle.vutaroi.specs.Ready.{listNumbers, machineStands, readyOf, Holds};
+ghost use Rattle.machine.specs.Loadable.{Loadable};
+ghost use Rattle.vutaroi.specs.Ready.{listNumbers, machineStands, readyOf};
 ghost use Rattle.vutaroi.specs.Calls.{drawnKind, drawnNumbers, strokeRow, lookRow, lookNumbers, countsOf, markCountsOf, freshCall, takeCall, drawCall, lookCall, feedCall, plotCall};
 use machine::Drawn;
 use machine::Look;
@@ -109,7 +110,7 @@ fn fresh_in(left: i64, bottom: i64, right: i64, top: i64, numbers: &mut [i64]) -
 }
 
 fn take_in(numbers: &mut [i64], byte: u8) -> u8
-    requires { ⌜ Holds (now numbers) ⌝ }
+    requires { ⌜ Loadable (now numbers) ⌝ }
     ensures { λ r. ⌜ r ≡ takeNumber (loadedOf (now (numbers .entry))) byte ⌝ }
     ensures { λ _. ⌜ now (numbers .exit) ≡ savedOf (takeState (loadedOf (now (numbers .entry))) byte) ⌝ }
 {
@@ -121,7 +122,7 @@ fn take_in(numbers: &mut [i64], byte: u8) -> u8
 }
 
 fn draw_in(numbers: &mut [i64], stroke: &mut [i64]) -> u8
-    requires { ⌜ Holds (now numbers) × (5 ≤ length (now stroke)) ⌝ }
+    requires { ⌜ Loadable (now numbers) × (5 ≤ length (now stroke)) ⌝ }
     ensures { λ r. ⌜ r ≡ drawnKind (drawAnswer (loadedOf (now (numbers .entry)))) ⌝ }
     ensures { λ _. ⌜ now (numbers .exit) ≡ savedOf (drawState (loadedOf (now (numbers .entry)))) ⌝ }
     ensures { λ _. ⌜ now (stroke .exit) ≡ over (now (stroke .entry)) 0 (drawnNumbers (drawAnswer (loadedOf (now (numbers .entry))))) ⌝ }
@@ -135,7 +136,7 @@ fn draw_in(numbers: &mut [i64], stroke: &mut [i64]) -> u8
 }
 
 fn look_in(numbers: &[i64], seen: &mut [i64])
-    requires { ⌜ Holds (now numbers) × (5 ≤ length (now seen)) ⌝ }
+    requires { ⌜ Loadable (now numbers) × (5 ≤ length (now seen)) ⌝ }
     ensures { λ _. ⌜ now (seen .exit) ≡ over (now (seen .entry)) 0 (lookNumbers (lookAt (loadedOf (now (numbers .entry))))) ⌝ }
 {
     let machine = Machine::load(numbers);
@@ -144,7 +145,7 @@ fn look_in(numbers: &[i64], seen: &mut [i64])
 }
 
 fn feed_in(numbers: &mut [i64], bytes: &[u8], records: &mut [i64], answer: &mut [u64]) -> u8
-    requires { ⌜ Holds (now numbers) × (2 ≤ length (now answer)) ⌝ }
+    requires { ⌜ Loadable (now numbers) × (2 ≤ length (now answer)) ⌝ }
     ensures { λ r. ⌜ r ≡ feedOf (loadedOf (now (numbers .entry))) (now (bytes .entry)) (length (now (records .entry)) / 5) .number ⌝ }
     ensures { λ _. ⌜ now (numbers .exit) ≡ savedOf (feedOf (loadedOf (now (numbers .entry))) (now (bytes .entry)) (length (now (records .entry)) / 5) .state) ⌝ }
     ensures { λ _. ⌜ now (records .exit) ≡ laidNumbers (feedOf (loadedOf (now (numbers .entry))) (now (bytes .entry)) (length (now (records .entry)) / 5) .strokes) (now (records .entry)) ⌝ }
@@ -159,7 +160,7 @@ fn feed_in(numbers: &mut [i64], bytes: &[u8], records: &mut [i64], answer: &mut 
 }
 
 fn plot_in(numbers: &mut [i64], bytes: &[u8], records: &mut [i64], answer: &mut [u64]) -> u8
-    requires { ⌜ Holds (now numbers) × (2 ≤ length (now answer)) ⌝ }
+    requires { ⌜ Loadable (now numbers) × (2 ≤ length (now answer)) ⌝ }
     ensures { λ r. ⌜ r ≡ plotFrom (loadedOf (now (numbers .entry))) (now (bytes .entry)) 0 (length (now (records .entry)) / 5) .number ⌝ }
     ensures { λ _. ⌜ now (numbers .exit) ≡ savedOf (plotFrom (loadedOf (now (numbers .entry))) (now (bytes .entry)) 0 (length (now (records .entry)) / 5) .state) ⌝ }
     ensures { λ _. ⌜ now (records .exit) ≡ laidMarks (plotFrom (loadedOf (now (numbers .entry))) (now (bytes .entry)) 0 (length (now (records .entry)) / 5) .marks) (now (records .entry)) ⌝ }

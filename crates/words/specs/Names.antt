@@ -1,6 +1,6 @@
 -- The kinds of instructions, by their names: the sixteen of document 01 (c, d, m, p), and those of the manual and of HP-GL/2 that it does not have.
 use mathlib.Core.Bool.{Bool, true, false, cond}
-use mathlib.Core.List.{List, [], _∷_}
+use mathlib.Core.List.{List, [], _∷_, _++_}
 use Prim.Native.Char.{code}
 use Prim.Native.Nat.{ℕ}
 use lib.Dec.{eqb}
@@ -9,35 +9,38 @@ use Rattle.hpgl.specs.Trace.{bytes}
 unfoldable pub sameName : ℕ → ℕ → ℕ → ℕ → Bool
 sameName first second a b = cond (eqb first a) (eqb second b) false
 
--- in a list each name has a blank after it
-unfoldable pub listedIn : List ℕ → ℕ → ℕ → Bool
-listedIn [] a b = false
-listedIn (p ∷ []) a b = false
-listedIn (p ∷ q ∷ []) a b = false
-listedIn (p ∷ q ∷ blank ∷ rest) a b = cond (sameName p q a b) true (listedIn rest a b)
-
--- arcs and curves, bytes of no name, coded lines, fills and wedges, text, questions, settings of text, line types, speed and force, width of a pen;
--- x is any other
-unfoldable pub foreignKind : ℕ → ℕ → ℕ
-foreignKind a b =
-    cond (listedIn (bytes "AA AR AT BR BZ RT ") a b) (code "a") (
-    cond (listedIn (bytes "?? ") a b) (code "b") (
-    cond (listedIn (bytes "PE ") a b) (code "e") (
-    cond (listedIn (bytes "AC EW FP FT RA RF RR UF WG ") a b) (code "f") (
-    cond (listedIn (bytes "BL CP LB PB UC ") a b) (code "l") (
-    cond (listedIn (bytes "DC DP IM OA OC OD OE OF OG OH OI OL OO OP OS OT OW ") a b) (code "o") (
-    cond (listedIn (bytes "AD CA CS DI DR DT DV ES LO SA SD SI SL SR SS TD ") a b) (code "s") (
-    cond (listedIn (bytes "LT UL ") a b) (code "t") (
-    cond (listedIn (bytes "AP AS FS VA VN VS ") a b) (code "v") (
-    cond (listedIn (bytes "PT PW WU ") a b) (code "w") (code "x"))))))))))
+-- in a list each name has its kind after it, and a blank; x is the kind of a name that is not there
+unfoldable pub kindIn : List ℕ → ℕ → ℕ → ℕ
+kindIn [] a b = code "x"
+kindIn (p ∷ []) a b = code "x"
+kindIn (p ∷ q ∷ []) a b = code "x"
+kindIn (p ∷ q ∷ kind ∷ []) a b = code "x"
+kindIn (p ∷ q ∷ kind ∷ blank ∷ rest) a b = cond (sameName p q a b) kind (kindIn rest a b)
 
 -- of the sixteen: settings, what is painted by itself, moves, polygon mode
+abbrev pub ownKinds : List ℕ
+ownKinds =
+    bytes "DFc INc IPc IWc ROc SCc SPc "
+    ++ bytes "CId EAd EPd ERd "
+    ++ bytes "PAm PDm PRm PUm "
+    ++ bytes "PMp "
+
+-- arcs and curves, bytes of no name, coded lines, fills and wedges, text, questions, settings of text, line types, speed and force, width of a pen
+abbrev pub foreignKinds : List ℕ
+foreignKinds =
+    bytes "AAa ARa ATa BRa BZa RTa "
+    ++ bytes "??b "
+    ++ bytes "PEe "
+    ++ bytes "ACf EWf FPf FTf RAf RFf RRf UFf WGf "
+    ++ bytes "BLl CPl LBl PBl UCl "
+    ++ bytes "DCo DPo IMo OAo OCo ODo OEo OFo OGo OHo OIo OLo OOo OPo OSo OTo OWo "
+    ++ bytes "ADs CAs CSs DIs DRs DTs DVs ESs LOs SAs SDs SIs SLs SRs SSs TDs "
+    ++ bytes "LTt ULt "
+    ++ bytes "APv ASv FSv VAv VNv VSv "
+    ++ bytes "PTw PWw WUw "
+
 unfoldable pub kindOf : ℕ → ℕ → ℕ
-kindOf a b =
-    cond (listedIn (bytes "DF IN IP IW RO SC SP ") a b) (code "c") (
-    cond (listedIn (bytes "CI EA EP ER ") a b) (code "d") (
-    cond (listedIn (bytes "PA PD PR PU ") a b) (code "m") (
-    cond (listedIn (bytes "PM ") a b) (code "p") (foreignKind a b))))
+kindOf a b = kindIn (ownKinds ++ foreignKinds) a b
 
 -- the machine has it
 unfoldable pub hasOf : ℕ → Bool

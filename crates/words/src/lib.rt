@@ -2,7 +2,7 @@
 // Each text has blanks after it, up to 72 bytes. specs/Words.antt and specs/Names.antt have the same tables.
 ghost use mathlib.Core.Path.{_≡_};
 ghost use Rattle.words.specs.Words.{causeOf, adviceOf, ofForeign, ofKind};
-ghost use Rattle.words.specs.Names.{sameName, listedIn, foreignKind, kindOf, hasOf, refusedKind, harmlessOf};
+ghost use Rattle.words.specs.Names.{sameName, kindIn, kindOf, hasOf, refusedKind, harmlessOf};
 
 // Why a byte or a call is refused with a number.
 pub fn cause(number: u8) -> [u8; 72]
@@ -147,82 +147,29 @@ fn same(first: u8, second: u8, a: u8, b: u8) -> bool
     false
 }
 
-// Whether a name is in a list, in which each has a blank after it.
-fn listed(names: &[u8], first: u8, second: u8) -> bool
-    ensures { λ r. ⌜ r ≡ listedIn (now (names .entry)) first second ⌝ }
+// The kind of a name in a list, in which each has its kind after it, and a blank; x where the list does not have it.
+fn kind_in(names: &[u8], first: u8, second: u8) -> u8
+    ensures { λ r. ⌜ r ≡ kindIn (now (names .entry)) first second ⌝ }
 {
     let mut i = 0;
-    while 2 < names.len() - i {
+    while 3 < names.len() - i {
         if same(names[i], names[i + 1], first, second) {
-            return true;
+            return names[i + 2];
         }
-        i += 3;
-    }
-    false
-}
-
-// The kind of a name of the manual or of HP-GL/2 that the machine does not have; ?? is for a byte of no name, and x is any other.
-fn foreign_kind(first: u8, second: u8) -> u8
-    ensures { λ r. ⌜ r ≡ foreignKind first second ⌝ }
-{
-    if listed(b"AA AR AT BR BZ RT ", first, second) {
-        return b'a';
-    }
-    if listed(b"?? ", first, second) {
-        return b'b';
-    }
-    if listed(b"PE ", first, second) {
-        return b'e';
-    }
-    if listed(b"AC EW FP FT RA RF RR UF WG ", first, second) {
-        return b'f';
-    }
-    if listed(b"BL CP LB PB UC ", first, second) {
-        return b'l';
-    }
-    if listed(
-        b"DC DP IM OA OC OD OE OF OG OH OI OL OO OP OS OT OW ",
-        first,
-        second,
-    ) {
-        return b'o';
-    }
-    if listed(
-        b"AD CA CS DI DR DT DV ES LO SA SD SI SL SR SS TD ",
-        first,
-        second,
-    ) {
-        return b's';
-    }
-    if listed(b"LT UL ", first, second) {
-        return b't';
-    }
-    if listed(b"AP AS FS VA VN VS ", first, second) {
-        return b'v';
-    }
-    if listed(b"PT PW WU ", first, second) {
-        return b'w';
+        i += 4;
     }
     b'x'
 }
 
-// The kind of an instruction, by its name: settings, what is painted by itself, moves and polygon mode are the sixteen.
+// The kind of an instruction, by its name: of the sixteen (c, d, m, p), or of the manual and of HP-GL/2, which the machine does not have; ?? is for a byte of no name.
 pub fn kind(first: u8, second: u8) -> u8
     ensures { λ r. ⌜ r ≡ kindOf first second ⌝ }
 {
-    if listed(b"DF IN IP IW RO SC SP ", first, second) {
-        return b'c';
-    }
-    if listed(b"CI EA EP ER ", first, second) {
-        return b'd';
-    }
-    if listed(b"PA PD PR PU ", first, second) {
-        return b'm';
-    }
-    if listed(b"PM ", first, second) {
-        return b'p';
-    }
-    foreign_kind(first, second)
+    kind_in(
+        b"DFc INc IPc IWc ROc SCc SPc CId EAd EPd ERd PAm PDm PRm PUm PMp AAa ARa ATa BRa BZa RTa ??b PEe ACf EWf FPf FTf RAf RFf RRf UFf WGf BLl CPl LBl PBl UCl DCo DPo IMo OAo OCo ODo OEo OFo OGo OHo OIo OLo OOo OPo OSo OTo OWo ADs CAs CSs DIs DRs DTs DVs ESs LOs SAs SDs SIs SLs SRs SSs TDs LTt ULt APv ASv FSv VAv VNv VSv PTw PWw WUw ",
+        first,
+        second,
+    )
 }
 
 // Whether a kind is one of the sixteen instructions.

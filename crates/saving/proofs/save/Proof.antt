@@ -6,6 +6,7 @@ use lib.IntN.{ℤ}
 use lib.ListN.{length}
 use Rattle.rows.specs.Rows.{over}
 use Rattle.rows.specs.RowLaws.{over-all}
+use Rattle.saved.specs.Places.{limitsPlace, positionPlace, workPlace, edgesPlace}
 use Rattle.saved.specs.SavedReader.{readerNumbers}
 use Rattle.hpgl.specs.declared.State.{State}
 use Rattle.hpgl.specs.Numbers.{mostEdges}
@@ -19,7 +20,7 @@ start c = c .before .before .before .before .before .before .before
 
 -- the parts, one written after the other, are the whole
 whole : (m : State) (zs : List ℤ) → length (m .store .edges) ≡ mostEdges → length zs ≡ stateNumbers →
-    over (over (over (over (over zs 0 (readerNumbers (m .reader))) 15 (settingsNumbers (m .core .settings))) 35 (carriageNumbers (m .core .carriage))) 60 (workNumbers (m .work))) 75 (edgesNumbers (m .store .edges)) ≡ savedOf m
+    over (over (over (over (over zs 0 (readerNumbers (m .reader))) limitsPlace (settingsNumbers (m .core .settings))) positionPlace (carriageNumbers (m .core .carriage))) workPlace (workNumbers (m .work))) edgesPlace (edgesNumbers (m .store .edges)) ≡ savedOf m
 unfolding over savedOf readerNumbers settingsNumbers carriageNumbers workNumbers
 whole m zs e h = over-all zs (savedOf m) (h ∙ sym (saved-length m e))
 
@@ -51,12 +52,12 @@ returns c =
     let s = start r in
     let m = s .args .m in
     e .put-edges .ensures
-    ∙ ap (λ (zs : List ℤ). over zs 75 (edgesNumbers (m .store .edges)))
+    ∙ ap (λ (zs : List ℤ). over zs edgesPlace (edgesNumbers (m .store .edges)))
     (w .put-work .ensures
-    ∙ ap (λ (zs : List ℤ). over zs 60 (workNumbers (m .work)))
+    ∙ ap (λ (zs : List ℤ). over zs workPlace (workNumbers (m .work)))
     (k .put-carriage .ensures
-    ∙ ap (λ (zs : List ℤ). over zs 35 (carriageNumbers (m .core .carriage)))
-    (t .put-settings .ensures ∙ ap (λ (zs : List ℤ). over zs 15 (settingsNumbers (m .core .settings))) (r .put-reader .ensures))))
+    ∙ ap (λ (zs : List ℤ). over zs positionPlace (carriageNumbers (m .core .carriage)))
+    (t .put-settings .ensures ∙ ap (λ (zs : List ℤ). over zs limitsPlace (settingsNumbers (m .core .settings))) (r .put-reader .ensures))))
     ∙ whole m (s .args .numbers .now) (s .pre .0) (s .pre .1)
 
 pub save-spec : {M : Type 1} → statement M

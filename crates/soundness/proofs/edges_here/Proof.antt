@@ -11,23 +11,24 @@ use Rattle.rows.specs.Rows.{rowAt}
 use Rattle.soundness.specs.Sound.{boxSound, edgesSound}
 use Rattle.soundness.proofs.edges_here.Statement.{statement}
 use Rattle.soundness.proofs.edges_here.Tie as tie
+use Rattle.saved.specs.Places.{edgesPlace}
 
 module _ (zs : List ℤ) (i : ℕ) where
   -- a row is tested, and those after it are left
-  one-more : i < 112 → edgesSound zs (75 + i * 5) (112 - i) ≡ boxSound (rowAt zs (75 + i * 5)) && edgesSound zs (75 + (i + 1) * 5) (112 - (i + 1))
+  one-more : i < 112 → edgesSound zs (edgesPlace + i * 5) (112 - i) ≡ boxSound (rowAt zs (edgesPlace + i * 5)) && edgesSound zs (edgesPlace + (i + 1) * 5) (112 - (i + 1))
   unfolding edgesSound
   one-more h =
-      let at : 75 + i * 5 + 5 ≡ 75 + (i + 1) * 5 = omega arith in
+      let at : edgesPlace + i * 5 + 5 ≡ edgesPlace + (i + 1) * 5 = omega arith in
       let less : 112 - i ≡ suc (112 - (i + 1)) = omega arith in
-      ap (edgesSound zs (75 + i * 5)) less ∙ ap (λ (n : ℕ). boxSound (rowAt zs (75 + i * 5)) && edgesSound zs n (112 - (i + 1))) at
+      ap (edgesSound zs (edgesPlace + i * 5)) less ∙ ap (λ (n : ℕ). boxSound (rowAt zs (edgesPlace + i * 5)) && edgesSound zs n (112 - (i + 1))) at
 
   -- no row is left
-  all : 112 ≤ i → true ≡ edgesSound zs (75 + i * 5) (112 - i)
+  all : 112 ≤ i → true ≡ edgesSound zs (edgesPlace + i * 5) (112 - i)
   unfolding edgesSound
-  all h = let none : 0 ≡ 112 - i = omega arith in ap (edgesSound zs (75 + i * 5)) none
+  all h = let none : 0 ≡ 112 - i = omega arith in ap (edgesSound zs (edgesPlace + i * 5)) none
 
 abbrev Inv-loop : tie.InvT-loop
-Inv-loop numbers i₀ i = (i ≤ 112) × (edgesSound numbers (75 + i * 5) (112 - i) ≡ edgesSound numbers 75 112)
+Inv-loop numbers i₀ i = (i ≤ 112) × (edgesSound numbers (edgesPlace + i * 5) (112 - i) ≡ edgesSound numbers edgesPlace 112)
 
 abbrev μ-loop : tie.MeasureT-loop
 μ-loop numbers i₀ i = 112 - i
@@ -51,7 +52,7 @@ box-sound-requires c κs = search needs
 
 -- the row of this turn, as it was tested
 tested : (b : tie.After-box-sound Inv-loop μ-loop) → let s : tie.Start Inv-loop μ-loop = search in let l : tie.At-loop Inv-loop μ-loop = search in
-    b .box-sound .result ≡ boxSound (rowAt (s .args .numbers .now) (75 + l .loop .i * 5))
+    b .box-sound .result ≡ boxSound (rowAt (s .args .numbers .now) (edgesPlace + l .loop .i * 5))
 tested b = let r : tie.After-row-at Inv-loop μ-loop = search in b .box-sound .ensures ∙ ap boxSound (r .row-at .ensures)
 
 returns : tie.Need-returns Inv-loop μ-loop
@@ -62,7 +63,7 @@ returns c =
     let b : tie.After-box-sound Inv-loop μ-loop = search in
     let zs = s .args .numbers .now in
     let no = sym (tested b) ∙ not-true _ (c .if1 .taken) in
-    sym (sym (l .loop .inv .1) ∙ one-more zs (l .loop .i) (t .loop-test .taken) ∙ ap (λ (x : Bool). x && edgesSound zs (75 + (l .loop .i + 1) * 5) (112 - (l .loop .i + 1))) no)
+    sym (sym (l .loop .inv .1) ∙ one-more zs (l .loop .i) (t .loop-test .taken) ∙ ap (λ (x : Bool). x && edgesSound zs (edgesPlace + (l .loop .i + 1) * 5) (112 - (l .loop .i + 1))) no)
 
 add-i : tie.Need-add-i Inv-loop μ-loop
 add-i c = search needs
@@ -80,7 +81,7 @@ loop-again c =
     let zs = s .args .numbers .now in
     let yes = sym (tested b) ∙ not-false _ (e .if1 .left) in
     let more = t .loop-test .taken in
-    (omega (arith, more), sym (one-more zs (l .loop .i) more ∙ ap (λ (x : Bool). x && edgesSound zs (75 + (l .loop .i + 1) * 5) (112 - (l .loop .i + 1))) yes) ∙ l .loop .inv .1)
+    (omega (arith, more), sym (one-more zs (l .loop .i) more ∙ ap (λ (x : Bool). x && edgesSound zs (edgesPlace + (l .loop .i + 1) * 5) (112 - (l .loop .i + 1))) yes) ∙ l .loop .inv .1)
 
 returns-2 : tie.Need-returns-2 Inv-loop μ-loop
 returns-2 c =

@@ -7,15 +7,16 @@ use lib.IntN.{ℤ}
 use mathlib.Core.List.{List}
 use Rattle.rows.specs.Rows.{rowAt}
 use Rattle.hpgl.specs.Valid.{ValidSettings}
+use Rattle.saved.specs.Places.{limitsPlace, cornersPlace, scalePlace, windowPlace, positionPlace, penPlace, polygonPlace, firstPlace, savedPlace, workPlace, acrossPlace, alongPlace}
 use Rattle.saved.specs.Saved.{settingsAt}
 use Rattle.soundness.specs.PartLaws.{settings-law}
 use Rattle.soundness.specs.Sound.{readerSound, settingsSound, carriageSound, knownSound, workSound, inkedSound, soundOf}
 use Rattle.soundness.proofs.sound.Statement.{statement}
 use Rattle.soundness.proofs.sound.Tie as tie
 
-valid : (zs : List ℤ) → settingsSound (rowAt zs 15) (rowAt zs 20) (rowAt zs 25) (rowAt zs 30) ≡ true → ValidSettings (settingsAt zs)
+valid : (zs : List ℤ) → settingsSound (rowAt zs limitsPlace) (rowAt zs cornersPlace) (rowAt zs scalePlace) (rowAt zs windowPlace) ≡ true → ValidSettings (settingsAt zs)
 unfolding settingsAt
-valid zs e = settings-law (rowAt zs 15) (rowAt zs 20) (rowAt zs 25) (rowAt zs 30) e .valid
+valid zs e = settings-law (rowAt zs limitsPlace) (rowAt zs cornersPlace) (rowAt zs scalePlace) (rowAt zs windowPlace) e .valid
 
 reader-here-requires : tie.Need-reader-here-requires
 reader-here-requires c κs = search needs
@@ -41,7 +42,7 @@ returns-2 c =
     let e1 : readerSound (rowAt (s .args .numbers .now) 0) (rowAt (s .args .numbers .now) 5) (rowAt (s .args .numbers .now) 10) ≡ true = sym (a1 .reader-here .ensures) ∙ not-false _ (t1 .if1 .left) in
     let a2 : tie.After-settings-here = search in
     let t2 : tie.Then2 = search in
-    let e2 : settingsSound (rowAt (s .args .numbers .now) 15) (rowAt (s .args .numbers .now) 20) (rowAt (s .args .numbers .now) 25) (rowAt (s .args .numbers .now) 30) ≡ false = sym (a2 .settings-here .ensures) ∙ not-true _ (t2 .if2 .taken) in
+    let e2 : settingsSound (rowAt (s .args .numbers .now) limitsPlace) (rowAt (s .args .numbers .now) cornersPlace) (rowAt (s .args .numbers .now) scalePlace) (rowAt (s .args .numbers .now) windowPlace) ≡ false = sym (a2 .settings-here .ensures) ∙ not-true _ (t2 .if2 .taken) in
     rw (e1, e2) refl
 
 carriage-here-requires : tie.Need-carriage-here-requires
@@ -60,10 +61,10 @@ returns-3 c =
     let e1 : readerSound (rowAt (s .args .numbers .now) 0) (rowAt (s .args .numbers .now) 5) (rowAt (s .args .numbers .now) 10) ≡ true = sym (a1 .reader-here .ensures) ∙ not-false _ (t1 .if1 .left) in
     let a2 : tie.After-settings-here = search in
     let t2 : tie.Else2 = search in
-    let e2 : settingsSound (rowAt (s .args .numbers .now) 15) (rowAt (s .args .numbers .now) 20) (rowAt (s .args .numbers .now) 25) (rowAt (s .args .numbers .now) 30) ≡ true = sym (a2 .settings-here .ensures) ∙ not-false _ (t2 .if2 .left) in
+    let e2 : settingsSound (rowAt (s .args .numbers .now) limitsPlace) (rowAt (s .args .numbers .now) cornersPlace) (rowAt (s .args .numbers .now) scalePlace) (rowAt (s .args .numbers .now) windowPlace) ≡ true = sym (a2 .settings-here .ensures) ∙ not-false _ (t2 .if2 .left) in
     let a3 : tie.After-carriage-here = search in
     let t3 : tie.Then3 = search in
-    let e3 : carriageSound (settingsAt (s .args .numbers .now)) (rowAt (s .args .numbers .now) 35) (rowAt (s .args .numbers .now) 40) (rowAt (s .args .numbers .now) 45) (rowAt (s .args .numbers .now) 50) (rowAt (s .args .numbers .now) 55) ≡ false = sym (a3 .carriage-here .ensures) ∙ not-true _ (t3 .if3 .taken) in
+    let e3 : carriageSound (settingsAt (s .args .numbers .now)) (rowAt (s .args .numbers .now) positionPlace) (rowAt (s .args .numbers .now) penPlace) (rowAt (s .args .numbers .now) polygonPlace) (rowAt (s .args .numbers .now) firstPlace) (rowAt (s .args .numbers .now) savedPlace) ≡ false = sym (a3 .carriage-here .ensures) ∙ not-true _ (t3 .if3 .taken) in
     rw (e1, e2, e3) refl
 
 known-here-requires : tie.Need-known-here-requires
@@ -78,13 +79,13 @@ returns-4 c =
     let e1 : readerSound (rowAt (s .args .numbers .now) 0) (rowAt (s .args .numbers .now) 5) (rowAt (s .args .numbers .now) 10) ≡ true = sym (a1 .reader-here .ensures) ∙ not-false _ (t1 .if1 .left) in
     let a2 : tie.After-settings-here = search in
     let t2 : tie.Else2 = search in
-    let e2 : settingsSound (rowAt (s .args .numbers .now) 15) (rowAt (s .args .numbers .now) 20) (rowAt (s .args .numbers .now) 25) (rowAt (s .args .numbers .now) 30) ≡ true = sym (a2 .settings-here .ensures) ∙ not-false _ (t2 .if2 .left) in
+    let e2 : settingsSound (rowAt (s .args .numbers .now) limitsPlace) (rowAt (s .args .numbers .now) cornersPlace) (rowAt (s .args .numbers .now) scalePlace) (rowAt (s .args .numbers .now) windowPlace) ≡ true = sym (a2 .settings-here .ensures) ∙ not-false _ (t2 .if2 .left) in
     let a3 : tie.After-carriage-here = search in
     let t3 : tie.Else3 = search in
-    let e3 : carriageSound (settingsAt (s .args .numbers .now)) (rowAt (s .args .numbers .now) 35) (rowAt (s .args .numbers .now) 40) (rowAt (s .args .numbers .now) 45) (rowAt (s .args .numbers .now) 50) (rowAt (s .args .numbers .now) 55) ≡ true = sym (a3 .carriage-here .ensures) ∙ not-false _ (t3 .if3 .left) in
+    let e3 : carriageSound (settingsAt (s .args .numbers .now)) (rowAt (s .args .numbers .now) positionPlace) (rowAt (s .args .numbers .now) penPlace) (rowAt (s .args .numbers .now) polygonPlace) (rowAt (s .args .numbers .now) firstPlace) (rowAt (s .args .numbers .now) savedPlace) ≡ true = sym (a3 .carriage-here .ensures) ∙ not-false _ (t3 .if3 .left) in
     let a4 : tie.After-known-here = search in
     let t4 : tie.Then4 = search in
-    let e4 : knownSound (rowAt (s .args .numbers .now) 0) (rowAt (s .args .numbers .now) 45) ≡ false = sym (a4 .known-here .ensures) ∙ not-true _ (t4 .if4 .taken) in
+    let e4 : knownSound (rowAt (s .args .numbers .now) 0) (rowAt (s .args .numbers .now) polygonPlace) ≡ false = sym (a4 .known-here .ensures) ∙ not-true _ (t4 .if4 .taken) in
     rw (e1, e2, e3, e4) refl
 
 work-here-requires : tie.Need-work-here-requires
@@ -99,16 +100,16 @@ returns-5 c =
     let e1 : readerSound (rowAt (s .args .numbers .now) 0) (rowAt (s .args .numbers .now) 5) (rowAt (s .args .numbers .now) 10) ≡ true = sym (a1 .reader-here .ensures) ∙ not-false _ (t1 .if1 .left) in
     let a2 : tie.After-settings-here = search in
     let t2 : tie.Else2 = search in
-    let e2 : settingsSound (rowAt (s .args .numbers .now) 15) (rowAt (s .args .numbers .now) 20) (rowAt (s .args .numbers .now) 25) (rowAt (s .args .numbers .now) 30) ≡ true = sym (a2 .settings-here .ensures) ∙ not-false _ (t2 .if2 .left) in
+    let e2 : settingsSound (rowAt (s .args .numbers .now) limitsPlace) (rowAt (s .args .numbers .now) cornersPlace) (rowAt (s .args .numbers .now) scalePlace) (rowAt (s .args .numbers .now) windowPlace) ≡ true = sym (a2 .settings-here .ensures) ∙ not-false _ (t2 .if2 .left) in
     let a3 : tie.After-carriage-here = search in
     let t3 : tie.Else3 = search in
-    let e3 : carriageSound (settingsAt (s .args .numbers .now)) (rowAt (s .args .numbers .now) 35) (rowAt (s .args .numbers .now) 40) (rowAt (s .args .numbers .now) 45) (rowAt (s .args .numbers .now) 50) (rowAt (s .args .numbers .now) 55) ≡ true = sym (a3 .carriage-here .ensures) ∙ not-false _ (t3 .if3 .left) in
+    let e3 : carriageSound (settingsAt (s .args .numbers .now)) (rowAt (s .args .numbers .now) positionPlace) (rowAt (s .args .numbers .now) penPlace) (rowAt (s .args .numbers .now) polygonPlace) (rowAt (s .args .numbers .now) firstPlace) (rowAt (s .args .numbers .now) savedPlace) ≡ true = sym (a3 .carriage-here .ensures) ∙ not-false _ (t3 .if3 .left) in
     let a4 : tie.After-known-here = search in
     let t4 : tie.Else4 = search in
-    let e4 : knownSound (rowAt (s .args .numbers .now) 0) (rowAt (s .args .numbers .now) 45) ≡ true = sym (a4 .known-here .ensures) ∙ not-false _ (t4 .if4 .left) in
+    let e4 : knownSound (rowAt (s .args .numbers .now) 0) (rowAt (s .args .numbers .now) polygonPlace) ≡ true = sym (a4 .known-here .ensures) ∙ not-false _ (t4 .if4 .left) in
     let a5 : tie.After-work-here = search in
     let t5 : tie.Then5 = search in
-    let e5 : workSound (rowAt (s .args .numbers .now) 60) (rowAt (s .args .numbers .now) 65) (rowAt (s .args .numbers .now) 70) ≡ false = sym (a5 .work-here .ensures) ∙ not-true _ (t5 .if5 .taken) in
+    let e5 : workSound (rowAt (s .args .numbers .now) workPlace) (rowAt (s .args .numbers .now) acrossPlace) (rowAt (s .args .numbers .now) alongPlace) ≡ false = sym (a5 .work-here .ensures) ∙ not-true _ (t5 .if5 .taken) in
     rw (e1, e2, e3, e4, e5) refl
 
 inked-here-requires : tie.Need-inked-here-requires
@@ -123,19 +124,19 @@ returns-6 c =
     let e1 : readerSound (rowAt (s .args .numbers .now) 0) (rowAt (s .args .numbers .now) 5) (rowAt (s .args .numbers .now) 10) ≡ true = sym (a1 .reader-here .ensures) ∙ not-false _ (t1 .if1 .left) in
     let a2 : tie.After-settings-here = search in
     let t2 : tie.Else2 = search in
-    let e2 : settingsSound (rowAt (s .args .numbers .now) 15) (rowAt (s .args .numbers .now) 20) (rowAt (s .args .numbers .now) 25) (rowAt (s .args .numbers .now) 30) ≡ true = sym (a2 .settings-here .ensures) ∙ not-false _ (t2 .if2 .left) in
+    let e2 : settingsSound (rowAt (s .args .numbers .now) limitsPlace) (rowAt (s .args .numbers .now) cornersPlace) (rowAt (s .args .numbers .now) scalePlace) (rowAt (s .args .numbers .now) windowPlace) ≡ true = sym (a2 .settings-here .ensures) ∙ not-false _ (t2 .if2 .left) in
     let a3 : tie.After-carriage-here = search in
     let t3 : tie.Else3 = search in
-    let e3 : carriageSound (settingsAt (s .args .numbers .now)) (rowAt (s .args .numbers .now) 35) (rowAt (s .args .numbers .now) 40) (rowAt (s .args .numbers .now) 45) (rowAt (s .args .numbers .now) 50) (rowAt (s .args .numbers .now) 55) ≡ true = sym (a3 .carriage-here .ensures) ∙ not-false _ (t3 .if3 .left) in
+    let e3 : carriageSound (settingsAt (s .args .numbers .now)) (rowAt (s .args .numbers .now) positionPlace) (rowAt (s .args .numbers .now) penPlace) (rowAt (s .args .numbers .now) polygonPlace) (rowAt (s .args .numbers .now) firstPlace) (rowAt (s .args .numbers .now) savedPlace) ≡ true = sym (a3 .carriage-here .ensures) ∙ not-false _ (t3 .if3 .left) in
     let a4 : tie.After-known-here = search in
     let t4 : tie.Else4 = search in
-    let e4 : knownSound (rowAt (s .args .numbers .now) 0) (rowAt (s .args .numbers .now) 45) ≡ true = sym (a4 .known-here .ensures) ∙ not-false _ (t4 .if4 .left) in
+    let e4 : knownSound (rowAt (s .args .numbers .now) 0) (rowAt (s .args .numbers .now) polygonPlace) ≡ true = sym (a4 .known-here .ensures) ∙ not-false _ (t4 .if4 .left) in
     let a5 : tie.After-work-here = search in
     let t5 : tie.Else5 = search in
-    let e5 : workSound (rowAt (s .args .numbers .now) 60) (rowAt (s .args .numbers .now) 65) (rowAt (s .args .numbers .now) 70) ≡ true = sym (a5 .work-here .ensures) ∙ not-false _ (t5 .if5 .left) in
+    let e5 : workSound (rowAt (s .args .numbers .now) workPlace) (rowAt (s .args .numbers .now) acrossPlace) (rowAt (s .args .numbers .now) alongPlace) ≡ true = sym (a5 .work-here .ensures) ∙ not-false _ (t5 .if5 .left) in
     let a6 : tie.After-inked-here = search in
     let t6 : tie.Then6 = search in
-    let e6 : inkedSound (rowAt (s .args .numbers .now) 40) (rowAt (s .args .numbers .now) 60) ≡ false = sym (a6 .inked-here .ensures) ∙ not-true _ (t6 .if6 .taken) in
+    let e6 : inkedSound (rowAt (s .args .numbers .now) penPlace) (rowAt (s .args .numbers .now) workPlace) ≡ false = sym (a6 .inked-here .ensures) ∙ not-true _ (t6 .if6 .taken) in
     rw (e1, e2, e3, e4, e5, e6) refl
 
 edges-here-requires : tie.Need-edges-here-requires
@@ -150,19 +151,19 @@ returns-7 c =
     let e1 : readerSound (rowAt (s .args .numbers .now) 0) (rowAt (s .args .numbers .now) 5) (rowAt (s .args .numbers .now) 10) ≡ true = sym (a1 .reader-here .ensures) ∙ not-false _ (t1 .if1 .left) in
     let a2 : tie.After-settings-here = search in
     let t2 : tie.Else2 = search in
-    let e2 : settingsSound (rowAt (s .args .numbers .now) 15) (rowAt (s .args .numbers .now) 20) (rowAt (s .args .numbers .now) 25) (rowAt (s .args .numbers .now) 30) ≡ true = sym (a2 .settings-here .ensures) ∙ not-false _ (t2 .if2 .left) in
+    let e2 : settingsSound (rowAt (s .args .numbers .now) limitsPlace) (rowAt (s .args .numbers .now) cornersPlace) (rowAt (s .args .numbers .now) scalePlace) (rowAt (s .args .numbers .now) windowPlace) ≡ true = sym (a2 .settings-here .ensures) ∙ not-false _ (t2 .if2 .left) in
     let a3 : tie.After-carriage-here = search in
     let t3 : tie.Else3 = search in
-    let e3 : carriageSound (settingsAt (s .args .numbers .now)) (rowAt (s .args .numbers .now) 35) (rowAt (s .args .numbers .now) 40) (rowAt (s .args .numbers .now) 45) (rowAt (s .args .numbers .now) 50) (rowAt (s .args .numbers .now) 55) ≡ true = sym (a3 .carriage-here .ensures) ∙ not-false _ (t3 .if3 .left) in
+    let e3 : carriageSound (settingsAt (s .args .numbers .now)) (rowAt (s .args .numbers .now) positionPlace) (rowAt (s .args .numbers .now) penPlace) (rowAt (s .args .numbers .now) polygonPlace) (rowAt (s .args .numbers .now) firstPlace) (rowAt (s .args .numbers .now) savedPlace) ≡ true = sym (a3 .carriage-here .ensures) ∙ not-false _ (t3 .if3 .left) in
     let a4 : tie.After-known-here = search in
     let t4 : tie.Else4 = search in
-    let e4 : knownSound (rowAt (s .args .numbers .now) 0) (rowAt (s .args .numbers .now) 45) ≡ true = sym (a4 .known-here .ensures) ∙ not-false _ (t4 .if4 .left) in
+    let e4 : knownSound (rowAt (s .args .numbers .now) 0) (rowAt (s .args .numbers .now) polygonPlace) ≡ true = sym (a4 .known-here .ensures) ∙ not-false _ (t4 .if4 .left) in
     let a5 : tie.After-work-here = search in
     let t5 : tie.Else5 = search in
-    let e5 : workSound (rowAt (s .args .numbers .now) 60) (rowAt (s .args .numbers .now) 65) (rowAt (s .args .numbers .now) 70) ≡ true = sym (a5 .work-here .ensures) ∙ not-false _ (t5 .if5 .left) in
+    let e5 : workSound (rowAt (s .args .numbers .now) workPlace) (rowAt (s .args .numbers .now) acrossPlace) (rowAt (s .args .numbers .now) alongPlace) ≡ true = sym (a5 .work-here .ensures) ∙ not-false _ (t5 .if5 .left) in
     let a6 : tie.After-inked-here = search in
     let t6 : tie.Else6 = search in
-    let e6 : inkedSound (rowAt (s .args .numbers .now) 40) (rowAt (s .args .numbers .now) 60) ≡ true = sym (a6 .inked-here .ensures) ∙ not-false _ (t6 .if6 .left) in
+    let e6 : inkedSound (rowAt (s .args .numbers .now) penPlace) (rowAt (s .args .numbers .now) workPlace) ≡ true = sym (a6 .inked-here .ensures) ∙ not-false _ (t6 .if6 .left) in
     rw (e1, e2, e3, e4, e5, e6) (c .edges-here .ensures)
 
 pub sound-spec : {M : Type 1} → statement M

@@ -14,22 +14,18 @@ use Rattle.vutaroi.proofs.draw_in.Tie as tie
 abbrev start : tie.After-load → tie.Start
 start l = l .before .before
 
--- the machine that the list holds
-usable : (l : tie.After-load) → Usable (l .load .result .state)
-usable l = subst Usable (sym (l .load .ensures)) (start l .pre .0 .usable)
-
 worked : (w : tie.After-draw) → w .draw .result ≡ workedOf (loadedOf (start (w .before) .args .numbers .now))
-worked w = w .draw .ensures .0 ∙ ap workedOf (w .before .load .ensures)
+worked w = w .draw .ensures .0 ∙ ap workedOf (w .before .load .ensures .0)
 
 worked-usable : (w : tie.After-draw) → Usable (w .draw .result .machine .state)
 unfolding workedOf
 worked-usable w = subst (λ (r : Worked). Usable (r .machine .state)) (sym (worked w)) (usable-draw (start (w .before) .pre .0 .usable))
 
 load-requires : tie.Need-load-requires
-load-requires c κs = let s : tie.Start = search in s .pre .0 .long
+load-requires c κs = let s : tie.Start = search in s .pre .0
 
 draw-requires : tie.Need-draw-requires
-draw-requires c κs = usable c
+draw-requires c κs = c .load .ensures .1
 
 save-requires : tie.Need-save-requires
 save-requires c κs =

@@ -19,10 +19,6 @@ use Rattle.vutaroi.proofs.feed_in.Tie as tie
 abbrev start : tie.After-load → tie.Start
 start l = l .before .before .before .before
 
--- the machine that the list holds
-usable : (l : tie.After-load) → Usable (l .load .result .state)
-usable l = subst Usable (sym (l .load .ensures)) (start l .pre .0 .usable)
-
 abbrev load : tie.After-gather → tie.After-load
 load g = g .before .before
 
@@ -31,7 +27,7 @@ abbrev fed : tie.Start → State → Feed
 fed s m = feedOf m (s .args .bytes .now) (length (s .args .records .now) / 5)
 
 gathered : (g : tie.After-gather) → let s = start (load g) in g .gather .result ≡ gatheredOf (fed s (loadedOf (s .args .numbers .now)))
-gathered g = let s = start (load g) in g .gather .ensures .0 ∙ ap (λ (m : State). gatheredOf (fed s m)) (load g .load .ensures)
+gathered g = let s = start (load g) in g .gather .ensures .0 ∙ ap (λ (m : State). gatheredOf (fed s m)) (load g .load .ensures .0)
 
 fed-usable : (g : tie.After-gather) → Usable (g .gather .result .machine .state)
 fed-usable g =
@@ -40,10 +36,10 @@ fed-usable g =
     subst (λ (r : Gathered). Usable (r .machine .state)) (sym (gathered g)) usable
 
 load-requires : tie.Need-load-requires
-load-requires c κs = let s : tie.Start = search in s .pre .0 .long
+load-requires c κs = let s : tie.Start = search in s .pre .0
 
 gather-requires : tie.Need-gather-requires
-gather-requires c κs = let l : tie.After-load = search in usable l
+gather-requires c κs = let l : tie.After-load = search in l .load .ensures .1
 
 save-requires : tie.Need-save-requires
 save-requires c κs =
@@ -75,7 +71,7 @@ returns c =
       (
         v .save .ensures ∙ ap (λ (r : Gathered). savedOf (r .machine .state)) (gathered g),
         (
-          g .gather .ensures .1 ∙ ap (λ (m : State). laidNumbers (fed s m .strokes) (s .args .records .now)) (l .load .ensures),
+          g .gather .ensures .1 ∙ ap (λ (m : State). laidNumbers (fed s m .strokes) (s .args .records .now)) (l .load .ensures .0),
           p .put-counts .ensures ∙ ap (λ (r : Gathered). over (s .args .answer .now) 0 (r .at ∷ r .stored ∷ [])) (gathered g),
         ),
       ),

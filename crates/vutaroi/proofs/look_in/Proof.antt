@@ -1,10 +1,9 @@
 -- The proof of `look_in`.
 use borrow.Author.Needs.{needs}
-use mathlib.Core.Path.{sym, ap, _∙_, subst}
+use mathlib.Core.Path.{ap, _∙_}
 use Rattle.rows.specs.declared.Row.{Row}
 use Rattle.rows.specs.Rows.{withRow, over}
 use Rattle.hpgl.specs.Machine.{lookAt}
-use Rattle.hpgl.specs.Valid.{Usable}
 use Rattle.vutaroi.specs.Calls.{lookRow, lookNumbers}
 use Rattle.vutaroi.proofs.look_in.Statement.{statement}
 use Rattle.vutaroi.proofs.look_in.Tie as tie
@@ -12,15 +11,11 @@ use Rattle.vutaroi.proofs.look_in.Tie as tie
 abbrev start : tie.After-load → tie.Start
 start l = l .before
 
--- the machine that the list holds
-usable : (l : tie.After-load) → Usable (l .load .result .state)
-usable l = subst Usable (sym (l .load .ensures)) (start l .pre .0 .usable)
-
 load-requires : tie.Need-load-requires
-load-requires c κs = let s : tie.Start = search in s .pre .0 .long
+load-requires c κs = let s : tie.Start = search in s .pre .0
 
 look-requires : tie.Need-look-requires
-look-requires c κs = usable c
+look-requires c κs = c .load .ensures .1
 
 look-row-requires : tie.Need-look-row-requires
 look-row-requires c κs = search needs
@@ -39,7 +34,7 @@ returns c =
     let r : tie.After-look-row = search in
     let p : tie.After-put-row = search in
     let seen = start l .args .seen .now in
-    p .put-row .ensures ∙ ap (λ (row : Row). withRow row 0 seen) (r .look-row .ensures ∙ ap lookRow (k .look .ensures ∙ ap lookAt (l .load .ensures)))
+    p .put-row .ensures ∙ ap (λ (row : Row). withRow row 0 seen) (r .look-row .ensures ∙ ap lookRow (k .look .ensures ∙ ap lookAt (l .load .ensures .0)))
 
 pub look-in-spec : {M : Type 1} → statement M
 look-in-spec =

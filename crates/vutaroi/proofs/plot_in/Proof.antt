@@ -19,10 +19,6 @@ use Rattle.vutaroi.proofs.plot_in.Tie as tie
 abbrev start : tie.After-load → tie.Start
 start l = l .before .before .before .before
 
--- the machine that the list holds
-usable : (l : tie.After-load) → Usable (l .load .result .state)
-usable l = subst Usable (sym (l .load .ensures)) (start l .pre .0 .usable)
-
 abbrev load : tie.After-plot → tie.After-load
 load g = g .before .before
 
@@ -31,7 +27,7 @@ abbrev answer : tie.Start → State → Plot
 answer s m = plotFrom m (s .args .bytes .now) 0 (length (s .args .records .now) / 5)
 
 plotted : (g : tie.After-plot) → let s = start (load g) in g .plot .result ≡ plottedOf (answer s (loadedOf (s .args .numbers .now)))
-plotted g = let s = start (load g) in g .plot .ensures .0 ∙ ap (λ (m : State). plottedOf (answer s m)) (load g .load .ensures)
+plotted g = let s = start (load g) in g .plot .ensures .0 ∙ ap (λ (m : State). plottedOf (answer s m)) (load g .load .ensures .0)
 
 plotted-usable : (g : tie.After-plot) → Usable (g .plot .result .machine .state)
 plotted-usable g =
@@ -40,10 +36,10 @@ plotted-usable g =
     subst (λ (r : Gathered). Usable (r .machine .state)) (sym (plotted g)) usable
 
 load-requires : tie.Need-load-requires
-load-requires c κs = let s : tie.Start = search in s .pre .0 .long
+load-requires c κs = let s : tie.Start = search in s .pre .0
 
 plot-requires : tie.Need-plot-requires
-plot-requires c κs = let l : tie.After-load = search in usable l
+plot-requires c κs = let l : tie.After-load = search in l .load .ensures .1
 
 save-requires : tie.Need-save-requires
 save-requires c κs =
@@ -75,7 +71,7 @@ returns c =
       (
         v .save .ensures ∙ ap (λ (r : Gathered). savedOf (r .machine .state)) (plotted g),
         (
-          g .plot .ensures .1 ∙ ap (λ (m : State). laidMarks (answer s m .marks) (s .args .records .now)) (l .load .ensures),
+          g .plot .ensures .1 ∙ ap (λ (m : State). laidMarks (answer s m .marks) (s .args .records .now)) (l .load .ensures .0),
           p .put-counts .ensures ∙ ap (λ (r : Gathered). over (s .args .answer .now) 0 (r .at ∷ r .stored ∷ [])) (plotted g),
         ),
       ),

@@ -13,12 +13,8 @@ use Rattle.vutaroi.proofs.take_in.Tie as tie
 abbrev start : tie.After-load → tie.Start
 start l = l .before .before
 
--- the machine that the list holds
-usable : (l : tie.After-load) → Usable (l .load .result .state)
-usable l = subst Usable (sym (l .load .ensures)) (start l .pre .usable)
-
 taken : (t : tie.After-take) → let s = start (t .before) in t .take .result ≡ takenOf (loadedOf (s .args .numbers .now)) (s .args .byte)
-taken t = let s = start (t .before) in t .take .ensures ∙ ap (λ (m : State). takenOf m (s .args .byte)) (t .before .load .ensures)
+taken t = let s = start (t .before) in t .take .ensures ∙ ap (λ (m : State). takenOf m (s .args .byte)) (t .before .load .ensures .0)
 
 taken-usable : (t : tie.After-take) → Usable (t .take .result .machine .state)
 unfolding takenOf
@@ -27,10 +23,10 @@ taken-usable t =
     subst (λ (r : Taken). Usable (r .machine .state)) (sym (taken t)) (usable-take (s .args .byte) (s .pre .usable))
 
 load-requires : tie.Need-load-requires
-load-requires c κs = let s : tie.Start = search in s .pre .long
+load-requires c κs = let s : tie.Start = search in s .pre
 
 take-requires : tie.Need-take-requires
-take-requires c κs = usable c
+take-requires c κs = c .load .ensures .1
 
 save-requires : tie.Need-save-requires
 save-requires c κs =

@@ -13,8 +13,9 @@ use Rattle.seal.specs.Light.{Light}
 use Rattle.hpgl.specs.Machine.{drawState, drawAnswer}
 use Rattle.hpgl.specs.ValidKept.{usable-draw}
 use Rattle.saved.specs.Saved.{savedOf, loadedOf}
-use Rattle.vutaroi.specs.Ready.{listOf, machineIn, readyOf, Holds}
-use Rattle.vutaroi.specs.ReadyLaws.{Goes, ready-goes, goes-holds, usable-light, part-rest}
+use Rattle.machine.specs.Loadable.{Loadable}
+use Rattle.vutaroi.specs.Ready.{listOf, machineIn, readyOf}
+use Rattle.vutaroi.specs.ReadyLaws.{Goes, ready-goes, goes-loadable, usable-light, part-rest}
 use Rattle.vutaroi.specs.Calls.{drawnKind, drawnNumbers, drawCall}
 use Rattle.vutaroi.proofs.vutaroi_draw.Statement.{statement}
 use Rattle.vutaroi.proofs.vutaroi_draw.Tie as tie
@@ -45,14 +46,14 @@ draw-in-requires : tie.Need-draw-in-requires
 draw-in-requires c κs =
     let s : tie.Start = search in
     let t : tie.Then1 = search in
-    (subst Holds (sym (part-to-end (s .args .state .now) 5)) (goes-holds (goes t)), goes t .room)
+    (subst Loadable (sym (part-to-end (s .args .state .now) 5)) (goes-loadable (goes t)), goes t .room)
 
 seal-requires : tie.Need-seal-requires
 seal-requires c κs =
     let s : tie.Start = search in
     let t : tie.Then1 = search in
     let k : tie.After-draw-in = search in
-    subst Light (sym (part-rest (s .args .state .now) _ (omega (arith, goes t .long)) ∙ left k)) (usable-light (usable-draw (goes-holds (goes t) .usable)))
+    subst Light (sym (part-rest (s .args .state .now) _ (omega (arith, goes t .long)) ∙ left k)) (usable-light (usable-draw (goes-loadable (goes t) .usable)))
 
 same-length : tie.Need-same-length
 same-length c = search needs

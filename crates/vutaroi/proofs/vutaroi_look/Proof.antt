@@ -10,8 +10,9 @@ use lib.ListN.{length}
 use Rattle.rows.specs.Rows.{over}
 use Rattle.hpgl.specs.Machine.{lookAt}
 use Rattle.saved.specs.Saved.{loadedOf}
-use Rattle.vutaroi.specs.Ready.{machineIn, readyOf, Holds}
-use Rattle.vutaroi.specs.ReadyLaws.{Goes, ready-goes, goes-holds}
+use Rattle.machine.specs.Loadable.{Loadable}
+use Rattle.vutaroi.specs.Ready.{machineIn, readyOf}
+use Rattle.vutaroi.specs.ReadyLaws.{Goes, ready-goes, goes-loadable}
 use Rattle.vutaroi.specs.Calls.{lookNumbers, lookCall}
 use Rattle.vutaroi.proofs.vutaroi_look.Statement.{statement}
 use Rattle.vutaroi.proofs.vutaroi_look.Tie as tie
@@ -38,7 +39,7 @@ look-in-requires : tie.Need-look-in-requires
 look-in-requires c κs =
     let s : tie.Start = search in
     let t : tie.Then1 = search in
-    (subst Holds (sym (part-to-end (s .args .state .now) 5)) (goes-holds (goes t)), goes t .room)
+    (subst Loadable (sym (part-to-end (s .args .state .now) 5)) (goes-loadable (goes t)), goes t .room)
 
 same-length : tie.Need-same-length
 same-length c = search needs

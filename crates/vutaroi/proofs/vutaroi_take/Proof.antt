@@ -12,8 +12,9 @@ use Rattle.seal.specs.Light.{Light}
 use Rattle.hpgl.specs.Machine.{takeState, takeNumber}
 use Rattle.hpgl.specs.ValidKept.{usable-take}
 use Rattle.saved.specs.Saved.{savedOf, loadedOf}
-use Rattle.vutaroi.specs.Ready.{listOf, machineIn, readyOf, Holds}
-use Rattle.vutaroi.specs.ReadyLaws.{Goes, ready-goes, goes-holds, usable-light, part-rest}
+use Rattle.machine.specs.Loadable.{Loadable}
+use Rattle.vutaroi.specs.Ready.{listOf, machineIn, readyOf}
+use Rattle.vutaroi.specs.ReadyLaws.{Goes, ready-goes, goes-loadable, usable-light, part-rest}
 use Rattle.vutaroi.specs.Calls.{takeCall}
 use Rattle.vutaroi.proofs.vutaroi_take.Statement.{statement}
 use Rattle.vutaroi.proofs.vutaroi_take.Tie as tie
@@ -44,14 +45,14 @@ take-in-requires : tie.Need-take-in-requires
 take-in-requires c κs =
     let s : tie.Start = search in
     let t : tie.Then1 = search in
-    subst Holds (sym (part-to-end (s .args .state .now) 5)) (goes-holds (goes t))
+    subst Loadable (sym (part-to-end (s .args .state .now) 5)) (goes-loadable (goes t))
 
 seal-requires : tie.Need-seal-requires
 seal-requires c κs =
     let s : tie.Start = search in
     let t : tie.Then1 = search in
     let k : tie.After-take-in = search in
-    subst Light (sym (part-rest (s .args .state .now) _ (omega (arith, goes t .long)) ∙ left k)) (usable-light (usable-take (s .args .byte) (goes-holds (goes t) .usable)))
+    subst Light (sym (part-rest (s .args .state .now) _ (omega (arith, goes t .long)) ∙ left k)) (usable-light (usable-take (s .args .byte) (goes-loadable (goes t) .usable)))
 
 same-length : tie.Need-same-length
 same-length c = search needs

@@ -6,6 +6,7 @@ use mathlib.Core.List.{List}
 use lib.IntN.{ℤ}
 use Rattle.rows.specs.declared.Row.{Row}
 use Rattle.rows.specs.Rows.{withRow, over}
+use Rattle.saved.specs.Places.{positionPlace, penPlace, polygonPlace, firstPlace, savedPlace}
 use Rattle.saved.specs.Saved.{carriageNumbers}
 use Rattle.saving.proofs.carriage.put_carriage.Statement.{statement}
 use Rattle.saving.proofs.carriage.put_carriage.Tie as tie
@@ -67,14 +68,14 @@ returns c =
     let p : tie.After-put-row = q .before .before .before .before in
     let s = start p in
     u .put-row5 .ensures
-    ∙ ap₂ (λ (row : Row) (zs : List ℤ). withRow row 55 zs) (u .before .position-row3 .ensures)
+    ∙ ap₂ (λ (row : Row) (zs : List ℤ). withRow row savedPlace zs) (u .before .position-row3 .ensures)
     (t .put-row4 .ensures
-    ∙ ap₂ (λ (row : Row) (zs : List ℤ). withRow row 50 zs) (t .before .position-row2 .ensures)
+    ∙ ap₂ (λ (row : Row) (zs : List ℤ). withRow row firstPlace zs) (t .before .position-row2 .ensures)
     (r .put-row3 .ensures
-    ∙ ap₂ (λ (row : Row) (zs : List ℤ). withRow row 45 zs) (r .before .polygon-row .ensures)
+    ∙ ap₂ (λ (row : Row) (zs : List ℤ). withRow row polygonPlace zs) (r .before .polygon-row .ensures)
     (q .put-row2 .ensures
-    ∙ ap₂ (λ (row : Row) (zs : List ℤ). withRow row 40 zs) (q .before .pen-row .ensures)
-    (p .put-row .ensures ∙ ap (λ (row : Row). withRow row 35 (s .args .numbers .now)) (p .before .position-row .ensures)))))
+    ∙ ap₂ (λ (row : Row) (zs : List ℤ). withRow row penPlace zs) (q .before .pen-row .ensures)
+    (p .put-row .ensures ∙ ap (λ (row : Row). withRow row positionPlace (s .args .numbers .now)) (p .before .position-row .ensures)))))
 
 pub put-carriage-spec : {M : Type 1} → statement M
 put-carriage-spec =

@@ -9,6 +9,7 @@ use lib.ListN.{length, set, length-set}
 use Rattle.rows.specs.Rows.{rowAt, over}
 use Rattle.rows.specs.RowLaws.{over-all}
 use Rattle.hpgl.specs.declared.Edge.{Edge}
+use Rattle.saved.specs.Places.{edgesPlace}
 use Rattle.saved.specs.Saved.{edgeOf, edgesFrom, storeAt}
 use Rattle.saving.proofs.edges.edges_at.Statement.{statement}
 use Rattle.saving.proofs.edges.edges_at.Tie as tie
@@ -20,22 +21,22 @@ from-length zs i (suc n) = ap suc (from-length zs (i + 5) n)
 
 module _ (zs : List ℤ) (edges : List Edge) (i : ℕ) where
   -- an edge is read, and those after it are left
-  one-more : {e : Edge} → i < 112 → e ≡ edgeOf (rowAt zs (75 + i * 5)) →
-      over (set edges i e) (i + 1) (edgesFrom zs (75 + (i + 1) * 5) (112 - (i + 1))) ≡ over edges i (edgesFrom zs (75 + i * 5) (112 - i))
+  one-more : {e : Edge} → i < 112 → e ≡ edgeOf (rowAt zs (edgesPlace + i * 5)) →
+      over (set edges i e) (i + 1) (edgesFrom zs (edgesPlace + (i + 1) * 5) (112 - (i + 1))) ≡ over edges i (edgesFrom zs (edgesPlace + i * 5) (112 - i))
   unfolding over edgesFrom
   one-more h e =
-      let at : 75 + (i + 1) * 5 ≡ 75 + i * 5 + 5 = omega arith in
+      let at : edgesPlace + (i + 1) * 5 ≡ edgesPlace + i * 5 + 5 = omega arith in
       let less : 112 - i ≡ suc (112 - (i + 1)) = omega arith in
-      (λ j. over (set edges i (e j)) (i + 1) (edgesFrom zs (at j) (112 - (i + 1)))) ∙ sym (ap (λ (n : ℕ). over edges i (edgesFrom zs (75 + i * 5) n)) less)
+      (λ j. over (set edges i (e j)) (i + 1) (edgesFrom zs (at j) (112 - (i + 1)))) ∙ sym (ap (λ (n : ℕ). over edges i (edgesFrom zs (edgesPlace + i * 5) n)) less)
 
   -- no edge is left
-  all : 112 ≤ i → edges ≡ over edges i (edgesFrom zs (75 + i * 5) (112 - i))
+  all : 112 ≤ i → edges ≡ over edges i (edgesFrom zs (edgesPlace + i * 5) (112 - i))
   unfolding over edgesFrom
-  all h = let none : 0 ≡ 112 - i = omega arith in ap (λ (n : ℕ). over edges i (edgesFrom zs (75 + i * 5) n)) none
+  all h = let none : 0 ≡ 112 - i = omega arith in ap (λ (n : ℕ). over edges i (edgesFrom zs (edgesPlace + i * 5) n)) none
 
 abbrev Inv-loop : tie.InvT-loop
 Inv-loop numbers edges₀ i₀ edges i =
-    (i ≤ 112) × ((length edges ≡ 112) × (over edges i (edgesFrom numbers (75 + i * 5) (112 - i)) ≡ edgesFrom numbers 75 112))
+    (i ≤ 112) × ((length edges ≡ 112) × (over edges i (edgesFrom numbers (edgesPlace + i * 5) (112 - i)) ≡ edgesFrom numbers edgesPlace 112))
 
 abbrev μ-loop : tie.MeasureT-loop
 μ-loop numbers edges₀ i₀ edges i = 112 - i
@@ -43,7 +44,7 @@ abbrev μ-loop : tie.MeasureT-loop
 loop-holds : tie.Need-loop-holds Inv-loop μ-loop
 loop-holds c =
     let zs = c .args .numbers .now in
-    (omega arith, (refl, over-all _ (edgesFrom zs 75 112) (sym (from-length zs 75 112))))
+    (omega arith, (refl, over-all _ (edgesFrom zs edgesPlace 112) (sym (from-length zs edgesPlace 112))))
 
 mul-row-at : tie.Need-mul-row-at Inv-loop μ-loop
 mul-row-at c = search needs

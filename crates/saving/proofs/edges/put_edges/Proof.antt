@@ -11,29 +11,30 @@ use lib.Seq.{drop-cons}
 use Rattle.rows.specs.Rows.{over, withRow}
 use Rattle.rows.specs.RowLaws.{over-row}
 use Rattle.hpgl.specs.declared.Edge.{Edge}
+use Rattle.saved.specs.Places.{edgesPlace}
 use Rattle.saved.specs.Saved.{edgeRow, edgesNumbers}
 use Rattle.saving.proofs.edges.put_edges.Statement.{statement}
 use Rattle.saving.proofs.edges.put_edges.Tie as tie
 
 module _ (es : List Edge) (i : ℕ) (numbers : List ℤ) where
   -- a row is stored, and the edges after it are left
-  one-more : {next : List ℤ} (d : Edge) → i < length es → next ≡ withRow (edgeRow (getD es i d)) (75 + i * 5) numbers →
-      over next (75 + (i + 1) * 5) (edgesNumbers (drop (i + 1) es)) ≡ over numbers (75 + i * 5) (edgesNumbers (drop i es))
+  one-more : {next : List ℤ} (d : Edge) → i < length es → next ≡ withRow (edgeRow (getD es i d)) (edgesPlace + i * 5) numbers →
+      over next (edgesPlace + (i + 1) * 5) (edgesNumbers (drop (i + 1) es)) ≡ over numbers (edgesPlace + i * 5) (edgesNumbers (drop i es))
   unfolding edgesNumbers
   one-more d h e =
-      let at : 75 + (i + 1) * 5 ≡ 75 + i * 5 + 5 = omega arith in
+      let at : edgesPlace + (i + 1) * 5 ≡ edgesPlace + i * 5 + 5 = omega arith in
       (λ j. over (e j) (at j) (edgesNumbers (drop (add-one i j) es)))
-      ∙ sym (over-row (edgeRow (getD es i d)) numbers (75 + i * 5) (edgesNumbers (drop (suc i) es)))
-      ∙ sym (ap (λ (l : List Edge). over numbers (75 + i * 5) (edgesNumbers l)) (drop-cons es i d h))
+      ∙ sym (over-row (edgeRow (getD es i d)) numbers (edgesPlace + i * 5) (edgesNumbers (drop (suc i) es)))
+      ∙ sym (ap (λ (l : List Edge). over numbers (edgesPlace + i * 5) (edgesNumbers l)) (drop-cons es i d h))
 
   -- no edge is left
-  all : {target : List ℤ} → length es ≤ i → over numbers (75 + i * 5) (edgesNumbers (drop i es)) ≡ target → numbers ≡ target
+  all : {target : List ℤ} → length es ≤ i → over numbers (edgesPlace + i * 5) (edgesNumbers (drop i es)) ≡ target → numbers ≡ target
   unfolding over edgesNumbers
-  all h e = ap (λ (l : List Edge). over numbers (75 + i * 5) (edgesNumbers l)) (sym (drop-of-length-le es h)) ∙ e
+  all h e = ap (λ (l : List Edge). over numbers (edgesPlace + i * 5) (edgesNumbers l)) (sym (drop-of-length-le es h)) ∙ e
 
 abbrev Inv-loop : tie.InvT-loop
 Inv-loop numbers₀ s i₀ numbers i =
-    (i ≤ 112) × ((length numbers ≡ length numbers₀) × (over numbers (75 + i * 5) (edgesNumbers (drop i (s .edges))) ≡ over numbers₀ 75 (edgesNumbers (s .edges))))
+    (i ≤ 112) × ((length numbers ≡ length numbers₀) × (over numbers (edgesPlace + i * 5) (edgesNumbers (drop i (s .edges))) ≡ over numbers₀ edgesPlace (edgesNumbers (s .edges))))
 
 abbrev μ-loop : tie.MeasureT-loop
 μ-loop numbers₀ s i₀ numbers i = 112 - i
@@ -77,7 +78,7 @@ loop-again c =
     let r : tie.After-edge-row Inv-loop μ-loop = search in
     let p : tie.After-put-row Inv-loop μ-loop = search in
     let more = t .loop-test .taken in
-    let stored = p .put-row .ensures ∙ ap (λ row. withRow row (75 + l .loop .i * 5) (l .loop .numbers)) (r .edge-row .ensures) in
+    let stored = p .put-row .ensures ∙ ap (λ row. withRow row (edgesPlace + l .loop .i * 5) (l .loop .numbers)) (r .edge-row .ensures) in
     (omega (arith, more), (p .put-row .kept .0 ∙ l .loop .inv .1 .0, one-more (s .args .t1 .edges) (l .loop .i) (l .loop .numbers) _ (omega (arith, more, s .pre .0)) stored ∙ l .loop .inv .1 .1))
 
 same-length : tie.Need-same-length Inv-loop μ-loop

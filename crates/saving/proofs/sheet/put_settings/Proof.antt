@@ -6,6 +6,7 @@ use mathlib.Core.List.{List}
 use lib.IntN.{ℤ}
 use Rattle.rows.specs.declared.Row.{Row}
 use Rattle.rows.specs.Rows.{withRow, over}
+use Rattle.saved.specs.Places.{limitsPlace, cornersPlace, scalePlace, windowPlace}
 use Rattle.saved.specs.Saved.{settingsNumbers}
 use Rattle.saving.proofs.sheet.put_settings.Statement.{statement}
 use Rattle.saving.proofs.sheet.put_settings.Tie as tie
@@ -54,12 +55,12 @@ returns c =
     let p : tie.After-put-row = q .before .before .before .before in
     let s = start p in
     t .put-row4 .ensures
-    ∙ ap₂ (λ (row : Row) (zs : List ℤ). withRow row 30 zs) (t .before .window-row .ensures)
+    ∙ ap₂ (λ (row : Row) (zs : List ℤ). withRow row windowPlace zs) (t .before .window-row .ensures)
     (r .put-row3 .ensures
-    ∙ ap₂ (λ (row : Row) (zs : List ℤ). withRow row 25 zs) (r .before .scale-row .ensures)
+    ∙ ap₂ (λ (row : Row) (zs : List ℤ). withRow row scalePlace zs) (r .before .scale-row .ensures)
     (q .put-row2 .ensures
-    ∙ ap₂ (λ (row : Row) (zs : List ℤ). withRow row 20 zs) (q .before .corners-row .ensures)
-    (p .put-row .ensures ∙ ap (λ (row : Row). withRow row 15 (s .args .numbers .now)) (p .before .limits-row .ensures))))
+    ∙ ap₂ (λ (row : Row) (zs : List ℤ). withRow row cornersPlace zs) (q .before .corners-row .ensures)
+    (p .put-row .ensures ∙ ap (λ (row : Row). withRow row limitsPlace (s .args .numbers .now)) (p .before .limits-row .ensures))))
 
 pub put-settings-spec : {M : Type 1} → statement M
 put-settings-spec =

@@ -5,6 +5,7 @@ use mathlib.Core.List.{List}
 use lib.IntN.{ℤ}
 use Rattle.rows.specs.declared.Row.{Row}
 use Rattle.rows.specs.Rows.{withRow, over}
+use Rattle.saved.specs.Places.{workPlace, acrossPlace, alongPlace}
 use Rattle.saved.specs.Saved.{workNumbers}
 use Rattle.saving.proofs.work.put_work.Statement.{statement}
 use Rattle.saving.proofs.work.put_work.Tie as tie
@@ -41,10 +42,10 @@ returns c =
     let p : tie.After-put-row = q .before .before .before .before in
     let s = start p in
     r .put-row3 .ensures
-    ∙ ap₂ (λ (row : Row) (zs : List ℤ). withRow row 70 zs) (r .before .work-along .ensures)
+    ∙ ap₂ (λ (row : Row) (zs : List ℤ). withRow row alongPlace zs) (r .before .work-along .ensures)
     (q .put-row2 .ensures
-    ∙ ap₂ (λ (row : Row) (zs : List ℤ). withRow row 65 zs) (q .before .work-across .ensures)
-    (p .put-row .ensures ∙ ap (λ (row : Row). withRow row 60 (s .args .numbers .now)) (p .before .work-row .ensures)))
+    ∙ ap₂ (λ (row : Row) (zs : List ℤ). withRow row acrossPlace zs) (q .before .work-across .ensures)
+    (p .put-row .ensures ∙ ap (λ (row : Row). withRow row workPlace (s .args .numbers .now)) (p .before .work-row .ensures)))
 
 pub put-work-spec : {M : Type 1} → statement M
 put-work-spec =
