@@ -37,6 +37,10 @@ mostWay = 2 * mostNumber * 100000
 abbrev pub mostAngle : ℕ
 mostAngle = 1200
 
+-- a swept angle, in tenths of a degree, either way
+abbrev pub mostSweep : ℕ
+mostSweep = 3600
+
 -- the table of a turn
 pub record UnitRows (r : Rows) : Type 0 where
   pub xx : Bd (r .xx) 1

@@ -213,7 +213,7 @@ mono c t u h l =
 squeeze : {lo z hi : ℤ} {N : ℕ} → lo ≤ᶻ z → z ≤ᶻ hi → Bd lo N → Bd hi N → Bd z N
 squeeze {lo} {z} {hi} l u h k = record { bd = omega (arith, ord, abs z, abs lo, abs hi, h .bd, k .bd) }
 
-centre-range : (c : Centre) (t r : ℤ) (N : ℕ) → pos 0 <ᶻ c .width → natAbs t ≤ 100000 * natAbs r →
+pub centre-range : (c : Centre) (t r : ℤ) (N : ℕ) → pos 0 <ᶻ c .width → natAbs t ≤ 100000 * natAbs r →
     Bd (fromCentre c (r *ℤ pos 100000)) N → Bd (fromCentre c (negℤ r *ℤ pos 100000)) N → Bd (fromCentre c t) N
 centre-range c t r N h l p m = go (between (t *ℤ D) (r *ℤ pos 100000 *ℤ D) (omega (arith, abs-mul t D, abs-mul (r *ℤ pos 100000) D ∙ ap (λ (k : ℕ). k * natAbs D) (abs-mul r (pos 100000)), mul-le-mul-left (natAbs D) l)))
   where

@@ -2,16 +2,19 @@
 use mathlib.Core.Path.{_≡_, refl}
 use mathlib.Core.Bool.{true, false}
 use Prim.Native.Nat.{ℕ}
-use lib.IntN.{pos, negsuc}
+use lib.IntN.{ℤ, pos, negsuc}
 use Rattle.exact.specs.Whole.{_<?_}
 use Rattle.exact.specs.Divide.{nearestDiv}
 use Rattle.clip.specs.declared.Point.{Point}
 use Rattle.sines.specs.Table.{sines, sineAt}
 use Rattle.sines.specs.Angle.{sineIn, restOf, sineOf, cosineOf}
 use Rattle.plane.specs.declared.position.Axis.{Axis}
+use Rattle.plane.specs.declared.circle.Way.{Way}
 use Rattle.plane.specs.Turn.{turns, turnOf, turnedOf, lesserOf, greaterOf, orderedOf, turnedBoxOf}
 use Rattle.plane.specs.Position.{axisOf, absoluteOf, relativeOf, locationOf}
-use Rattle.plane.specs.Circle.{chordsOf, angleOf, rotatedOf, vertexOf, vertexPointOf}
+use Rattle.plane.specs.declared.position.ExactPosition.{ExactPosition}
+use Rattle.plane.specs.Circle.{chordsOf, angleOf, rotatedOf, vertexOf, vertexPointOf, splitOf, centreOf, fromCentre, pointFromCentre}
+use Rattle.plane.specs.Arc.{wayOf, partsOf, towards, bendOf, arcPoint}
 
 -- no scaling; P1 0, P2 1000 and SC from 0 to 3, and from 3 to 0
 abbrev plain : Axis
@@ -91,3 +94,30 @@ pub small-circle : (small 0 ≡ record { x = pos 1; y = pos 0 }) × (small 1 ≡
     (small 2 ≡ record { x = pos 0; y = pos 0 }) × (small 3 ≡ record { x = pos 0; y = pos 0 }) × (small 4 ≡ record { x = pos 1; y = pos 0 })
 unfolding axisOf absoluteOf vertexPointOf vertexOf angleOf chordsOf rotatedOf sineOf cosineOf restOf sineIn sineAt sines nearestDiv
 small-circle = (refl, refl, refl, refl, refl)
+
+-- ---- arcs
+
+-- PA100,0 and AA0,0,s,20: the vertices at whole chord angles, and the last at the sweep; the other way for a sweep below 0.
+abbrev about : ℤ → ℕ → Point
+about sweep i =
+    let p : ExactPosition = absoluteOf plain (pos 1000000) in
+    let q : ExactPosition = absoluteOf plain (pos 0) in
+    let w : Way = record { u = wayOf plain p q; v = wayOf plain q q } in
+    arcPoint (record { x = locationOf plain p; y = locationOf plain q }) (centreOf plain q) (centreOf plain q) w sweep 200 i
+
+pub fifty-degrees : (partsOf (pos 500) 200 ≡ 3) × (about (pos 500) 0 ≡ record { x = pos 100; y = pos 0 }) × (about (pos 500) 1 ≡ record { x = pos 94; y = pos 34 }) ×
+    (about (pos 500) 2 ≡ record { x = pos 77; y = pos 64 }) × (about (pos 500) 3 ≡ record { x = pos 64; y = pos 77 }) × (about (negsuc 499) 3 ≡ record { x = pos 64; y = negsuc 76 })
+unfolding axisOf absoluteOf locationOf wayOf partsOf towards bendOf arcPoint splitOf centreOf fromCentre pointFromCentre rotatedOf sineOf cosineOf restOf sineIn sineAt sines nearestDiv _<?_
+fifty-degrees = (refl, refl, refl, refl, refl, refl)
+
+-- A sweep that is a multiple of the chord angle has no chord more, and one below it has one.
+pub whole-parts : (partsOf (pos 600) 200 ≡ 3) × (partsOf (pos 30) 1200 ≡ 1) × (partsOf (negsuc 3599) 50 ≡ 72)
+unfolding partsOf
+whole-parts = (refl, refl, refl)
+
+-- P1 0, P2 20000 and SC0,1: a plotter unit is half a ten-thousandth, and a half of a way goes to the larger number, also below zero.
+pub half-ways : let a = axisOf true (pos 0) (pos 20000) (pos 0) (pos 10000) in
+    let q = absoluteOf a (pos 0) in
+    (wayOf a (record { base = pos 1; offset = pos 0 }) q ≡ pos 1) × (wayOf a (record { base = negsuc 0; offset = pos 0 }) q ≡ pos 0)
+unfolding axisOf absoluteOf wayOf nearestDiv
+half-ways = (refl, refl)
