@@ -160,7 +160,8 @@ pub fn run(machine: &mut impl Calls, program: &[Step]) -> (Vec<Event>, usize) {
     (events, count)
 }
 
-fn events_text(events: &[Event]) -> String {
+/// The events as they are written in `crates/vectors/stdout`.
+pub fn events_text(events: &[Event]) -> String {
     let mut text = String::new();
     for event in events {
         match event {

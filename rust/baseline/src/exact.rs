@@ -245,6 +245,7 @@ fn counts(name: &[u8; 2]) -> Option<&'static [usize]> {
         b"RO" | b"SP" | b"PM" => &[0, 1],
         b"CI" => &[1, 2],
         b"EA" | b"ER" => &[2],
+        b"AA" | b"AR" if cfg!(feature = "arcs") => &[3, 4],
         b"PU" | b"PD" | b"PA" | b"PR" => &[0],
         _ => return None,
     })
@@ -273,6 +274,11 @@ fn value(text: &[u8]) -> Option<i128> {
 /// A number in ten-thousandths, rounded.
 fn rounded(number: i128) -> i128 {
     Fraction::new(number, 10_000).round()
+}
+
+/// An angle in ten-thousandths of a degree as tenths of one, rounded.
+fn tenths(number: i128) -> i128 {
+    Fraction::new(number, 1_000).round()
 }
 
 /// The sine of any whole number of tenths from 0 on, scaled by 100,000.
@@ -591,6 +597,8 @@ impl Exact {
             b"EA" => return self.rectangle(self.absolute([numbers[0], numbers[1]])),
             b"ER" => return self.rectangle(self.relative([numbers[0], numbers[1]])),
             b"CI" => return self.circle(first, numbers.get(1).copied()),
+            b"AA" => return self.arc(self.absolute([numbers[0], numbers[1]]), &numbers[2..]),
+            b"AR" => return self.arc(self.relative([numbers[0], numbers[1]]), &numbers[2..]),
             _ => {}
         }
         Ok(())
@@ -667,7 +675,7 @@ impl Exact {
     }
 
     fn circle(&mut self, radius: i128, angle: Option<i128>) -> Result<(), u8> {
-        let angle = angle.map_or(50, |angle| Fraction::new(angle, 1_000).round());
+        let angle = angle.map_or(50, tenths);
         if !(5..=1_200).contains(&angle) {
             return Err(3);
         }
@@ -691,6 +699,54 @@ impl Exact {
             self.queue_line(two[0], two[1], true);
         }
         Ok(())
+    }
+
+    /// An arc around this exact centre; the swept angle and perhaps the chord angle follow.
+    fn arc(&mut self, centre: Spot, angles: &[i128]) -> Result<(), u8> {
+        let sweep = tenths(angles[0]);
+        let angle = angles.get(1).map_or(50, |&angle| tenths(angle));
+        if sweep == 0 || sweep.abs() > 3_600 || !(5..=1_200).contains(&angle) {
+            return Err(3);
+        }
+        let way = self.way_from(&centre);
+        if way.iter().any(|part| part.abs() > 327_680_000) {
+            return Err(3);
+        }
+        // Whole chord angles while they are short of the swept angle, and then that itself.
+        let whole = (1..).map(|k| k * angle).take_while(|&turn| turn < sweep.abs());
+        let turns = whole.chain([sweep.abs()]).map(|turn| turn * sweep.signum());
+        let mut vertices = vec![self.position];
+        vertices.extend(turns.map(|turn| self.way_turned(&centre, &way, turn)));
+        if !vertices.iter().all(reachable) {
+            return Err(6);
+        }
+        if self.down {
+            for two in vertices.windows(2) {
+                self.queue_line(two[0], two[1], true);
+            }
+        }
+        self.position = spot(&location(&vertices[vertices.len() - 1]));
+        Ok(())
+    }
+
+    /// The way from a centre to the exact position, in ten-thousandths of current units, rounded.
+    fn way_from(&self, centre: &Spot) -> Whole {
+        [0, 1].map(|axis| {
+            let apart = self.position[axis].plus(centre[axis].times(-1));
+            let unit = self.unit(axis);
+            Fraction::new(apart.over * unit.under, apart.under * unit.over).round()
+        })
+    }
+
+    /// The exact point a way from the centre, turned by tenths of a degree.
+    fn way_turned(&self, centre: &Spot, way: &Whole, turn: i128) -> Spot {
+        let turn = turn.rem_euclid(3_600);
+        let (cos, sin) = (sine(turn + 900), sine(turn));
+        let turned = [way[0] * cos - way[1] * sin, way[0] * sin + way[1] * cos];
+        [0, 1].map(|axis| {
+            let unit = self.unit(axis);
+            centre[axis].plus(Fraction::new(turned[axis] * unit.over, 100_000 * unit.under))
+        })
     }
 
     // ----- judging -----

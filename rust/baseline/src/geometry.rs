@@ -3,6 +3,8 @@
 //! Magnitudes: locations are within ±1,000,000, the products of the clip below 1e13, an
 //! offset times its span below 1.4e15. All of it fits i64 with room to spare.
 
+use crate::sines::{cosine, sine};
+
 /// A whole point, on the page or in unturned plotter units.
 #[derive(Clone, Copy, PartialEq, Eq, Debug, Default)]
 pub struct Point {
@@ -17,6 +19,12 @@ impl Point {
     #[inline]
     pub const fn new(x: i64, y: i64) -> Self {
         Point { x, y }
+    }
+
+    /// Whether it may be a location.
+    #[inline]
+    pub const fn in_range(&self) -> bool {
+        -REACH <= self.x && self.x <= REACH && -REACH <= self.y && self.y <= REACH
     }
 }
 
@@ -83,6 +91,13 @@ impl Scale {
     pub fn relative(&self, from: Axis, number: i64) -> Axis {
         self.axis(from.base, from.offset + number)
     }
+
+    /// The way between two exact positions in ten-thousandths of current units, rounded. The
+    /// bases differ in plotter units, of which each is `width / span` ten-thousandths.
+    pub fn way(&self, from: Axis, to: Axis) -> i64 {
+        let apart = (to.base - from.base) * self.width * self.span.signum();
+        round_div(apart, self.span.abs()) + to.offset - from.offset
+    }
 }
 
 /// A position on one axis: base, offset in ten-thousandths, and the location they give.
@@ -113,12 +128,14 @@ impl Axis {
     }
 }
 
-/// One axis of a circle, ready to give the locations of its vertices.
+/// One axis of a circle or an arc, ready to give the locations of its vertices.
 ///
 /// The position of a vertex is `base + (offset + radius * c / 100000) * span / width`. With
 /// `offset * span = q * width + m` it is `base + q` plus a fraction whose numerator,
-/// `m * 100000 + radius * span * c`, stays below 2.2e18: no need of more than i64.
-#[derive(Clone, Copy, PartialEq, Eq, Debug)]
+/// `m * 100000 + radius * span * c`, stays below 2.2e18 for a circle. An arc has the radius 1
+/// and as `c` a way turned, at most 32768 units by sine and cosine each, which add up to less
+/// than 141,500: below 3.1e18, and rounding doubles it. No need of more than i64.
+#[derive(Clone, Copy, PartialEq, Eq, Debug, Default)]
 pub struct Swing {
     whole: i64,
     rest: i64,
@@ -142,6 +159,78 @@ impl Swing {
     #[inline]
     pub fn at(&self, c: i64) -> i64 {
         self.whole + round_div(self.rest + self.reach * c, self.divisor)
+    }
+}
+
+/// An arc around a centre: the way to its start, turned.
+#[derive(Clone, Copy, PartialEq, Eq, Debug, Default)]
+pub struct Arc {
+    x: Swing,
+    y: Swing,
+    /// The way from the centre to the start, in ten-thousandths of current units.
+    way: Point,
+    /// Positive is from x towards y.
+    positive: bool,
+    /// The size of the swept angle, in tenths of a degree.
+    sweep: usize,
+    /// The chord angle, likewise.
+    angle: usize,
+}
+
+impl Arc {
+    /// The most ten-thousandths of a way on an axis.
+    pub const MOST_WAY: i64 = 327_680_000;
+
+    /// The arc around this centre; the swept angle, not 0, and the chord angle are in tenths.
+    pub fn new(scales: [&Scale; 2], centre: [Axis; 2], way: Point, sweep: i64, angle: i64) -> Self {
+        Arc {
+            x: Swing::new(scales[0], centre[0], 1),
+            y: Swing::new(scales[1], centre[1], 1),
+            way,
+            positive: sweep > 0,
+            sweep: sweep.unsigned_abs() as usize,
+            angle: angle as usize,
+        }
+    }
+
+    /// The tenths of the vertex after the one at `tenths`: a chord angle on, at the last the
+    /// swept angle itself.
+    #[inline]
+    pub fn next(&self, tenths: usize) -> usize {
+        (tenths + self.angle).min(self.sweep)
+    }
+
+    /// Whether the vertex at `tenths` is the last.
+    #[inline]
+    pub fn ends_at(&self, tenths: usize) -> bool {
+        tenths == self.sweep
+    }
+
+    /// The location of the vertex at tenths of a degree.
+    #[inline]
+    pub fn vertex(&self, tenths: usize) -> Point {
+        let (c, s) = (cosine(tenths), sine(tenths));
+        let s = if self.positive { s } else { -s };
+        let Point { x, y } = self.way;
+        Point::new(self.x.at(x * c - y * s), self.y.at(x * s + y * c))
+    }
+
+    /// The location of the last vertex.
+    pub fn end(&self) -> Point {
+        self.vertex(self.sweep)
+    }
+
+    /// Whether every vertex after the start is in range. No turn leads farther than the ways of
+    /// both axes together, so vertices are looked at only where that is out of range.
+    pub fn in_range(&self) -> bool {
+        let most = (self.way.x.abs() + self.way.y.abs()) * 100_000;
+        let square = [-most, most].map(|far| Point::new(self.x.at(far), self.y.at(far)));
+        square.iter().all(Point::in_range) || self.vertices_in_range()
+    }
+
+    fn vertices_in_range(&self) -> bool {
+        let whole = (self.angle..self.sweep).step_by(self.angle);
+        whole.chain([self.sweep]).all(|tenths| self.vertex(tenths).in_range())
     }
 }
 

@@ -1,6 +1,6 @@
 //! The machine: settings, position, pen, polygon and the waiting segments.
 
-use crate::geometry::{round_div, round_number, Axis, Bounds, Point, Scale, Swing, Turn};
+use crate::geometry::{round_div, round_number, Arc, Axis, Bounds, Point, Scale, Swing, Turn};
 use crate::number;
 use crate::reader::{Event, Op, Reader};
 use crate::sines::{cosine, sine};
@@ -145,6 +145,8 @@ enum Work {
     /// The polygon's edges, the next one ending at this index.
     Edges(usize),
     Chords(Circle),
+    /// The arc's chords from the vertex at these tenths on, which is this page point.
+    Arc(usize, Point),
 }
 
 /// The HP-GL machine.
@@ -172,11 +174,26 @@ pub struct Machine {
     scaling: Option<[i64; 4]>,
     mode: Option<Mode>,
     polygon: Polygon,
+    /// The arc whose chords wait, if those of one do.
+    arc: Arc,
 }
 
 /// Whether a number fits the range of P1, P2 and the hard limits.
 const fn is_plotter_unit(v: i64) -> bool {
     -32_768 <= v && v <= 32_767
+}
+
+/// A tenth of a degree, in ten-thousandths.
+const TENTH: i64 = 1_000;
+
+/// The chord angle of a circle or an arc, in tenths of a degree; 5 degrees if none is given.
+fn chord_angle(number: Option<i64>) -> Result<i64, u8> {
+    let tenths = number.map_or(50, |number| round_div(number, TENTH));
+    if (5..=1_200).contains(&tenths) {
+        Ok(tenths)
+    } else {
+        Err(number::RANGE)
+    }
 }
 
 impl Machine {
@@ -213,6 +230,7 @@ impl Machine {
             scaling: None,
             mode: None,
             polygon: Polygon::EMPTY,
+            arc: Arc::default(),
         }
     }
 
@@ -260,6 +278,7 @@ impl Machine {
             }
             Work::Edges(index) => self.draw_edge(index),
             Work::Chords(circle) => self.draw_chord(circle),
+            Work::Arc(tenths, from) => self.draw_arc(tenths, from),
         }
     }
 
@@ -298,6 +317,14 @@ impl Machine {
         let to = self.vertex(&circle, if last { 0 } else { circle.next * circle.angle });
         let from = std::mem::replace(&mut circle.from, to);
         self.work = if last { Work::None } else { Work::Chords(circle) };
+        self.show(from, to)
+    }
+
+    #[inline(never)]
+    fn draw_arc(&mut self, tenths: usize, from: Point) -> Drawn {
+        let tenths = self.arc.next(tenths);
+        let to = self.turn.to_page(self.arc.vertex(tenths));
+        self.work = if self.arc.ends_at(tenths) { Work::None } else { Work::Arc(tenths, to) };
         self.show(from, to)
     }
 
@@ -414,6 +441,8 @@ impl Machine {
                 }
             }
             Op::Ci => self.circle(n[0], if count > 1 { Some(n[1]) } else { None })?,
+            Op::Aa => self.arc(self.absolute(n[0], n[1]), n[2], n[3..count].first().copied())?,
+            Op::Ar => self.arc(self.relative(n[0], n[1]), n[2], n[3..count].first().copied())?,
             Op::Ep => self.edge_polygon(),
             Op::Ea => self.rectangle(self.absolute(n[0], n[1]))?,
             Op::Er => self.rectangle(self.relative(n[0], n[1]))?,
@@ -581,10 +610,7 @@ impl Machine {
 
     /// CI.
     fn circle(&mut self, radius: i64, angle: Option<i64>) -> Result<(), u8> {
-        let tenths = angle.map_or(50, |angle| round_div(angle, 1_000));
-        if !(5..=1_200).contains(&tenths) {
-            return Err(number::RANGE);
-        }
+        let tenths = chord_angle(angle)?;
         if !(self.relative(radius, radius).in_range() && self.relative(-radius, -radius).in_range())
         {
             return Err(number::LOCATION);
@@ -603,6 +629,34 @@ impl Machine {
         };
         circle.from = self.vertex(&circle, 0);
         self.work = Work::Chords(circle);
+        Ok(())
+    }
+
+    /// AA and AR. The centre itself may be out of range; the vertices are judged, also where
+    /// nothing is painted, before anything changes.
+    fn arc(&mut self, centre: Position, sweep: i64, angle: Option<i64>) -> Result<(), u8> {
+        let sweep = round_div(sweep, TENTH);
+        if sweep == 0 || sweep.abs() > 3_600 {
+            return Err(number::RANGE);
+        }
+        let angle = chord_angle(angle)?;
+        let way = Point::new(
+            self.x.way(centre.x, self.position.x),
+            self.y.way(centre.y, self.position.y),
+        );
+        if way.x.abs() > Arc::MOST_WAY || way.y.abs() > Arc::MOST_WAY {
+            return Err(number::RANGE);
+        }
+        let arc = Arc::new([&self.x, &self.y], [centre.x, centre.y], way, sweep, angle);
+        if !arc.in_range() {
+            return Err(number::LOCATION);
+        }
+        if self.down && self.pen != 0 {
+            let from = self.turn.to_page(self.position.at());
+            self.work = Work::Arc(0, from);
+            self.arc = arc;
+        }
+        self.position = Position::whole(arc.end());
         Ok(())
     }
 }

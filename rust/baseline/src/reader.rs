@@ -5,7 +5,7 @@
 
 use crate::number;
 
-/// The sixteen instructions.
+/// The instructions: the sixteen of document 01, and the arcs of change request 1.
 #[derive(Clone, Copy, PartialEq, Eq, Debug)]
 #[allow(missing_docs)]
 pub enum Op {
@@ -25,6 +25,8 @@ pub enum Op {
     Pd,
     Pa,
     Pr,
+    Aa,
+    Ar,
 }
 
 impl Op {
@@ -57,8 +59,8 @@ const fn line(name: &[u8; 2], op: Op, least: u8, most: u8, step: u8) -> Instruct
     Instruction { name: *name, op, least, most, step }
 }
 
-/// The table of sixteen instructions, in the order of [`Op`].
-pub const INSTRUCTIONS: [Instruction; 16] = [
+/// The table of instructions, in the order of [`Op`].
+pub const INSTRUCTIONS: [Instruction; 18] = [
     line(b"IN", Op::In, 0, 0, 1),
     line(b"DF", Op::Df, 0, 0, 1),
     line(b"EP", Op::Ep, 0, 0, 1),
@@ -75,6 +77,8 @@ pub const INSTRUCTIONS: [Instruction; 16] = [
     line(b"PD", Op::Pd, 0, ANY, 2),
     line(b"PA", Op::Pa, 0, ANY, 2),
     line(b"PR", Op::Pr, 0, ANY, 2),
+    line(b"AA", Op::Aa, 3, 4, 1),
+    line(b"AR", Op::Ar, 3, 4, 1),
 ];
 
 /// Place of two letters, of either case, in [`NAMES`].
@@ -85,11 +89,14 @@ const fn slot(first: u8, second: u8) -> usize {
 const NO_NAME: u8 = 0xff;
 const LABEL: u8 = 0xfe;
 
+/// How many of [`INSTRUCTIONS`] are known: all, or those before the arcs.
+const KNOWN: usize = if cfg!(feature = "arcs") { INSTRUCTIONS.len() } else { Op::Aa as usize };
+
 /// Index into [`INSTRUCTIONS`] for each two letters.
 const NAMES: [u8; 1024] = {
     let mut names = [NO_NAME; 1024];
     let mut i = 0;
-    while i < INSTRUCTIONS.len() {
+    while i < KNOWN {
         names[slot(INSTRUCTIONS[i].name[0], INSTRUCTIONS[i].name[1])] = i as u8;
         i += 1;
     }

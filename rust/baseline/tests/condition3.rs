@@ -58,6 +58,12 @@ impl Dice {
         parts.join(between)
     }
 
+    fn arc(&mut self, size: u64) -> String {
+        let sweep = self.pick(&["90", "-90", "360", "-360.05", ".05", "12", "-200", "0", "361"]);
+        let chord = self.pick(&["", ",30", ",.5", ",120", ",7", ",121", ",44.95,1"]);
+        format!("{}{},{sweep}{chord}", self.pick(&["AA", "AR"]), self.numbers(2, size))
+    }
+
     fn instruction(&mut self, in_polygon: bool) -> Vec<u8> {
         let size = [3, 50, 300, 12_000, 32_767][self.below(5) as usize];
         let pairs = 2 * (1 + self.below(3));
@@ -94,6 +100,7 @@ impl Dice {
             21 if !in_polygon => {
                 format!("SP{}", self.pick(&["1", "2", "3", "4", "5", "8", "0", "9", ""]))
             }
+            22 | 23 if !in_polygon => self.arc(size),
             _ => format!("PD{}", self.numbers(pairs, size)),
         };
         let text = if self.one_in(10) { text.to_lowercase() } else { text };

@@ -4,50 +4,16 @@
 #[allow(dead_code)]
 #[path = "../examples/outcomes.rs"]
 mod outcomes;
+mod pair;
 
-use baseline::exact::Exact;
-use baseline::{Drawn, Look, Machine, Stroke};
-use outcomes::{Calls, Event, Fed, Line, LIMITS, MARK};
+use baseline::{Drawn, Look, Stroke};
+use outcomes::{Event, Fed, Line, LIMITS, MARK};
+use pair::Pair;
 use std::io::Write;
 use std::process::{Command, Stdio};
 
 const VECTORS: &str = include_str!("../../../crates/vectors/stdin");
 const OUTCOMES: &str = include_str!("../../../crates/vectors/stdout");
-
-/// The machine and the exact model side by side.
-struct Pair {
-    machine: Machine,
-    exact: Exact,
-}
-
-impl Pair {
-    fn fresh(limits: [i64; 4]) -> Pair {
-        let [l, b, r, t] = limits;
-        let (machine, number) = outcomes::fresh(limits);
-        let (exact, due) = Exact::fresh(l, b, r, t);
-        assert_eq!(number, due);
-        Pair { machine, exact }
-    }
-}
-
-impl Calls for Pair {
-    fn take(&mut self, byte: u8) -> u8 {
-        let answer = self.machine.take(byte);
-        assert_eq!(answer, self.exact.take(byte), "number of byte {byte}");
-        assert_eq!(self.machine.look(), self.exact.look(), "look after byte {byte}");
-        answer
-    }
-
-    fn draw(&mut self) -> Drawn {
-        let look = self.machine.look();
-        let answer = self.machine.draw();
-        if let Err(violation) = self.exact.draw(answer) {
-            panic!("{violation}: {answer:?}");
-        }
-        assert_eq!(self.machine.look(), look);
-        answer
-    }
-}
 
 /// The words of a field; `-` is none.
 fn words(field: &str) -> impl Iterator<Item = &str> {

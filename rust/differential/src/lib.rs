@@ -6,6 +6,7 @@
 //! * [`ways`]: how a stream is put through the calls, and every answer compared.
 //! * [`difference`] and [`shrink`]: a wrong answer with its calls; the shortest input that has one.
 //! * [`hunt`]: a budget of streams, each in every way; a [`hunt::Finding`] reproduces a difference.
+//! * [`record`]: the answers on fixed streams, to compare two versions of the library.
 //! * [`loads`]: the loads of the benchmark.
 //!
 //! The tests are `cargo test`, the benchmark `cargo run --release`.
@@ -18,6 +19,7 @@ pub mod due;
 pub mod hunt;
 pub mod loads;
 pub mod partner;
+pub mod record;
 pub mod shrink;
 pub mod streams;
 pub mod ways;

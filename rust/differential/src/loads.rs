@@ -109,5 +109,5 @@ fn written(_: &mut Dice) -> String {
 
 /// Names that are not known.
 fn unknown(dice: &mut Dice) -> String {
-    format!("{};", dice.pick(&["VS", "LT", "AA", "XX", "TL"]))
+    format!("{};", dice.pick(&["VS", "LT", "UC", "XX", "TL"]))
 }

@@ -1,0 +1,139 @@
+//! Every answer of a library on fixed streams, as a line for each stream, so that two versions of
+//! it can be compared though no program can link both.
+//!
+//! The streams have no AA and no AR: whether a library knows arcs makes no difference to them.
+
+use crate::dice::Dice;
+use crate::partner::{Partner, Record};
+use crate::streams::{limits, Family};
+use baseline::{number, Drawn, Fed, Look};
+
+/// The families of which streams are recorded.
+pub const FAMILIES: [Family; 6] = [
+    Family::Drawings,
+    Family::Mutations,
+    Family::Bytes,
+    Family::Brims,
+    Family::Circles,
+    Family::Digits,
+];
+
+/// The bytes of each family.
+pub const BYTES: usize = 400_000;
+
+/// The stream with each AA and AR, of either case, made a name that is not known.
+pub fn without_arcs(mut stream: Vec<u8>) -> Vec<u8> {
+    for at in 1..stream.len() {
+        let name = [stream[at - 1], stream[at]].map(|byte| byte.to_ascii_uppercase());
+        if matches!(&name, b"AA" | b"AR") {
+            stream[at] = b'Z';
+        }
+    }
+    stream
+}
+
+/// A sum over all answers in order.
+#[derive(Clone, Debug)]
+struct Sum(u64);
+
+impl Sum {
+    fn add(&mut self, values: &[i64]) {
+        for &value in values {
+            self.0 = (self.0 ^ value as u64).wrapping_mul(0x0100_0000_01b3).rotate_left(23);
+        }
+    }
+
+    fn look(&mut self, Look { x, y, pen, down, bytes }: Look) {
+        self.add(&[x, y, i64::from(pen), i64::from(down), bytes as i64]);
+    }
+
+    fn draw(&mut self, drawn: Drawn) {
+        match drawn {
+            Drawn::Idle => self.add(&[-1]),
+            Drawn::Hidden => self.add(&[-2]),
+            Drawn::Stroke(s) => self.add(&[i64::from(s.pen), s.x0, s.y0, s.x1, s.y1]),
+        }
+    }
+
+    fn fed(&mut self, fed: Fed, records: &[Record]) {
+        self.add(&[fed.taken as i64, fed.stored as i64, i64::from(fed.number)]);
+        records.iter().for_each(|record| self.add(record));
+    }
+}
+
+/// The sum of take, look and draw: a byte that is refused with 20 is sent again after a draw.
+fn by_calls<P: Partner>(limits: [i64; 4], stream: &[u8]) -> u64 {
+    let (mut machine, number) = P::fresh(limits);
+    let mut sum = Sum(u64::from(number));
+    let mut rest = stream;
+    while let [byte, after @ ..] = rest {
+        let number = machine.take(*byte);
+        sum.add(&[i64::from(number)]);
+        sum.look(machine.look());
+        if number == number::WAITS {
+            sum.draw(machine.draw());
+        } else {
+            rest = after;
+        }
+    }
+    sum.draw(machine.draw());
+    sum.0
+}
+
+/// The bytes of a call of feed or plot.
+const BLOCK: usize = 97;
+
+/// The records that a call of feed or plot is lent.
+const ROOM: usize = 5;
+
+/// The sum of feed or plot in blocks, every record of the lent list included.
+fn by_blocks<P: Partner>(
+    limits: [i64; 4],
+    stream: &[u8],
+    call: fn(&mut P, &[u8], &mut [Record]) -> Fed,
+) -> u64 {
+    let mut machine = P::fresh(limits).0;
+    let (mut sum, mut at) = (Sum(0), 0);
+    loop {
+        let mut records = [[-7; 5]; ROOM];
+        let end = (at + BLOCK).min(stream.len());
+        let fed = call(&mut machine, &stream[at..end], &mut records);
+        sum.fed(fed, &records);
+        sum.look(machine.look());
+        at += fed.taken;
+        if at == stream.len() && fed.number == number::NONE {
+            return sum.0;
+        }
+    }
+}
+
+/// A line: where the stream comes from, its length, and the sums of the answers.
+fn line<P: Partner>(origin: &str, limits: [i64; 4], stream: &[u8]) -> String {
+    let sums = [
+        by_calls::<P>(limits, stream),
+        by_blocks::<P>(limits, stream, P::feed),
+        by_blocks::<P>(limits, stream, P::plot),
+    ];
+    let [calls, feed, plot] = sums;
+    format!("{origin} {} bytes {calls:016x} {feed:016x} {plot:016x}", stream.len())
+}
+
+/// The streams of a family until `bytes` bytes are generated, each with its hard limits.
+pub fn recorded(family: Family, bytes: usize) -> Vec<([i64; 4], Vec<u8>)> {
+    let mut dice = Dice::new(family as u64);
+    let (mut streams, mut generated) = (Vec::new(), 0);
+    while generated < bytes {
+        let stream = without_arcs(family.stream(&mut dice));
+        generated += stream.len();
+        streams.push((limits(&mut dice), stream));
+    }
+    streams
+}
+
+/// The lines of a family.
+pub fn lines<P: Partner>(family: Family, bytes: usize) -> Vec<String> {
+    let numbered = recorded(family, bytes).into_iter().enumerate();
+    numbered
+        .map(|(at, (limits, stream))| line::<P>(&format!("{family:?} {at}"), limits, &stream))
+        .collect()
+}
