@@ -1,3 +1,4 @@
 pub mod Gathered
+pub mod Texts
 pub mod Words
 pub mod WordsLaws

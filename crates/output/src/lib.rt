@@ -5,8 +5,9 @@
 ghost use mathlib.Core.Path.{_≡_};
 ghost use Prim.Native.Nat.{_≤_};
 ghost use lib.Dec.{ltb};
-ghost use lib.ListN.{length};
+ghost use lib.ListN.{length, take};
 ghost use Rattle.output.specs.Gathered.{room, Flushed, Put};
+ghost use Rattle.output.specs.Texts.{Puts, PutsNatural};
 ghost use Rattle.output.specs.Words.{trimmed};
 use libc::STDOUT_FILENO;
 
@@ -64,7 +65,9 @@ pub fn put_byte(buffer: &mut [u8; 65536], used: usize, byte: u8) -> usize
     1
 }
 
-pub fn put_bytes(buffer: &mut [u8; 65536], used: usize, bytes: &[u8]) -> usize {
+pub fn put_bytes(buffer: &mut [u8; 65536], used: usize, bytes: &[u8]) -> usize
+    ensures { λ r. ⌜ Puts (now (bytes .entry)) used (now (buffer .entry)) r (now (buffer .exit)) ⌝ }
+{
     let mut end = used;
     for i in 0..bytes.len() {
         end = put_byte(buffer, end, bytes[i]);
@@ -72,7 +75,9 @@ pub fn put_bytes(buffer: &mut [u8; 65536], used: usize, bytes: &[u8]) -> usize {
     end
 }
 
-pub fn put_natural(buffer: &mut [u8; 65536], used: usize, number: u64) -> usize {
+pub fn put_natural(buffer: &mut [u8; 65536], used: usize, number: u64) -> usize
+    ensures { λ r. ⌜ PutsNatural number used (now (buffer .entry)) r (now (buffer .exit)) ⌝ }
+{
     let mut digits = [0u8; 20];
     let count = io::decimal(number, &mut digits);
     put_bytes(buffer, used, &digits[..count])
@@ -115,7 +120,9 @@ fn trimmed_length(text: &[u8]) -> usize
 }
 
 // A text without the blanks at its end.
-pub fn put_words(buffer: &mut [u8; 65536], used: usize, text: &[u8]) -> usize {
+pub fn put_words(buffer: &mut [u8; 65536], used: usize, text: &[u8]) -> usize
+    ensures { λ r. ⌜ Puts (take (trimmed (now (text .entry))) (now (text .entry))) used (now (buffer .entry)) r (now (buffer .exit)) ⌝ }
+{
     let n = trimmed_length(text);
     put_bytes(buffer, used, &text[..n])
 }

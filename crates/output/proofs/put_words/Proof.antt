@@ -17,7 +17,9 @@ put-bytes-requires : tie.Need-put-bytes-requires
 put-bytes-requires c κs = search needs
 
 returns : tie.Need-returns
-returns c = search needs
+returns c =
+    let t : tie.After-trimmed-length = search in
+    rw (← t .trimmed-length .ensures .0) (c .put-bytes .ensures)
 
 pub put-words-spec : {M : Type 1} → statement M
 put-words-spec =
