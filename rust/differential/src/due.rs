@@ -9,10 +9,15 @@ fn record(s: Stroke) -> Record {
 
 /// Plot in terms of take and draw, as `crates/feeding/specs/Plot.antt` defines it: while a segment
 /// waits, draw; when idle, take the next byte. Both first ask for a free record, else 21.
-fn plot(machine: &mut Machine, bytes: &[u8], records: &mut [Record]) -> Fed {
+pub fn plot<P: Partner>(
+    machine: &mut P,
+    waits: fn(&P) -> bool,
+    bytes: &[u8],
+    records: &mut [Record],
+) -> Fed {
     let mut fed = Fed::default();
     loop {
-        let waits = machine.waits();
+        let waits = waits(machine);
         if !waits && fed.taken == bytes.len() {
             return fed;
         }
@@ -64,6 +69,6 @@ impl Partner for Machine {
     }
 
     fn plot(&mut self, bytes: &[u8], records: &mut [Record]) -> Fed {
-        plot(self, bytes, records)
+        plot(self, Machine::waits, bytes, records)
     }
 }

@@ -11,6 +11,10 @@ const MOVES: usize = 20_000_000;
 /// Bytes of circles; each 20 of them give 720 strokes.
 const CIRCLES: usize = 300_000;
 
+/// Bytes of arcs; each 34 of them, about, give 720 strokes.
+#[cfg(feature = "arcs")]
+const ARCS: usize = 450_000;
+
 /// A rink that Inkscape wrote.
 const RINK: &[u8] = include_bytes!("../../../crates/drawings/data/inkscape_rink.hpgl");
 
@@ -27,7 +31,7 @@ pub struct Load {
 }
 
 /// Every load.
-pub const LOADS: [Load; 7] = [
+pub const LOADS: [Load; if cfg!(feature = "arcs") { 8 } else { 7 }] = [
     Load { name: "pd", about: "PD moves", setup: "IN;SP1;", size: MOVES, part: pen_down },
     Load { name: "pu", about: "PU moves", setup: "IN;SP1;", size: MOVES, part: pen_up },
     Load {
@@ -44,6 +48,8 @@ pub const LOADS: [Load; 7] = [
         size: CIRCLES,
         part: circle,
     },
+    #[cfg(feature = "arcs")]
+    Load { name: "arcs", about: "arcs of 720 chords", setup: "IN;SP1;", size: ARCS, part: arc },
     Load {
         name: "polygons",
         about: "polygons with EP",
@@ -95,6 +101,13 @@ fn chain(dice: &mut Dice) -> String {
 
 fn circle(dice: &mut Dice) -> String {
     format!("PA{};CI{},.5;", pair(dice), dice.within(10, 3_000))
+}
+
+/// An arc of a whole turn, with a way on both axes.
+#[cfg(feature = "arcs")]
+fn arc(dice: &mut Dice) -> String {
+    let (x, y) = (dice.within(10, 3_000), dice.within(-3_000, 3_000));
+    format!("PU{};PD;AR{x},{y},360,.5;", pair(dice))
 }
 
 /// A polygon of eight corners and its edges.

@@ -17,6 +17,8 @@ pub enum Family {
     Circles,
     /// Numbers of thousands of digits.
     Digits,
+    /// Arcs at every border of their numbers, under scales, turns and windows of all kinds.
+    Arcs,
 }
 
 /// Drawings of real writers (`crates/drawings/data`), to be changed.
@@ -57,24 +59,26 @@ const EDGES: [&str; 6] =
 
 impl Family {
     /// Every family.
-    pub const ALL: [Family; 6] = [
+    pub const ALL: [Family; 7] = [
         Family::Drawings,
         Family::Mutations,
         Family::Bytes,
         Family::Brims,
         Family::Circles,
         Family::Digits,
+        Family::Arcs,
     ];
 
     /// How many of a hundred bytes are of this family.
     pub fn share(self) -> usize {
         match self {
-            Family::Drawings => 40,
+            Family::Drawings => 38,
             Family::Mutations => 20,
-            Family::Bytes => 14,
-            Family::Brims => 14,
+            Family::Bytes => 13,
+            Family::Brims => 13,
             Family::Circles => 3,
             Family::Digits => 9,
+            Family::Arcs => 4,
         }
     }
 
@@ -87,6 +91,7 @@ impl Family {
             Family::Brims => brim(dice).into_bytes(),
             Family::Circles => circles(dice).into_bytes(),
             Family::Digits => digits(dice),
+            Family::Arcs => arcs(dice),
         }
     }
 }
@@ -404,4 +409,173 @@ fn digits(dice: &mut Dice) -> Vec<u8> {
         text += &format!("{};SP1;PD;", list.join(","));
     }
     text.into_bytes()
+}
+
+/// Swept angles at and next to the borders, and others.
+const SWEEPS: [&str; 24] = [
+    "0",
+    ".0499",
+    ".05",
+    "-.05",
+    "-.0501",
+    "360.0499",
+    "360.05",
+    "-360.05",
+    "-360.0501",
+    "-360",
+    "360",
+    ".1",
+    "-.1",
+    "1",
+    "-7.3",
+    "12",
+    "45",
+    "-45",
+    "-50",
+    "90",
+    "-90",
+    "180",
+    "-200",
+    "270",
+];
+
+/// Chord angles likewise, and now and then a number too many.
+const CHORDS: [&str; 16] = [
+    "",
+    "",
+    "",
+    ",5",
+    ",20",
+    ",30",
+    ",30",
+    ",45",
+    ",90",
+    ",120",
+    ",120.0499",
+    ",120.05",
+    ",.45",
+    ",.4499",
+    ",7.7",
+    ",30,1",
+];
+
+/// Scales that are mirrored or unequal on their axes, and those where a unit is half a
+/// ten-thousandth, so that ways end in a half.
+const ARC_SCALES: [&str; 10] = [
+    "IP0,0,100,200;SC1,0,0,1;",
+    "IP100,100,0,0;SC0,3,0,7;",
+    "IP0,100,100,0;SC-1,1,1,-1;",
+    "IP300,0,0,100;SC9,-9,7,-7;",
+    "IP20000,20000,0,0;SC0,1,0,1;",
+    "IP0,0,20000,20000;SC1,0,1,0;",
+    "IP0,0,3000,-3000;SC0,1,0,1;",
+    "IP0,0,1,1;SC0,3,3,0;",
+    "DF;",
+    "SC;",
+];
+
+fn arcs(dice: &mut Dice) -> Vec<u8> {
+    let mut text = format!("SP{};", 1 + dice.below(8));
+    text.extend((0..6 + dice.below(20)).map(|_| arc_figure(dice)));
+    let mut text = text.into_bytes();
+    if dice.one_in(5) {
+        (0..1 + dice.below(6)).for_each(|_| mutate(&mut text, dice));
+    }
+    text
+}
+
+/// An arc with what it stands in, or a setting.
+fn arc_figure(dice: &mut Dice) -> String {
+    let reach = dice.pick(&[1, 3, 50, 300, 12_000, 32_767]);
+    match dice.below(16) {
+        0 | 1 => dice.pick(&ARC_SCALES).to_string(),
+        2 => setting(dice, reach),
+        3 => dice
+            .pick(&["RO90;", "RO90;", "RO;", "IW-90,-90,90,90;", "IW0,0,1,1;", "IW;"])
+            .to_string(),
+        4 => {
+            dice.pick(&["SP0;", "SP3;", "SP8;", "PU;", "PD;", "PR;", "PA;", "IN;SP1;"]).to_string()
+        }
+        5 => format!("PM0;{}PD1,1;PM2;EP;", arc(dice, reach)),
+        6 | 7 => far_way(dice),
+        8 | 9 => edge_arc(dice),
+        10 => half_way(dice),
+        _ => placed_arc(dice, reach),
+    }
+}
+
+fn arc(dice: &mut Dice, reach: i64) -> String {
+    let (name, centre) =
+        (dice.pick(&["AA", "AR", "AA", "AR", "aA", "ar"]), numbers(dice, 2, reach));
+    format!("{name}{centre},{}{};", dice.pick(&SWEEPS), dice.pick(&CHORDS))
+}
+
+/// A move that mostly ends at no whole position, an arc, and a move from where that ends.
+fn placed_arc(dice: &mut Dice, reach: i64) -> String {
+    let place = numbers(dice, 2, reach);
+    let part =
+        dice.pick(&["", "PR.3,.4;", "PR-.2499,.7;", "PR.5,-.5;", "PR1,0;", "PR.0001,.0001;"]);
+    let after = dice.pick(&["", "PR.4,.4;", "PR0,0;", "PD0,0;", "PD;PR-.3,.3;", "PU1,1;"]);
+    format!("{}{place};{part}PD;{}{after}", dice.pick(&["PA", "PU", "PD", "PR"]), arc(dice, reach))
+}
+
+/// A way of about 32768 units, unscaled or under a scale.
+fn far_way(dice: &mut Dice) -> String {
+    let scale = dice.pick(&["DF;", "DF;", "IP0,0,10,10;SC0,10,0,-10;", "IP0,0,3,7;SC0,7,0,3;"]);
+    let place = dice.pick(&[
+        "PA32767,0;",
+        "PA-32768,0;",
+        "PA0,32767;",
+        "PA0,-32768;",
+        "PA32767.9999,0;PR.0001,0;",
+        "PA0,32767;PR0,1.0001;",
+    ]);
+    let centre = dice.pick(&[
+        "0,0",
+        "-1,0",
+        "-1.0001,0",
+        "-.9999,0",
+        ".0001,0",
+        "0,-1",
+        "0,-1.0001",
+        "0,.0001",
+        "1,1",
+    ]);
+    let sweep = dice.pick(&["1", "-1", ".1", "90", "0"]);
+    format!("{scale}{place}{}{centre},{sweep};", dice.pick(&["AA", "AA", "AR"]))
+}
+
+/// Vertices at and next to the edge of the range, the centre perhaps far beyond it.
+fn edge_arc(dice: &mut Dice) -> String {
+    let place =
+        dice.pick(&["99,0", "-99,0", "0,99", "0,-99", "99.8485,-.8485", "99.9999,99.9999", "0,0"]);
+    let centre = dice.pick(&[
+        "0,1",
+        "0,1.0001",
+        "1,0",
+        "1.0001,0",
+        "0,-1",
+        "0,-1.0001",
+        "-1.0001,0",
+        "0,2",
+        "-.8485,.8485",
+        "32767,0",
+        "0,-32768",
+        "5000,-5000",
+    ]);
+    let sweep = dice.pick(&["90", "-90", "180", "-180", "45", ".1", "-.1", ".2", "360", "400"]);
+    let chord = dice.pick(&["", ",90", ",45", ",30", ",120"]);
+    format!("{HUNDRED}PA{place};AR{centre},{sweep}{chord};")
+}
+
+/// Ways that end in a half of a ten-thousandth, on both axes.
+fn half_way(dice: &mut Dice) -> String {
+    let corners = dice.pick(&["0,0,20000,20000", "0,20000,20000,0", "20000,0,0,20000"]);
+    let (x, y) = (dice.within(-3, 3), dice.within(-3, 3));
+    let scale = dice.pick(&["0,1,0,1", "1,0,0,1", "0,1,1,0", "1,0,1,0"]);
+    let centre = dice.pick(&["0,0", "1,1", "0,1", ".0001,-.0001"]);
+    format!(
+        "DF;IP{corners};PA{x},{y};SC{scale};AA{centre},{};",
+        dice.pick(&["180", "90", "-90", "30"])
+    )
 }

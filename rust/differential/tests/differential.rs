@@ -70,6 +70,13 @@ fn digits() {
 }
 
 #[test]
+fn arcs() {
+    let numbers: &[usize] =
+        if cfg!(feature = "arcs") { &[0, 1, 2, 3, 6, 20, 21] } else { &[0, 1, 20, 21] };
+    search(Family::Arcs, numbers);
+}
+
+#[test]
 fn shares_make_a_whole() {
     assert_eq!(Family::ALL.iter().map(|family| family.share()).sum::<usize>(), 100);
 }
