@@ -52,7 +52,7 @@ extern "C" {
 #define VUTAROI_FORM 1
 
 /* The numbers of a machine, and of a record: a stroke is pen, x0, y0, x1, y1. */
-#define VUTAROI_NUMBERS 640
+#define VUTAROI_NUMBERS 645
 #define VUTAROI_RECORD 5
 
 /* The bytes of stack that a call needs. */

@@ -15,7 +15,7 @@ use Rattle.reader.specs.declared.Reader.{Reader}
 use Rattle.reader.specs.Reader.{freshReader}
 use Rattle.reader.specs.Step.{stepOf, passedOver}
 use Rattle.plane.specs.Turn.{turnedOf}
-use Rattle.plane.specs.Circle.{chordsOf, angleOf, pointFromCentre}
+use Rattle.plane.specs.Arc.{partsOf, arcPoint}
 use Rattle.hpgl.specs.declared.Settings.{Settings}
 use Rattle.hpgl.specs.declared.Core.{Core}
 use Rattle.hpgl.specs.declared.Edge.{Edge}
@@ -93,7 +93,7 @@ stored es k (action.Rectangle p q shown) = rectangleEdges es p q
 unfoldable pub queued : ℕ → List Edge → ℕ → Action → Work
 queued t es k action.Keep = Nothing
 queued t es k (action.Line a b) = Line a b
-queued t es k (action.Chords o) = Chords o 0 (chordsOf (o .angle))
+queued t es k (action.Chords o) = Chords o 0 (partsOf (o .sweep) (o .angle))
 queued t es k (action.Join e) = Nothing
 queued t es k action.Outline = Edges 0 k
 queued t es k (action.Rectangle p q shown) = cond shown (Edges 0 k) Nothing
@@ -133,9 +133,12 @@ strokeOf pen (clipped.Stroke s t) = drawn.Stroke (record { pen = pen; x0 = s .x;
 unfoldable pub shown : Core → Point → Point → Drawn
 shown c a b = strokeOf (c .carriage .pen .number) (clip (limits (c .settings)) a b)
 
--- vertex i of a circle, on the page
+-- vertex i of a circle, and on the page
+unfoldable pub vertexIn : Circle → ℕ → Point
+vertexIn o i = arcPoint (o .start) (o .x) (o .y) (o .radius) (o .sweep) (o .angle) i
+
 unfoldable pub vertex : Settings → Circle → ℕ → Point
-vertex s o i = turnedOf (pointFromCentre (o .x) (o .y) (o .radius) (angleOf (o .angle) i)) (s .turn)
+vertex s o i = turnedOf (vertexIn o i) (s .turn)
 
 -- chord i
 unfoldable pub chordShown : Core → Circle → ℕ → Drawn

@@ -59,6 +59,10 @@ leastAngle = 5
 abbrev pub defaultAngle : ℕ
 defaultAngle = 50
 
+-- once round
+abbrev pub wholeTurn : ℕ
+wholeTurn = 3600
+
 -- ---- a number "is kept in ten-thousandths": what one and a tenth are in them
 
 abbrev pub one : ℕ

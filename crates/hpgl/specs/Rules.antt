@@ -32,7 +32,7 @@ use Rattle.hpgl.specs.declared.Circle.{Circle}
 use Rattle.hpgl.specs.declared.Action.{Action}
 use Rattle.hpgl.specs.declared.Action.the-variants.{Keep, Line, Chords, Join, Outline, Rectangle}
 use Rattle.hpgl.specs.declared.Acted.{Acted}
-use Rattle.hpgl.specs.Numbers.{unknown, outOfRange, tooFar, polygonFull, polygonBytes, modeBytes, pointBytes, penBytes, rectangleBytes, mostPen, quarterAngle, leastAngle, defaultAngle, tenth}
+use Rattle.hpgl.specs.Numbers.{unknown, outOfRange, tooFar, polygonFull, polygonBytes, modeBytes, pointBytes, penBytes, rectangleBytes, mostPen, quarterAngle, leastAngle, defaultAngle, tenth, wholeTurn}
 use Rattle.hpgl.specs.Place.{point, rounded, axisX, axisY, location, inRange, absolutePosition, relativePosition, restAt, pagePoint}
 use Rattle.hpgl.specs.Change.{withPosition, withPen, withRelative, withPolygon, withSettings, withCarriage, withCorners, withScale, withTurn, withWindow}
 
@@ -374,13 +374,15 @@ circleFits c r =
     inRange (location (c .settings) (relativePosition (c .carriage .position) (record { x = negℤ r; y = pos 0 }))) &&
     inRange (location (c .settings) (relativePosition (c .carriage .position) (record { x = pos 0; y = negℤ r })))
 
--- "A vertex adds radius × cosine and radius × sine to O": the way (radius, 0) from the current position, turned
+-- "A vertex adds radius × cosine and radius × sine to O": the way (radius, 0) from the current position, turned; once round, from the point at 0 degrees
 unfoldable pub circle : Core → ℤ → ℕ → Circle
 circle c r a = record {
   x = centreOf (axisX (c .settings)) (c .carriage .position .x);
   y = centreOf (axisY (c .settings)) (c .carriage .position .y);
   radius = record { u = r; v = pos 0 };
   angle = a;
+  start = location (c .settings) (relativePosition (c .carriage .position) (record { x = r; y = pos 0 }));
+  sweep = pos wholeTurn;
 }
 
 -- "the angle in tenths of a degree, rounded, 5 to 1200"; "It is drawn also when the pen is up; position and pen stay."

@@ -7,7 +7,7 @@ use Prim.Native.Nat.{ℕ, zero, suc, _+_, _*_, _≤_, _<_}
 use native.Mathlib.Omega.{arith}
 use borrow.Author.Tests.{leb-true}
 use lib.Dec.{leb, eqb}
-use lib.IntN.{ℤ, pos, natAbs, _-ℤ_}
+use lib.IntN.{ℤ, pos, natAbs, +ℤ-idr, _-ℤ_}
 use Rattle.exact.specs.Whole.{_≡?_, _≤?_, is, Z, ≡?-false}
 use Rattle.clip.specs.Line.{nearest}
 use Rattle.clip.specs.declared.Point.{Point}
@@ -18,11 +18,14 @@ use Rattle.reader.specs.declared.Event.{Event}
 use Rattle.reader.specs.declared.Event.the-variants.{Nothing, Named, Pair, Ended, Refused}
 use Rattle.mnemonics.specs.Table.{IN, DF, EP, IP, SC, IW, RO, SP, PM, CI, EA, ER, PU, PD, PA, PR, cellOf, knownInPolygon}
 use Rattle.plane.specs.Bounds.{mostAngle}
-use Rattle.plane.specs.Position.{axisOf}
+use Rattle.plane.specs.Position.{axisOf, relativeOf, locationOf}
 use Rattle.plane.specs.Turn.{turnCount, turnedOf, orderedOf}
 use Rattle.plane.specs.declared.circle.Way.{Way}
-use Rattle.plane.specs.Circle.{chordsOf, angleOf, rotatedOf, vertexPointOf}
-use Rattle.plane.specs.CircleLaws.{vertex-nearest, vertex-point-split}
+use Rattle.plane.specs.declared.circle.Centre.{Centre}
+use Rattle.plane.specs.Circle.{chordsOf, angleOf, rotatedOf, vertexPointOf, centreOf, pointFromCentre}
+use Rattle.plane.specs.Arc.{partsOf, arcPoint}
+use Rattle.plane.specs.CircleLaws.{vertex-nearest, vertex-point-split, point-0}
+use Rattle.plane.specs.ArcLaws.{circle-arc}
 use Rattle.hpgl.specs.Cases.{never, pick, cond-true, cond-false}
 use Rattle.hpgl.specs.declared.Position.{Position}
 use Rattle.hpgl.specs.declared.Window.{Window}
@@ -36,13 +39,13 @@ use Rattle.hpgl.specs.declared.Action.{Action}
 use Rattle.hpgl.specs.declared.Action.the-variants.{Keep, Line, Chords, Outline}
 use Rattle.hpgl.specs.declared.Acted.{Acted}
 use Rattle.hpgl.specs.declared.Work.the-variants as work
-use Rattle.hpgl.specs.Numbers.{polygonBytes, modeBytes, pointBytes, mostPen, quarterAngle, leastAngle}
+use Rattle.hpgl.specs.Numbers.{polygonBytes, modeBytes, pointBytes, mostPen, quarterAngle, leastAngle, wholeTurn}
 use Rattle.hpgl.specs.Place.{point, rounded, axisX, axisY, exactPosition, location, inRange, absolutePosition, relativePosition, pagePoint}
 use Rattle.hpgl.specs.Change.{withPosition, withPen, withPolygon, withSettings, withCarriage, withCorners, withScale, withTurn, withWindow}
 use Rattle.hpgl.specs.Ends as ends
 use Rattle.hpgl.specs.Ends.{Works, Rests, other, by-end}
 use Rattle.hpgl.specs.Rules.{done, refuse, unscaled, noWindow, freshSettings, noPolygon, freshCarriage, letters, nameRule, rebased, inRule, dfRule, goodCorners, setCorners, ipRule, scRule, setTurn, roRule, setWindow, iwRule, setPen, spRule, inked, spent, moveTo, pointCost, longer, edgeTo, storePoint, aimed, goTo, pairRule, begun, pm0, differ, closes, endedWith, ended, pm1In, pm1, leave, pm2In, pm2, pmRule, epRule, rectangular, rectangleTo, firstTwo, eaRule, erRule, circleFits, circle, circleWith, chordAngle, ciRule, endRule, actOn}
-use Rattle.hpgl.specs.Machine.{vertex, rectangleEdges, stored, queued}
+use Rattle.hpgl.specs.Machine.{vertexIn, vertex, rectangleEdges, stored, queued}
 use Rattle.hpgl.specs.ExactModel.{ExactPolygon, ExactSegment, exactSegment, outline, vertexAt, path, lastOf, rectangle, polygonMode, afterEnd, polygonAfter, inkedOnly, move, instructed, added}
 use Rattle.hpgl.specs.Related.{Sound, Fit, edgesFrom, edgesOf, edgesAfter, allEdges, polygonEdges, some, Linked, turnedEdges, chordsFrom, view, onPage}
 use Rattle.hpgl.specs.PolygonLinked.{location-nearest, grown, ended-closed, ended-open, rectangle-linked, turned-outline}
@@ -456,14 +459,29 @@ module _ (c : Core) (es : List Edge) (g : ExactPolygon) (f : Fit (c .settings) (
 
   -- ---- circles
 
+  -- vertex zero is the point at 0 degrees
+  same-start : (r : ℤ) → let s = c .settings in let p = c .carriage .position in
+      circle c r 0 .start ≡ pointFromCentre (centreOf (axisX s) (p .x)) (centreOf (axisY s) (p .y)) (record { u = r; v = pos 0 }) (pos 0)
+  unfolding circle location relativePosition relativeOf
+  same-start r =
+      let s : Settings = c .settings in
+      let p : Position = c .carriage .position in
+      (λ j. point (locationOf (axisX s) (relativeOf (p .x) r)) (locationOf (axisY s) (record { base = p .y .base; offset = +ℤ-idr (p .y .offset) j })))
+      ∙ sym (point-0 (axisX s) (axisY s) (p .x) (p .y) r (f .sound .x) (f .sound .y))
+      ∙ sym (vertex-point-split (axisX s) (axisY s) (p .x) (p .y) (record { u = r; v = pos 0 }) (pos 0) (f .sound .x) (f .sound .y))
+
   same-vertex : (r : ℤ) (a i : ℕ) → vertex (c .settings) (circle c r a) i ≡ turnedOf (nearest (vertexAt c r a i)) (c .settings .turn)
-  unfolding vertex circle vertexAt vertexPointOf
+  unfolding vertex vertexIn circle vertexAt vertexPointOf
   same-vertex r a i =
       let s : Settings = c .settings in
       let p : Position = c .carriage .position in
       let w : Way = rotatedOf (record { u = r; v = pos 0 }) (angleOf a i) in
+      let cx : Centre = centreOf (axisX s) (p .x) in
+      let cy : Centre = centreOf (axisY s) (p .y) in
       ap (λ (x : Point). turnedOf x (s .turn))
-      (vertex-point-split (axisX s) (axisY s) (p .x) (p .y) (record { u = r; v = pos 0 }) (angleOf a i) (f .sound .x) (f .sound .y)
+      (ap (λ (x : Point). arcPoint x cx cy (record { u = r; v = pos 0 }) (pos wholeTurn) a i) (same-start r)
+      ∙ circle-arc cx cy (record { u = r; v = pos 0 }) a i
+      ∙ vertex-point-split (axisX s) (axisY s) (p .x) (p .y) (record { u = r; v = pos 0 }) (angleOf a i) (f .sound .x) (f .sound .y)
       ∙ (λ j. point (vertex-nearest (axisX s) (p .x) (w .u) (f .sound .x) j) (vertex-nearest (axisY s) (p .y) (w .v) (f .sound .y) j)))
 
   same-chords : (r : ℤ) (a i n : ℕ) → chordsFrom (c .settings) (circle c r a) i n ≡ onPage (path c (vertexAt c r a) i n)
@@ -472,7 +490,7 @@ module _ (c : Core) (es : List Edge) (g : ExactPolygon) (f : Fit (c .settings) (
   same-chords r a i (suc n) = λ j. record { start = same-vertex r a i j; end = same-vertex r a (i + 1) j; shown = true } ∷ same-chords r a (i + 1) n j
 
   keeps-ci : (n : Numbers) → Keeps c es g (Ended CI n) (ciRule c n)
-  unfolding ciRule circleWith done inked circle polygonBy addedBy polygonAfter afterEnd added instructed inkedOnly stored queued view onPage
+  unfolding ciRule circleWith done inked circle polygonBy addedBy polygonAfter afterEnd added instructed inkedOnly stored queued view onPage partsOf chordsOf
   keeps-ci n =
       let a : ℤ = chordAngle n in
       both ((pos leastAngle ≤? a) && (a ≤? pos mostAngle))

@@ -5,7 +5,7 @@ use mathlib.Core.Path.{_≡_}
 use mathlib.Core.Bool.{Bool, true}
 use mathlib.Core.List.{List, [], _∷_}
 use Prim.Native.Nat.{ℕ, _+_, _*_, _≤_, _<_}
-use lib.IntN.{pos, negℤ, _*ℤ_}
+use lib.IntN.{pos}
 use lib.ListN.{length}
 use Rattle.exact.specs.Whole.{_<ᶻ_}
 use Rattle.exact.specs.Fit.{Bd}
@@ -19,8 +19,8 @@ use Rattle.mnemonics.specs.Table.{rows, knownInPolygon}
 use Rattle.reader.specs.Inside.{inside}
 use Rattle.reader.specs.Sizes.{Readable, SmallPair, Fitting}
 use Rattle.plane.specs.Turn.{turnCount}
-use Rattle.plane.specs.Bounds.{mostNumber, mostPoint, mostAngle, mostProduct, Locatable, Storable, WayBounds, CentreBounds}
-use Rattle.plane.specs.Circle.{fromCentre}
+use Rattle.plane.specs.Bounds.{mostNumber, mostPoint, mostAngle, mostSweep, mostProduct, Locatable, Storable, WayBounds, CentreBounds}
+use Rattle.plane.specs.Arc.{arcFits}
 use Rattle.hpgl.specs.declared.Position.{Position}
 use Rattle.hpgl.specs.declared.Range.{Range}
 use Rattle.hpgl.specs.declared.Settings.{Settings}
@@ -128,18 +128,17 @@ pub record SmallEdge (e : Edge) : Type 0 where
   pub from : SmallPoint (e .from)
   pub to : SmallPoint (e .to)
 
--- a circle that goes by its radius, and whose points at 0, 90, 180 and 270 degrees are in range: so are all its vertices (ValidFacts.antt, `vertices`)
+-- a circle whose vertices are in range, the first and each after it (ValidFacts.antt, `vertices`)
 pub record ValidCircle (o : Circle) : Type 0 where
   pub x : CentreBounds (o .x)
   pub y : CentreBounds (o .y)
   pub radius : WayBounds (o .radius)
   pub least : leastAngle ≤ o .angle
   pub most : o .angle ≤ mostAngle
-  pub flat : o .radius .v ≡ pos 0
-  pub right : Bd (fromCentre (o .x) (o .radius .u *ℤ pos 100000)) reach
-  pub left : Bd (fromCentre (o .x) (negℤ (o .radius .u) *ℤ pos 100000)) reach
-  pub up : Bd (fromCentre (o .y) (o .radius .u *ℤ pos 100000)) reach
-  pub down : Bd (fromCentre (o .y) (negℤ (o .radius .u) *ℤ pos 100000)) reach
+  pub start : SmallPoint (o .start)
+  pub sweep : Bd (o .sweep) mostSweep
+  pub some : o .sweep ≡ pos 0 → ⊥
+  pub fits : arcFits (o .x) (o .y) (o .radius) (o .sweep) (o .angle) ≡ true
 
 -- an action that a core may hand on; k is how many edges its polygon had, and an edge that joins them finds a place in the store
 abbrev pub ValidAction : ℕ → Action → Type 0

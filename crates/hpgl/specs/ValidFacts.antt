@@ -4,9 +4,9 @@ use mathlib.Core.Path.{_≡_, refl, sym, _∙_, subst}
 use mathlib.Core.Bool.{Bool, true, false, cond, _&&_}
 use mathlib.Core.List.{List}
 use Prim.Native.Nat.{ℕ, zero, suc, _+_, _*_, _-_, _/_, _≤_, _<_}
-use native.Mathlib.Nat.{div-lt-iff-lt-mul}
 use native.Mathlib.Omega.{arith}
 use lib.IntN.{ℤ, pos, negℤ, natAbs, _+ℤ_, _*ℤ_}
+use lib.Dec.{eqb·suc-zero}
 use lib.ListN.{getD}
 use Rattle.exact.specs.Whole.{_≤?_, _≤ᶻ_, _<ᶻ_, ord, ≤?-true, up-mul, dn-mul, add-parts}
 use Rattle.exact.specs.Fit.{Bd, abs, bd-le, bd-lit, ne-lit, _⊞_, _⊟_}
@@ -18,10 +18,12 @@ use Rattle.reader.specs.Sizes.{SmallPair}
 use Rattle.plane.specs.Turn.{turnCount, turnedBackOf, rebasedOf}
 use Rattle.plane.specs.Position.{axisOf, inRangeOf}
 use Rattle.plane.specs.Bounds.{mostNumber, mostPoint, mostProduct, mostAngle, AxisBounds}
-use Rattle.plane.specs.Circle.{chordsOf, angleOf, pointFromCentre}
+use Rattle.plane.specs.Circle.{centreOf}
+use Rattle.plane.specs.Arc.{partsOf, arcPoint}
 use Rattle.plane.specs.TurnLaws.{turned-small, rebased-small}
 use Rattle.plane.specs.PositionLaws as axis
 use Rattle.plane.specs.CircleLaws as round
+use Rattle.plane.specs.ArcLaws as arc
 use Rattle.plane.specs.LimitsLaws as box
 use Rattle.hpgl.specs.declared.Position.{Position}
 use Rattle.hpgl.specs.declared.Range.{Range}
@@ -31,11 +33,11 @@ use Rattle.hpgl.specs.declared.Polygon.{Polygon}
 use Rattle.hpgl.specs.declared.Core.{Core}
 use Rattle.hpgl.specs.declared.Edge.{Edge}
 use Rattle.hpgl.specs.declared.Circle.{Circle}
-use Rattle.hpgl.specs.Numbers.{polygonBytes, pointBytes, penBytes, leastAngle, mostEdges}
+use Rattle.hpgl.specs.Numbers.{polygonBytes, pointBytes, penBytes, leastAngle, wholeTurn, mostEdges}
 use Rattle.hpgl.specs.Place.{rounded, axisX, axisY, location, inRange, absolutePosition, relativePosition, restAt, pagePoint, limits}
 use Rattle.hpgl.specs.Change.{withRelative, withCarriage}
 use Rattle.hpgl.specs.Rules.{origin, carried, aimed, pointCost, circleFits, circle}
-use Rattle.hpgl.specs.Machine.{noEdge}
+use Rattle.hpgl.specs.Machine.{noEdge, vertexIn}
 use Rattle.hpgl.specs.Valid.{mostChords, ShortPoint, ValidRange, ValidSettings, LocatablePosition, Placed, KeptPosition, ValidPolygon, ValidCore, SmallEdge, ValidCircle, Every, none, more}
 
 pub and-both : (x y : Bool) → x && y ≡ true → (x ≡ true) × (y ≡ true)
@@ -237,23 +239,26 @@ circle-valid {c} {r} {a} w h l u e =
       radius = record { u = h; v = bd-lit tt };
       least = l;
       most = u;
-      flat = refl;
-      right = round.end-range (axisX s) (p .x) r reach (bx .some) (in-range-small (north .0) .x);
-      left = round.end-range (axisX s) (p .x) (negℤ r) reach (bx .some) (in-range-small (west .1) .x);
-      up = round.end-range (axisY s) (p .y) r reach (by .some) (in-range-small (north .1) .y);
-      down = round.end-range (axisY s) (p .y) (negℤ r) reach (by .some) (in-range-small (south .1) .y);
+      start = in-range-small (north .0);
+      sweep = bd-lit tt;
+      some = ne-lit tt;
+      fits = arc.ends-fits (centreOf (axisX s) (p .x)) (centreOf (axisY s) (p .y)) (record { u = r; v = pos 0 }) (pos wholeTurn) a refl
+          (round.centre-bounds (axisX s) (p .x) bx (k .x) .some) (round.centre-bounds (axisY s) (p .y) by (k .y) .some)
+          (round.end-range (axisX s) (p .x) r reach (bx .some) (in-range-small (north .0) .x))
+          (round.end-range (axisX s) (p .x) (negℤ r) reach (bx .some) (in-range-small (west .1) .x))
+          (round.end-range (axisY s) (p .y) r reach (by .some) (in-range-small (north .1) .y))
+          (round.end-range (axisY s) (p .y) (negℤ r) reach (by .some) (in-range-small (south .1) .y));
     }
 
--- and then so is every vertex
-pub vertices : {o : Circle} → ValidCircle o → (i : ℕ) → SmallPoint (pointFromCentre (o .x) (o .y) (o .radius) (angleOf (o .angle) i))
-vertices {o} w i = round.ends-small (o .x) (o .y) (o .radius) (angleOf (o .angle) i) (w .flat) (w .x .some) (w .y .some) (w .right) (w .left) (w .up) (w .down)
+-- every vertex of such a circle is in range
+pub vertices : {o : Circle} → ValidCircle o → (i : ℕ) → SmallPoint (vertexIn o i)
+unfolding vertexIn arcPoint
+vertices w zero = w .start
+vertices {o} w (suc i) = rw (eqb·suc-zero i) (arc.arc-small (o .x) (o .y) (o .radius) (o .sweep) (o .angle) (omega (arith, w .least)) (w .some) (w .fits) (suc i) (omega arith))
 
 -- how many chords
-pub chords-most : {a : ℕ} → leastAngle ≤ a → chordsOf a ≤ mostChords
-unfolding chordsOf
-chords-most {a} h =
-    let k : (3600 + a - 1) / a < 721 = div-lt-iff-lt-mul {k = a} {x = 3600 + a - 1} {y = 721} (omega arith) .1 (omega arith) in
-    omega arith
+pub chords-most : {o : Circle} → ValidCircle o → partsOf (o .sweep) (o .angle) ≤ mostChords
+chords-most {o} w = arc.parts-most (o .sweep) (o .angle) (w .sweep .bd) (w .least)
 
 -- ---- the store
 

@@ -112,7 +112,7 @@ queued-valid : (t : ℕ) (es : List Edge) (j k : ℕ) (a : Action) → ValidActi
 unfolding queued
 queued-valid t es j k action.Keep h l = tt
 queued-valid t es j k (action.Line a b) h l = h
-queued-valid t es j k (action.Chords o) h l = (h, omega (arith, chords-most (h .least)))
+queued-valid t es j k (action.Chords o) h l = (h, omega (arith, chords-most h))
 queued-valid t es j k (action.Join e) h l = tt
 queued-valid t es j k action.Outline h l = omega arith
 queued-valid t es j k (action.Rectangle p q shown) h l = pick ValidWork shown (omega arith) tt

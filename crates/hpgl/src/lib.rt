@@ -88,12 +88,15 @@ pub struct Edge {
     pub down: bool,
 }
 
-// A circle: its centre split on each axis, the way from the centre to vertex zero, the chord angle in tenths of a degree.
+// A circle: its centre split on each axis, the way from the centre to vertex zero, the chord angle in tenths of a degree; the location of
+// vertex zero, and how far it goes round, in tenths of a degree.
 pub struct Circle {
     pub x: Centre,
     pub y: Centre,
     pub radius: Way,
     pub angle: u16,
+    pub start: Point,
+    pub sweep: i64,
 }
 
 // What an instruction hands to the store and to the waiting work.

@@ -29,7 +29,7 @@ use Rattle.plane.specs.Bounds.{mostNumber, WayBounds}
 use Rattle.plane.specs.Position.{relativeOf, exactOf, locationOf, inRangeOf}
 use Rattle.plane.specs.PositionLaws.{location-rounds, rebased-location, in-range, in-range-of}
 use Rattle.plane.specs.Circle.{chordsOf, angleOf, rotatedOf, vertexPointOf, centreOf, fromCentre, pointFromCentre}
-use Rattle.plane.specs.CircleLaws.{vertex-rounds, vertex-point-split, centre-range}
+use Rattle.plane.specs.CircleLaws.{vertex-rounds, vertex-point-split, centre-range, ends-small}
 use Rattle.plane.specs.Arc.{exactWay, wayOf, wayFits, partsOf, towards, bendOf, exactArc, arcOf, arcPoint, bothInRange, fitsFrom, arcFits, endsFit, roundFits}
 
 -- ---- the way
@@ -360,3 +360,11 @@ round-small cx cy w angle hx hy = go (endsFit cx (natAbs (w .u) + natAbs (w .v))
 pub round-fits : (cx cy : Centre) (w : Way) (sweep : ℤ) (a : ℕ) → pos 0 <ᶻ cx .width → pos 0 <ᶻ cy .width → roundFits cx cy w ≡ true → arcFits cx cy w sweep a ≡ true
 unfolding arcFits
 round-fits cx cy w sweep a hx hy e = each-fits cx cy w sweep a 1 (partsOf sweep a) (λ j l u. round-small cx cy w (bendOf sweep a j) hx hy e)
+
+-- and where the way lies along x, the four points at its length are enough: a circle's
+pub ends-fits : (cx cy : Centre) (w : Way) (sweep : ℤ) (a : ℕ) → w .v ≡ pos 0 → pos 0 <ᶻ cx .width → pos 0 <ᶻ cy .width →
+    Bd (fromCentre cx (w .u *ℤ pos 100000)) reach → Bd (fromCentre cx (negℤ (w .u) *ℤ pos 100000)) reach →
+    Bd (fromCentre cy (w .u *ℤ pos 100000)) reach → Bd (fromCentre cy (negℤ (w .u) *ℤ pos 100000)) reach → arcFits cx cy w sweep a ≡ true
+unfolding arcFits
+ends-fits cx cy w sweep a flat hx hy right left up down =
+    each-fits cx cy w sweep a 1 (partsOf sweep a) (λ j l u. ends-small cx cy w (bendOf sweep a j) flat hx hy right left up down)

@@ -6,7 +6,6 @@ use lib.ListN.{getD}
 use Rattle.clip.specs.declared.Point.{Point}
 use Rattle.plane.specs.declared.turn.Rows.{Rows}
 use Rattle.plane.specs.Turn.{rowsOf, turnedBy, turnedOf}
-use Rattle.plane.specs.Circle.{angleOf, pointFromCentre}
 use Rattle.hpgl.specs.declared.Settings.{Settings}
 use Rattle.hpgl.specs.declared.Circle.{Circle}
 use Rattle.hpgl.specs.declared.Edge.{Edge}
@@ -16,14 +15,14 @@ use Rattle.hpgl.specs.declared.State.{State}
 use Rattle.hpgl.specs.declared.Segment.{Segment}
 use Rattle.hpgl.specs.declared.Segment.the-variants as segment
 use Rattle.hpgl.specs.Rules.{origin}
-use Rattle.hpgl.specs.Machine.{noEdge, vertex}
+use Rattle.hpgl.specs.Machine.{noEdge, vertexIn, vertex}
 use Rattle.hpgl.specs.Segment.{chordSegment, edgeSegment, workSegment, segmentOf, SmallSegment, chord-small, page-small}
 use Rattle.hpgl.specs.Valid.{ValidSettings, SmallEdge, ValidWork}
 use Rattle.queue.specs.First.{edgePlace}
 
 -- vertex i of a circle on the page, by the table of the turn
 unfoldable pub vertexAt : Rows → Circle → ℕ → Point
-vertexAt r o i = turnedBy r (pointFromCentre (o .x) (o .y) (o .radius) (angleOf (o .angle) i))
+vertexAt r o i = turnedBy r (vertexIn o i)
 
 -- where the first waiting chord begins; of other work the origin
 unfoldable pub cornerOf : Rows → Work → Point

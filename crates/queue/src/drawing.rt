@@ -20,7 +20,7 @@ use hpgl::Edge;
 use hpgl::Segment;
 use hpgl::Stroke;
 use hpgl::Work;
-use plane::circle::vertex_angle;
+use plane::arc::bend;
 use plane::circle::vertex_point;
 use plane::turn::Rows;
 use plane::turn::rows_of;
@@ -47,10 +47,13 @@ pub fn vertex(rows: Rows, o: Circle, i: u16, sines: &[u32]) -> Point
     requires { ⌜ UnitRows rows × ValidCircle o × (now sines ≡ T.sines) ⌝ }
     ensures { λ r. ⌜ r ≡ C.vertexAt rows o i ⌝ }
 {
+    if i == 0 {
+        return turned_by(rows, o.start);
+    }
     let x = o.x;
     let y = o.y;
     let radius = o.radius;
-    let angle = vertex_angle(o.angle as usize, i as usize);
+    let angle = bend(o.sweep, o.angle as usize, i as usize);
     turned_by(rows, vertex_point(x, y, radius, sines, angle))
 }
 

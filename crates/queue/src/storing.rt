@@ -12,7 +12,7 @@ use hpgl::Action;
 use hpgl::Edge;
 use hpgl::Store;
 use hpgl::Work;
-use plane::circle::chords;
+use plane::arc::parts;
 
 fn edge(p: Point, q: Point) -> Edge
     ensures { λ r. ⌜ r ≡ M.edge p q ⌝ }
@@ -72,7 +72,7 @@ pub fn queued(count: u8, a: Action) -> Work
     match a {
         Action::Keep => Work::Nothing,
         Action::Line(p, q) => Work::Line(p, q),
-        Action::Chords(o) => Work::Chords(o, 0, chords(o.angle as usize) as u16),
+        Action::Chords(o) => Work::Chords(o, 0, parts(o.sweep, o.angle as usize) as u16),
         Action::Join(_) => Work::Nothing,
         Action::Outline => Work::Edges(0, count),
         Action::Rectangle(_, _, inked) => {

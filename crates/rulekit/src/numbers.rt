@@ -38,6 +38,9 @@ pub const MOST_ANGLE: i64 = 1200;
 
 pub const DEFAULT_ANGLE: i64 = 50;
 
+// Once round.
+pub const WHOLE_TURN: i64 = 3600;
+
 // One and a tenth, in ten-thousandths.
 pub const ONE: i64 = 10_000;
 

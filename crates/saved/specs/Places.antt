@@ -34,7 +34,7 @@ firstPlace = polygonPlace + 5
 abbrev pub savedPlace : ℕ
 savedPlace = firstPlace + 5
 
--- ---- the work, and its circle on each axis
+-- ---- the work, its circle on each axis, and where that starts and how far it goes
 
 abbrev pub workPlace : ℕ
 workPlace = savedPlace + 5
@@ -45,7 +45,10 @@ acrossPlace = workPlace + 5
 abbrev pub alongPlace : ℕ
 alongPlace = acrossPlace + 5
 
+abbrev pub startPlace : ℕ
+startPlace = alongPlace + 5
+
 -- ---- the edges, to the end of the list
 
 abbrev pub edgesPlace : ℕ
-edgesPlace = alongPlace + 5
+edgesPlace = startPlace + 5

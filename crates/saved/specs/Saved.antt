@@ -10,7 +10,7 @@ use Rattle.clip.specs.declared.Point.{Point}
 use Rattle.clip.specs.declared.Rect.{Rect}
 use Rattle.plane.specs.declared.circle.Centre.{Centre}
 use Rattle.plane.specs.declared.circle.Way.{Way}
-use Rattle.saved.specs.Places.{limitsPlace, cornersPlace, scalePlace, windowPlace, positionPlace, penPlace, polygonPlace, firstPlace, savedPlace, workPlace, acrossPlace, alongPlace, edgesPlace}
+use Rattle.saved.specs.Places.{limitsPlace, cornersPlace, scalePlace, windowPlace, positionPlace, penPlace, polygonPlace, firstPlace, savedPlace, workPlace, acrossPlace, alongPlace, startPlace, edgesPlace}
 use Rattle.saved.specs.SavedReader.{readerThen, readerAt}
 use Rattle.hpgl.specs.declared.Position.{Position}
 use Rattle.hpgl.specs.declared.Range.{Range}
@@ -142,7 +142,7 @@ carriageOf place pen polygon first saved = record {
 unfoldable pub carriageAt : List ℤ → Carriage
 carriageAt zs = carriageOf (rowAt zs positionPlace) (rowAt zs penPlace) (rowAt zs polygonPlace) (rowAt zs firstPlace) (rowAt zs savedPlace)
 
--- ---- the work: a row that ends with what it is, and the circle on each axis
+-- ---- the work: a row that ends with what it is, the circle on each axis, and its start and sweep
 
 unfoldable pub blankRow : Row
 blankRow = row (pos 0) (pos 0) (pos 0) (pos 0) (pos 0)
@@ -162,6 +162,9 @@ acrossRow o = row (o .x .base) (o .x .part) (o .x .span) (o .x .width) (o .radiu
 unfoldable pub alongRow : Circle → Row
 alongRow o = row (o .y .base) (o .y .part) (o .y .span) (o .y .width) (o .radius .v)
 
+unfoldable pub startRow : Circle → Row
+startRow o = row (o .start .x) (o .start .y) (o .sweep) (pos 0) (pos 0)
+
 unfoldable pub workRow : Work → Row
 workRow Nothing = blankRow
 workRow (Line p q) = lineRow p q
@@ -180,8 +183,14 @@ workAlong (Line p q) = blankRow
 workAlong (Chords o i n) = alongRow o
 workAlong (Edges i n) = blankRow
 
+unfoldable pub workStart : Work → Row
+workStart Nothing = blankRow
+workStart (Line p q) = blankRow
+workStart (Chords o i n) = startRow o
+workStart (Edges i n) = blankRow
+
 abbrev pub workThen : Work → List ℤ → List ℤ
-workThen w zs = lay (workRow w) (lay (workAcross w) (lay (workAlong w) zs))
+workThen w zs = lay (workRow w) (lay (workAcross w) (lay (workAlong w) (lay (workStart w) zs)))
 
 unfoldable pub workNumbers : Work → List ℤ
 workNumbers w = workThen w []
@@ -195,18 +204,25 @@ wayOf across along = record { u = across .e; v = along .e }
 unfoldable pub angleIn : Row → ℕ
 angleIn r = smallOf mostShort (r .c)
 
-unfoldable pub circleOf : Row → Row → Row → Circle
-circleOf r across along = record { x = centreOf across; y = centreOf along; radius = wayOf across along; angle = angleIn r }
+unfoldable pub circleOf : Row → Row → Row → Row → Circle
+circleOf r across along start = record {
+  x = centreOf across;
+  y = centreOf along;
+  radius = wayOf across along;
+  angle = angleIn r;
+  start = fromOf start;
+  sweep = start .c;
+}
 
-unfoldable pub workOf : Row → Row → Row → Work
-workOf r across along =
+unfoldable pub workOf : Row → Row → Row → Row → Work
+workOf r across along start =
     cond (eqb (smallIn r) 1) (Line (fromOf r) (toOf r))
-    (cond (eqb (smallIn r) 2) (Chords (circleOf r across along) (smallOf mostShort (r .a)) (smallOf mostShort (r .b)))
+    (cond (eqb (smallIn r) 2) (Chords (circleOf r across along start) (smallOf mostShort (r .a)) (smallOf mostShort (r .b)))
     (cond (eqb (smallIn r) 3) (Edges (smallOf mostByte (r .a)) (smallOf mostByte (r .b)))
     Nothing))
 
 unfoldable pub workAt : List ℤ → Work
-workAt zs = workOf (rowAt zs workPlace) (rowAt zs acrossPlace) (rowAt zs alongPlace)
+workAt zs = workOf (rowAt zs workPlace) (rowAt zs acrossPlace) (rowAt zs alongPlace) (rowAt zs startPlace)
 
 -- ---- the edges
 

@@ -21,7 +21,7 @@ use Rattle.hpgl.specs.declared.Work.the-variants.{Nothing, Line, Chords, Edges}
 use Rattle.hpgl.specs.declared.State.{State}
 use Rattle.hpgl.specs.Numbers.{mostEdges}
 use Rattle.hpgl.specs.Valid.{ValidSettings, ValidCore, ValidWork, Valid}
-use Rattle.saved.specs.Saved.{stateNumbers, flagIn, smallIn, limitsRow, cornersRow, scaleRow, windowRow, boxOf, fromOf, toOf, rangeX, rangeY, settingsOf, settingsAt, positionRow, penRow, polygonRow, positionOf, penOf, pm0Of, polygonOf, carriageOf, carriageAt, blankRow, lineRow, chordsRow, edgesRow, acrossRow, alongRow, workRow, workAcross, workAlong, centreOf, wayOf, angleIn, circleOf, workOf, workAt, edgeRow, edgesNumbers, edgeOf, edgesFrom, storeAt, savedOf, loadedOf}
+use Rattle.saved.specs.Saved.{stateNumbers, flagIn, smallIn, limitsRow, cornersRow, scaleRow, windowRow, boxOf, fromOf, toOf, rangeX, rangeY, settingsOf, settingsAt, positionRow, penRow, polygonRow, positionOf, penOf, pm0Of, polygonOf, carriageOf, carriageAt, blankRow, lineRow, chordsRow, edgesRow, acrossRow, alongRow, startRow, workRow, workAcross, workAlong, workStart, centreOf, wayOf, angleIn, circleOf, workOf, workAt, edgeRow, edgesNumbers, edgeOf, edgesFrom, storeAt, savedOf, loadedOf}
 
 -- ---- the parts, each from its place on
 
@@ -61,12 +61,12 @@ carriage-back m v =
       };
     }
 
-work-read : (w : Work) → ValidWork w → workOf (workRow w) (workAcross w) (workAlong w) ≡ w
-unfolding workOf workRow workAcross workAlong blankRow lineRow chordsRow edgesRow acrossRow alongRow circleOf centreOf wayOf angleIn fromOf toOf smallIn smallOf _≤?_
+work-read : (w : Work) → ValidWork w → workOf (workRow w) (workAcross w) (workAlong w) (workStart w) ≡ w
+unfolding workOf workRow workAcross workAlong workStart blankRow lineRow chordsRow edgesRow acrossRow alongRow startRow circleOf centreOf wayOf angleIn fromOf toOf smallIn smallOf _≤?_
 work-read Nothing v = refl
 work-read (Line p q) v = refl
 work-read (Chords o i n) v =
-    λ j. Chords (record { x = o .x; y = o .y; radius = o .radius; angle = small-back mostShort (o .angle) (omega (arith, v .0 .most)) j }) (small-back mostShort i (omega (arith, v .1)) j) (small-back mostShort n (omega (arith, v .1)) j)
+    λ j. Chords (record { x = o .x; y = o .y; radius = o .radius; angle = small-back mostShort (o .angle) (omega (arith, v .0 .most)) j; start = o .start; sweep = o .sweep }) (small-back mostShort i (omega (arith, v .1)) j) (small-back mostShort n (omega (arith, v .1)) j)
 work-read (Edges i n) v = λ j. Edges (small-back mostByte i (omega (arith, v)) j) (small-back mostByte n (omega (arith, v)) j)
 
 work-back : (m : State) → ValidWork (m .work) → workAt (savedOf m) ≡ m .work

@@ -10,7 +10,7 @@ mod edges;
 pub mod places;
 mod reading;
 pub mod sheet;
-mod work;
+pub mod work;
 
 use carriage::carriage_at;
 use carriage::put_carriage;

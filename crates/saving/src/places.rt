@@ -23,4 +23,6 @@ pub const ACROSS: usize = WORK + 5;
 
 pub const ALONG: usize = ACROSS + 5;
 
-pub const EDGES: usize = ALONG + 5;
+pub const START: usize = ALONG + 5;
+
+pub const EDGES: usize = START + 5;

@@ -1,4 +1,4 @@
-// The waiting work as three rows: what it is, with its numbers, and a circle's centre and radius on each axis.
+// The waiting work as four rows: what it is, with its numbers, a circle's centre and radius on each axis, and its start and sweep.
 ghost use mathlib.Core.Path.{_≡_};
 ghost use Prim.Native.Nat.{_≤_};
 ghost use lib.ListN.{length};
@@ -7,6 +7,7 @@ ghost use Rattle.saved.specs.Places.{workPlace, edgesPlace};
 ghost use Rattle.saved.specs.Saved as S;
 use super::places::ACROSS;
 use super::places::ALONG;
+use super::places::START;
 use super::places::WORK;
 use super::sheet::from_of;
 use super::sheet::to_of;
@@ -98,6 +99,19 @@ fn along_row(o: Circle) -> Row
     }
 }
 
+fn start_row(o: Circle) -> Row
+    ensures { λ r. ⌜ r ≡ S.startRow o ⌝ }
+{
+    let start = o.start;
+    Row {
+        a: start.x,
+        b: start.y,
+        c: o.sweep,
+        d: 0,
+        e: 0,
+    }
+}
+
 // What waits, with its numbers.
 fn work_row(w: Work) -> Row
     ensures { λ r. ⌜ r ≡ S.workRow w ⌝ }
@@ -133,6 +147,17 @@ fn work_along(w: Work) -> Row
     }
 }
 
+fn work_start(w: Work) -> Row
+    ensures { λ r. ⌜ r ≡ S.workStart w ⌝ }
+{
+    match w {
+        Work::Nothing => blank_row(),
+        Work::Line(_, _) => blank_row(),
+        Work::Chords(o, _, _) => start_row(o),
+        Work::Edges(_, _) => blank_row(),
+    }
+}
+
 fn centre_of(row: Row) -> Centre
     ensures { λ r. ⌜ r ≡ S.centreOf row ⌝ }
 {
@@ -159,8 +184,8 @@ fn angle_in(row: Row) -> u16
     short_of(row.c)
 }
 
-fn circle_of(chords: Row, across: Row, along: Row) -> Circle
-    ensures { λ r. ⌜ r ≡ S.circleOf chords across along ⌝ }
+pub fn circle_of(chords: Row, across: Row, along: Row, start: Row) -> Circle
+    ensures { λ r. ⌜ r ≡ S.circleOf chords across along start ⌝ }
 {
     let x = centre_of(across);
     let y = centre_of(along);
@@ -170,11 +195,13 @@ fn circle_of(chords: Row, across: Row, along: Row) -> Circle
         y: y,
         radius: radius,
         angle: angle_in(chords),
+        start: from_of(start),
+        sweep: start.c,
     }
 }
 
-fn work_of(row: Row, across: Row, along: Row) -> Work
-    ensures { λ r. ⌜ r ≡ S.workOf row across along ⌝ }
+fn work_of(row: Row, across: Row, along: Row, start: Row) -> Work
+    ensures { λ r. ⌜ r ≡ S.workOf row across along start ⌝ }
 {
     let tag = byte_of(row.e);
     if tag == 1 {
@@ -182,7 +209,7 @@ fn work_of(row: Row, across: Row, along: Row) -> Work
     }
     if tag == 2 {
         return Work::Chords(
-            circle_of(row, across, along),
+            circle_of(row, across, along, start),
             short_of(row.a),
             short_of(row.b),
         );
@@ -200,6 +227,7 @@ pub fn put_work(w: Work, numbers: &mut [i64])
     put_row(numbers, WORK, work_row(w));
     put_row(numbers, ACROSS, work_across(w));
     put_row(numbers, ALONG, work_along(w));
+    put_row(numbers, START, work_start(w));
 }
 
 pub fn work_at(numbers: &[i64]) -> Work
@@ -210,5 +238,6 @@ pub fn work_at(numbers: &[i64]) -> Work
         row_at(numbers, WORK),
         row_at(numbers, ACROSS),
         row_at(numbers, ALONG),
+        row_at(numbers, START),
     )
 }

@@ -19,10 +19,10 @@ use Rattle.seal.specs.Seal.{weighed}
 
 -- how many rows, and how many of them before the edges
 abbrev pub rowCount : ℕ
-rowCount = 127
+rowCount = 128
 
 abbrev pub headCount : ℕ
-headCount = 15
+headCount = 16
 
 -- the largest number of row k
 unfoldable pub mostAt : ℕ → ℕ
@@ -87,12 +87,12 @@ unfolding heavy
 heavy-grows k zero = let e : k + 0 ≡ k = omega arith in rw e (omega arith)
 heavy-grows k (suc j) = let e : k + suc j ≡ suc (k + j) = omega arith in rw e (omega (arith, heavy-grows k j))
 
-pub heavy-most : (k : ℕ) → k ≤ rowCount → heavy k ≤ 6000000000000000000
+pub heavy-most : (k : ℕ) → k ≤ rowCount → heavy k ≤ 7000000000000000000
 unfolding heavy mostAt
 heavy-most k h =
     let all : k + (rowCount - k) ≡ rowCount = omega (arith, h) in
     let last : heavy (k + (rowCount - k)) ≡ heavy rowCount = ap heavy all in
-    let whole : heavy rowCount ≤ 6000000000000000000 = leb→le (heavy rowCount) 6000000000000000000 tt in
+    let whole : heavy rowCount ≤ 7000000000000000000 = leb→le (heavy rowCount) 7000000000000000000 tt in
     omega (arith, heavy-grows k (rowCount - k), last, whole)
 
 most-at : (k : ℕ) {t : Bool} → ltb k headCount ≡ t → mostAt k ≡ cond t 2000000001000001 1000000

@@ -7,6 +7,7 @@ ghost use Rattle.hpgl.specs.Place as P;
 ghost use Rattle.hpgl.specs.Rules as R;
 ghost use Rattle.hpgl.specs.Valid.{ValidCore};
 use super::moves::inked;
+use clip::Point;
 use exact::nearest_div;
 use hpgl::Acted;
 use hpgl::Action;
@@ -24,21 +25,30 @@ use rulekit::numbers::MOST_ANGLE;
 use rulekit::numbers::OUT_OF_RANGE;
 use rulekit::numbers::TENTH;
 use rulekit::numbers::TOO_FAR;
+use rulekit::numbers::WHOLE_TURN;
 use rulekit::places::axis_x;
 use rulekit::places::axis_y;
 use rulekit::places::located;
 use rulekit::places::reachable;
 use rulekit::places::relative_position;
 
-// Whether the point a way from the position is in range.
-fn way_fits(c: Core, way: Coordinates) -> bool
+// The location of the point a way from the position.
+fn point_at(c: Core, way: Coordinates) -> Point
     requires { ⌜ ValidCore c × SmallPair way ⌝ }
-    ensures { λ r. ⌜ r ≡ P.inRange (P.location (c .settings) (P.relativePosition (c .carriage .position) way)) ⌝ }
+    ensures { λ r. ⌜ r ≡ P.location (c .settings) (P.relativePosition (c .carriage .position) way) ⌝ }
 {
     let settings = c.settings;
     let carriage = c.carriage;
     let position = carriage.position;
-    reachable(located(settings, relative_position(position, way)))
+    located(settings, relative_position(position, way))
+}
+
+// Whether it is in range.
+fn way_fits(c: Core, way: Coordinates) -> bool
+    requires { ⌜ ValidCore c × SmallPair way ⌝ }
+    ensures { λ r. ⌜ r ≡ P.inRange (P.location (c .settings) (P.relativePosition (c .carriage .position) way)) ⌝ }
+{
+    reachable(point_at(c, way))
 }
 
 // Whether the four points at 0, 90, 180 and 270 degrees are in range.
@@ -70,11 +80,14 @@ fn circle_of(c: Core, radius: i64, angle: u16) -> Circle
     let py = position.y;
     let x = centre_of(axis_x(settings), px);
     let y = centre_of(axis_y(settings), py);
+    let start = point_at(c, Coordinates { x: radius, y: 0 });
     Circle {
         x: x,
         y: y,
         radius: Way { u: radius, v: 0 },
         angle: angle,
+        start: start,
+        sweep: WHOLE_TURN,
     }
 }
 

@@ -1,6 +1,6 @@
 -- A list that passes is light: its numbers are so small that its sum fits (crate seal). Why: each row stands between two rows of literals.
 use mathlib.Core.Path.{_≡_, refl, sym, subst}
-use mathlib.Core.Bool.{Bool, true, false, cond, _&&_}
+use mathlib.Core.Bool.{Bool, true, false, cond, not, _&&_}
 use mathlib.Core.List.{List}
 use Prim.Native.Nat.{ℕ, zero, suc, _+_, _*_, _-_, _≤_, _<_}
 use native.Mathlib.Omega.{arith}
@@ -14,9 +14,9 @@ use Rattle.rows.specs.declared.Row.{Row}
 use Rattle.rows.specs.Rows.{row, rowAt}
 use Rattle.seal.specs.Light.{rowCount, headCount, mostAt, LightRow, Light}
 use Rattle.hpgl.specs.ValidFacts.{and-both}
-use Rattle.saved.specs.Places.{limitsPlace, cornersPlace, scalePlace, windowPlace, positionPlace, penPlace, polygonPlace, firstPlace, savedPlace, workPlace, acrossPlace, alongPlace, edgesPlace}
+use Rattle.saved.specs.Places.{limitsPlace, cornersPlace, scalePlace, windowPlace, positionPlace, penPlace, polygonPlace, firstPlace, savedPlace, workPlace, acrossPlace, alongPlace, startPlace, edgesPlace}
 use Rattle.saved.specs.Saved.{stateNumbers, positionOf, circleOf, settingsAt}
-use Rattle.soundness.specs.Sound.{betweenOf, fourLow, fourHigh, fiveOf, blankSound, placeSound, numbersSound, numberSound, readerSound, limitsSound, cornersSound, scaleSound, boxSound, settingsSound, placedOf, positionLow, positionHigh, positionSound, penSound, polygonSound, keptSound, positionsSound, partsSound, carriageSound, knownSound, roundOf, centreLow, centreHigh, chordsSound, blanksSound, lineSound, outlineSound, workSound, inkedSound, edgesSound, soundOf}
+use Rattle.soundness.specs.Sound.{betweenOf, fourLow, fourHigh, fiveOf, blankSound, placeSound, numbersSound, numberSound, readerSound, limitsSound, cornersSound, scaleSound, boxSound, settingsSound, placedOf, positionLow, positionHigh, positionSound, penSound, polygonSound, keptSound, positionsSound, partsSound, carriageSound, knownSound, roundOf, centreLow, centreHigh, startLow, startHigh, startSound, ringSound, chordsSound, blanksSound, lineSound, outlineSound, workSound, inkedSound, edgesSound, soundOf}
 use Rattle.soundness.specs.RowTests.{between-true}
 
 -- the largest number of the rows before the edges
@@ -112,54 +112,62 @@ blank-light : (r : Row) → blankSound r ≡ true → LightRow most r
 unfolding blankSound
 blank-light r e = light most (fiveOf 0 0 0 0 0) r (fiveOf 0 0 0 0 0) refl refl e
 
--- ---- the work's three rows
+-- ---- the work's four rows
 
-record Three (r across along : Row) : Type 0 where
+record Four (r across along start : Row) : Type 0 where
   its-row : LightRow most r
   its-across : LightRow most across
   its-along : LightRow most along
+  its-start : LightRow most start
 
-blanks-light : (r across along : Row) → LightRow most r → blanksSound across along ≡ true → Three r across along
+blanks-light : (r across along start : Row) → LightRow most r → blanksSound across along start ≡ true → Four r across along start
 unfolding blanksSound
-blanks-light r across along h e = let b = and-both (blankSound across) (blankSound along) e in record { its-row = h; its-across = blank-light across (b .0); its-along = blank-light along (b .1) }
+blanks-light r across along start h e =
+    let b = and-both (blankSound across) (blankSound along && blankSound start) e in
+    let c = and-both (blankSound along) (blankSound start) (b .1) in
+    record { its-row = h; its-across = blank-light across (b .0); its-along = blank-light along (c .0); its-start = blank-light start (c .1) }
 
-line-light : (r across along : Row) → lineSound r across along ≡ true → Three r across along
+line-light : (r across along start : Row) → lineSound r across along start ≡ true → Four r across along start
 unfolding lineSound
-line-light r across along e =
-    let b = and-both (betweenOf (fourLow 1000000 1) r (fourHigh 1000000 1)) (blanksSound across along) e in
-    blanks-light r across along (light most (fourLow 1000000 1) r (fourHigh 1000000 1) refl refl (b .0)) (b .1)
+line-light r across along start e =
+    let b = and-both (betweenOf (fourLow 1000000 1) r (fourHigh 1000000 1)) (blanksSound across along start) e in
+    blanks-light r across along start (light most (fourLow 1000000 1) r (fourHigh 1000000 1) refl refl (b .0)) (b .1)
 
-outline-light : (r across along : Row) → outlineSound r across along ≡ true → Three r across along
+outline-light : (r across along start : Row) → outlineSound r across along start ≡ true → Four r across along start
 unfolding outlineSound
-outline-light r across along e =
-    let b = and-both (betweenOf (fiveOf 0 0 0 0 3) r (fiveOf 112 112 0 0 3)) ((r .a +ℤ r .b ≤? pos 112) && blanksSound across along) e in
-    let d = and-both (r .a +ℤ r .b ≤? pos 112) (blanksSound across along) (b .1) in
-    blanks-light r across along (light most (fiveOf 0 0 0 0 3) r (fiveOf 112 112 0 0 3) refl refl (b .0)) (d .1)
+outline-light r across along start e =
+    let b = and-both (betweenOf (fiveOf 0 0 0 0 3) r (fiveOf 112 112 0 0 3)) ((r .a +ℤ r .b ≤? pos 112) && blanksSound across along start) e in
+    let d = and-both (r .a +ℤ r .b ≤? pos 112) (blanksSound across along start) (b .1) in
+    blanks-light r across along start (light most (fiveOf 0 0 0 0 3) r (fiveOf 112 112 0 0 3) refl refl (b .0)) (d .1)
 
-chords-light : (r across along : Row) → chordsSound r across along ≡ true → Three r across along
-unfolding chordsSound
-chords-light r across along e =
-    let w = betweenOf (centreLow 327680000) across (centreHigh 327680000) in
-    let h = betweenOf (centreLow 0) along (centreHigh 0) in
-    let f = roundOf (circleOf r across along) in
-    let b = and-both (betweenOf (fiveOf 0 0 5 0 2) r (fiveOf 720 720 1200 0 2)) ((r .a +ℤ r .b ≤? pos 720) && (w && (h && f))) e in
-    let c = and-both (r .a +ℤ r .b ≤? pos 720) (w && (h && f)) (b .1) in
-    let d = and-both w (h && f) (c .1) in
+chords-light : (r across along start : Row) → chordsSound r across along start ≡ true → Four r across along start
+unfolding chordsSound ringSound startSound
+chords-light r across along start e =
+    let w = betweenOf centreLow across centreHigh in
+    let h = betweenOf centreLow along centreHigh in
+    let p = betweenOf startLow start startHigh in
+    let q = not (start .c ≡? pos 0) in
+    let f = roundOf (circleOf r across along start) in
+    let b = and-both (betweenOf (fiveOf 0 0 5 0 2) r (fiveOf 720 720 1200 0 2)) ((r .a +ℤ r .b ≤? pos 720) && (w && (h && (p && q)) && f)) e in
+    let c = and-both (r .a +ℤ r .b ≤? pos 720) (w && (h && (p && q)) && f) (b .1) in
+    let d = and-both w (h && (p && q)) (and-both (w && (h && (p && q))) f (c .1) .0) in
+    let g = and-both h (p && q) (d .1) in
     record {
       its-row = light most (fiveOf 0 0 5 0 2) r (fiveOf 720 720 1200 0 2) refl refl (b .0);
-      its-across = light most (centreLow 327680000) across (centreHigh 327680000) refl refl (d .0);
-      its-along = light most (centreLow 0) along (centreHigh 0) refl refl (and-both h f (d .1) .0);
+      its-across = light most centreLow across centreHigh refl refl (d .0);
+      its-along = light most centreLow along centreHigh refl refl (g .0);
+      its-start = light most startLow start startHigh refl refl (and-both p q (g .1) .0);
     }
 
-work-light : (r across along : Row) → workSound r across along ≡ true → Three r across along
+work-light : (r across along start : Row) → workSound r across along start ≡ true → Four r across along start
 unfolding workSound
-work-light r across along = go (r .e ≡? pos 1) (r .e ≡? pos 2) (r .e ≡? pos 3)
+work-light r across along start = go (r .e ≡? pos 1) (r .e ≡? pos 2) (r .e ≡? pos 3)
   where
-    go : (s t u : Bool) → cond s (lineSound r across along) (cond t (chordsSound r across along) (cond u (outlineSound r across along) (blankSound r && blanksSound across along))) ≡ true → Three r across along
-    go true t u e = line-light r across along e
-    go false true u e = chords-light r across along e
-    go false false true e = outline-light r across along e
-    go false false false e = let b = and-both (blankSound r) (blanksSound across along) e in blanks-light r across along (blank-light r (b .0)) (b .1)
+    go : (s t u : Bool) → cond s (lineSound r across along start) (cond t (chordsSound r across along start) (cond u (outlineSound r across along start) (blankSound r && blanksSound across along start))) ≡ true → Four r across along start
+    go true t u e = line-light r across along start e
+    go false true u e = chords-light r across along start e
+    go false false true e = outline-light r across along start e
+    go false false false e = let b = and-both (blankSound r) (blanksSound across along start) e in blanks-light r across along start (blank-light r (b .0)) (b .1)
 
 -- ---- the store
 
@@ -188,9 +196,9 @@ record Head (zs : List ℤ) : Type 0 where
   r9 : LightRow most (rowAt zs polygonPlace)
   r10 : LightRow most (rowAt zs firstPlace)
   r11 : LightRow most (rowAt zs savedPlace)
-  rest : Three (rowAt zs workPlace) (rowAt zs acrossPlace) (rowAt zs alongPlace)
+  rest : Four (rowAt zs workPlace) (rowAt zs acrossPlace) (rowAt zs alongPlace) (rowAt zs startPlace)
 
-head-row : {zs : List ℤ} → Head zs → (k : ℕ) → k < 15 → LightRow most (rowAt zs (k * 5))
+head-row : {zs : List ℤ} → Head zs → (k : ℕ) → k < 16 → LightRow most (rowAt zs (k * 5))
 head-row h zero l = h .r0
 head-row h (suc zero) l = h .r1
 head-row h (suc (suc zero)) l = h .r2
@@ -206,7 +214,8 @@ head-row h (suc (suc (suc (suc (suc (suc (suc (suc (suc (suc (suc zero))))))))))
 head-row h (suc (suc (suc (suc (suc (suc (suc (suc (suc (suc (suc (suc zero)))))))))))) l = h .rest .its-row
 head-row h (suc (suc (suc (suc (suc (suc (suc (suc (suc (suc (suc (suc (suc zero))))))))))))) l = h .rest .its-across
 head-row h (suc (suc (suc (suc (suc (suc (suc (suc (suc (suc (suc (suc (suc (suc zero)))))))))))))) l = h .rest .its-along
-head-row h (suc (suc (suc (suc (suc (suc (suc (suc (suc (suc (suc (suc (suc (suc (suc k))))))))))))))) l = absurd (omega (arith, l))
+head-row h (suc (suc (suc (suc (suc (suc (suc (suc (suc (suc (suc (suc (suc (suc (suc zero))))))))))))))) l = h .rest .its-start
+head-row h (suc (suc (suc (suc (suc (suc (suc (suc (suc (suc (suc (suc (suc (suc (suc (suc k)))))))))))))))) l = absurd (omega (arith, l))
 
 light-list : (zs : List ℤ) → length zs ≡ stateNumbers → Head zs → edgesSound zs edgesPlace 112 ≡ true → Light zs
 unfolding mostAt
@@ -216,8 +225,8 @@ light-list zs e h t = record { long = e; row = λ k l. by k l (ltb k headCount) 
     by k l true g = head-row h k (ltb-true k headCount g)
     by k l false g =
         let c = ltb-false k headCount g in
-        let at : k * 5 ≡ edgesPlace + (k - 15) * 5 = omega (arith, c) in
-        rw at (edge-light zs edgesPlace 112 (k - 15) t (omega (arith, l, c)))
+        let at : k * 5 ≡ edgesPlace + (k - 16) * 5 = omega (arith, c) in
+        rw at (edge-light zs edgesPlace 112 (k - 16) t (omega (arith, l, c)))
 
 pub sound-light : (zs : List ℤ) → length zs ≡ stateNumbers → soundOf zs ≡ true → Light zs
 unfolding soundOf readerSound settingsSound carriageSound partsSound positionsSound
@@ -227,7 +236,7 @@ sound-light zs e t =
     let parts = positions && (penSound (rowAt zs penPlace) && polygonSound (rowAt zs polygonPlace)) in
     let placed = placedOf (settingsAt zs) (positionOf (rowAt zs positionPlace)) && keptSound (settingsAt zs) (rowAt zs polygonPlace) (rowAt zs firstPlace) (rowAt zs savedPlace) in
     let known = knownSound (rowAt zs 0) (rowAt zs polygonPlace) in
-    let work = workSound (rowAt zs workPlace) (rowAt zs acrossPlace) (rowAt zs alongPlace) in
+    let work = workSound (rowAt zs workPlace) (rowAt zs acrossPlace) (rowAt zs alongPlace) (rowAt zs startPlace) in
     let inked = inkedSound (rowAt zs penPlace) (rowAt zs workPlace) in
     let edges = edgesSound zs edgesPlace 112 in
     let reader = placeSound (rowAt zs 0) && (numbersSound (rowAt zs 5) && numberSound (rowAt zs 10)) in
@@ -261,6 +270,6 @@ sound-light zs e t =
       r9 = polygon-light (rowAt zs polygonPlace) (c4 .1);
       r10 = position-light (rowAt zs firstPlace) (c3 .0);
       r11 = position-light (rowAt zs savedPlace) (c3 .1);
-      rest = work-light (rowAt zs workPlace) (rowAt zs acrossPlace) (rowAt zs alongPlace) (t5 .0);
+      rest = work-light (rowAt zs workPlace) (rowAt zs acrossPlace) (rowAt zs alongPlace) (rowAt zs startPlace) (t5 .0);
     })
     (t6 .1)

@@ -1,5 +1,5 @@
 -- Which lists of numbers are a machine: the tests of each row, that together say that the list is what save writes of a valid state. SoundLaws.antt proves it, both ways.
-use mathlib.Core.Bool.{Bool, true, false, cond, _&&_}
+use mathlib.Core.Bool.{Bool, true, false, cond, not, _&&_}
 use mathlib.Core.List.{List}
 use Prim.Native.Nat.{ℕ, zero, suc, _+_, _*_, _/_}
 use lib.IntN.{ℤ, pos, negℤ, natAbs, _+ℤ_, _*ℤ_}
@@ -9,15 +9,14 @@ use Rattle.rows.specs.Rows.{row, rowAt, smallOf, mostByte}
 use Rattle.mnemonics.specs.Table.{knownInPolygon}
 use Rattle.plane.specs.declared.position.Axis.{Axis}
 use Rattle.plane.specs.declared.position.ExactPosition.{ExactPosition}
-use Rattle.plane.specs.declared.circle.Centre.{Centre}
 use Rattle.plane.specs.Bounds.{mostProduct}
 use Rattle.plane.specs.Position.{inRangeOf}
-use Rattle.plane.specs.Circle.{fromCentre}
+use Rattle.plane.specs.Arc.{arcFits}
 use Rattle.hpgl.specs.declared.Position.{Position}
 use Rattle.hpgl.specs.declared.Settings.{Settings}
 use Rattle.hpgl.specs.declared.Circle.{Circle}
 use Rattle.hpgl.specs.Place.{axisX, axisY, location, inRange}
-use Rattle.saved.specs.Places.{limitsPlace, cornersPlace, scalePlace, windowPlace, positionPlace, penPlace, polygonPlace, firstPlace, savedPlace, workPlace, acrossPlace, alongPlace, edgesPlace}
+use Rattle.saved.specs.Places.{limitsPlace, cornersPlace, scalePlace, windowPlace, positionPlace, penPlace, polygonPlace, firstPlace, savedPlace, workPlace, acrossPlace, alongPlace, startPlace, edgesPlace}
 use Rattle.saved.specs.Saved.{positionOf, circleOf, settingsAt}
 
 -- ---- rows between two rows
@@ -134,41 +133,51 @@ knownSound place polygon =
 
 -- ---- the work
 
--- the two points at a radius on one axis
-unfoldable pub endsOf : Centre → ℤ → Bool
-endsOf c r = inRangeOf (fromCentre c (r *ℤ pos 100000)) && inRangeOf (fromCentre c (negℤ r *ℤ pos 100000))
-
+-- every vertex of a circle after the first is in range
 unfoldable pub roundOf : Circle → Bool
-roundOf o = endsOf (o .x) (o .radius .u) && endsOf (o .y) (o .radius .u)
+roundOf o = arcFits (o .x) (o .y) (o .radius) (o .sweep) (o .angle)
 
--- a centre on one axis, and a radius up to n
-abbrev pub centreLow : ℕ → Row
-centreLow n = row (minus 2000000001000001) (minus 655360000) (minus 65536) (pos 1) (minus n)
+-- a centre on one axis, and the way from it
+abbrev pub centreLow : Row
+centreLow = row (minus 2000000001000001) (minus 655360000) (minus 65536) (pos 1) (minus 327680000)
 
-abbrev pub centreHigh : ℕ → Row
-centreHigh n = row (pos 2000000001000001) (pos 655360000) (pos 65536) (pos 655360000) (pos n)
+abbrev pub centreHigh : Row
+centreHigh = row (pos 2000000001000001) (pos 655360000) (pos 65536) (pos 655360000) (pos 327680000)
 
-unfoldable pub chordsSound : Row → Row → Row → Bool
-chordsSound r across along =
+-- where it starts, and how far it goes, which is not 0
+abbrev pub startLow : Row
+startLow = row (minus 1000000) (minus 1000000) (minus 3600) (pos 0) (pos 0)
+
+abbrev pub startHigh : Row
+startHigh = row (pos 1000000) (pos 1000000) (pos 3600) (pos 0) (pos 0)
+
+unfoldable pub startSound : Row → Bool
+startSound r = betweenOf startLow r startHigh && not (r .c ≡? pos 0)
+
+unfoldable pub ringSound : Row → Row → Row → Bool
+ringSound across along start = betweenOf centreLow across centreHigh && (betweenOf centreLow along centreHigh && startSound start)
+
+unfoldable pub chordsSound : Row → Row → Row → Row → Bool
+chordsSound r across along start =
     betweenOf (fiveOf 0 0 5 0 2) r (fiveOf 720 720 1200 0 2)
     && ((r .a +ℤ r .b ≤? pos 720)
-    && (betweenOf (centreLow 327680000) across (centreHigh 327680000) && (betweenOf (centreLow 0) along (centreHigh 0) && roundOf (circleOf r across along))))
+    && (ringSound across along start && roundOf (circleOf r across along start)))
 
-unfoldable pub blanksSound : Row → Row → Bool
-blanksSound across along = blankSound across && blankSound along
+unfoldable pub blanksSound : Row → Row → Row → Bool
+blanksSound across along start = blankSound across && (blankSound along && blankSound start)
 
-unfoldable pub lineSound : Row → Row → Row → Bool
-lineSound r across along = betweenOf (fourLow 1000000 1) r (fourHigh 1000000 1) && blanksSound across along
+unfoldable pub lineSound : Row → Row → Row → Row → Bool
+lineSound r across along start = betweenOf (fourLow 1000000 1) r (fourHigh 1000000 1) && blanksSound across along start
 
-unfoldable pub outlineSound : Row → Row → Row → Bool
-outlineSound r across along = betweenOf (fiveOf 0 0 0 0 3) r (fiveOf 112 112 0 0 3) && ((r .a +ℤ r .b ≤? pos 112) && blanksSound across along)
+unfoldable pub outlineSound : Row → Row → Row → Row → Bool
+outlineSound r across along start = betweenOf (fiveOf 0 0 0 0 3) r (fiveOf 112 112 0 0 3) && ((r .a +ℤ r .b ≤? pos 112) && blanksSound across along start)
 
-unfoldable pub workSound : Row → Row → Row → Bool
-workSound r across along =
-    cond (r .e ≡? pos 1) (lineSound r across along)
-    (cond (r .e ≡? pos 2) (chordsSound r across along)
-    (cond (r .e ≡? pos 3) (outlineSound r across along)
-    (blankSound r && blanksSound across along)))
+unfoldable pub workSound : Row → Row → Row → Row → Bool
+workSound r across along start =
+    cond (r .e ≡? pos 1) (lineSound r across along start)
+    (cond (r .e ≡? pos 2) (chordsSound r across along start)
+    (cond (r .e ≡? pos 3) (outlineSound r across along start)
+    (blankSound r && blanksSound across along start)))
 
 -- where a segment waits, the pen is not 0
 unfoldable pub inkedSound : Row → Row → Bool
@@ -188,6 +197,6 @@ soundOf zs =
     && (settingsSound (rowAt zs limitsPlace) (rowAt zs cornersPlace) (rowAt zs scalePlace) (rowAt zs windowPlace)
     && (carriageSound (settingsAt zs) (rowAt zs positionPlace) (rowAt zs penPlace) (rowAt zs polygonPlace) (rowAt zs firstPlace) (rowAt zs savedPlace)
     && (knownSound (rowAt zs 0) (rowAt zs polygonPlace)
-    && (workSound (rowAt zs workPlace) (rowAt zs acrossPlace) (rowAt zs alongPlace)
+    && (workSound (rowAt zs workPlace) (rowAt zs acrossPlace) (rowAt zs alongPlace) (rowAt zs startPlace)
     && (inkedSound (rowAt zs penPlace) (rowAt zs workPlace)
     && edgesSound zs edgesPlace 112)))))

@@ -17,7 +17,7 @@ use Rattle.hpgl.specs.Valid.{Knows, Valid, Usable}
 use Rattle.hpgl.specs.Made.{Made}
 use Rattle.hpgl.specs.ValidFacts.{and-both}
 use Rattle.hpgl.specs.ValidKept.{made-usable}
-use Rattle.saved.specs.Places.{limitsPlace, cornersPlace, scalePlace, windowPlace, positionPlace, penPlace, polygonPlace, firstPlace, savedPlace, workPlace, acrossPlace, alongPlace, edgesPlace}
+use Rattle.saved.specs.Places.{limitsPlace, cornersPlace, scalePlace, windowPlace, positionPlace, penPlace, polygonPlace, firstPlace, savedPlace, workPlace, acrossPlace, alongPlace, startPlace, edgesPlace}
 use Rattle.saved.specs.SavedReader.{numbersRow, numberRow, readerOf, readerAt}
 use Rattle.saved.specs.Saved.{stateNumbers, settingsOf, settingsAt, positionRow, penRow, polygonRow, penOf, pm0Of, polygonOf, carriageOf, carriageAt, workAt, storeAt, savedOf, loadedOf}
 use Rattle.saved.specs.SavedLaws.{saved-back}
@@ -54,7 +54,7 @@ by-rows : (zs : List ℤ) → length zs ≡ stateNumbers →
     zs ≡ lay (rowAt zs 0) (lay (rowAt zs 5) (lay (rowAt zs 10)
     (lay (rowAt zs limitsPlace) (lay (rowAt zs cornersPlace) (lay (rowAt zs scalePlace) (lay (rowAt zs windowPlace)
     (lay (rowAt zs positionPlace) (lay (rowAt zs penPlace) (lay (rowAt zs polygonPlace) (lay (rowAt zs firstPlace) (lay (rowAt zs savedPlace)
-    (lay (rowAt zs workPlace) (lay (rowAt zs acrossPlace) (lay (rowAt zs alongPlace) (drop edgesPlace zs)))))))))))))))
+    (lay (rowAt zs workPlace) (lay (rowAt zs acrossPlace) (lay (rowAt zs alongPlace) (lay (rowAt zs startPlace) (drop edgesPlace zs))))))))))))))))
 by-rows zs e =
     row-of 0 (omega (arith, e)) ∙ ap (lay (rowAt zs 0))
     (row-of 5 (omega (arith, e)) ∙ ap (lay (rowAt zs 5))
@@ -69,7 +69,8 @@ by-rows zs e =
     (row-of firstPlace (omega (arith, e)) ∙ ap (lay (rowAt zs firstPlace))
     (row-of savedPlace (omega (arith, e)) ∙ ap (lay (rowAt zs savedPlace))
     (row-of workPlace (omega (arith, e)) ∙ ap (lay (rowAt zs workPlace))
-    (row-of acrossPlace (omega (arith, e)) ∙ ap (lay (rowAt zs acrossPlace)) (row-of alongPlace (omega (arith, e))))))))))))))))
+    (row-of acrossPlace (omega (arith, e)) ∙ ap (lay (rowAt zs acrossPlace))
+    (row-of alongPlace (omega (arith, e)) ∙ ap (lay (rowAt zs alongPlace)) (row-of startPlace (omega (arith, e)))))))))))))))))
   where
     row-of : (i : ℕ) → i + 5 ≤ length zs → drop i zs ≡ lay (rowAt zs i) (drop (i + 5) zs)
     row-of i h = row-drop zs i h
@@ -81,7 +82,7 @@ sound-passed zs e t =
     let settings = settingsSound (rowAt zs limitsPlace) (rowAt zs cornersPlace) (rowAt zs scalePlace) (rowAt zs windowPlace) in
     let carriage = carriageSound (settingsOf (rowAt zs limitsPlace) (rowAt zs cornersPlace) (rowAt zs scalePlace) (rowAt zs windowPlace)) (rowAt zs positionPlace) (rowAt zs penPlace) (rowAt zs polygonPlace) (rowAt zs firstPlace) (rowAt zs savedPlace) in
     let known = knownSound (rowAt zs 0) (rowAt zs polygonPlace) in
-    let work = workSound (rowAt zs workPlace) (rowAt zs acrossPlace) (rowAt zs alongPlace) in
+    let work = workSound (rowAt zs workPlace) (rowAt zs acrossPlace) (rowAt zs alongPlace) (rowAt zs startPlace) in
     let inked = inkedSound (rowAt zs penPlace) (rowAt zs workPlace) in
     let edges = edgesSound zs edgesPlace 112 in
     let t1 = and-both reader (settings && (carriage && (known && (work && (inked && edges))))) t in
@@ -93,18 +94,18 @@ sound-passed zs e t =
     let r = reader-law (rowAt zs 0) (rowAt zs 5) (rowAt zs 10) (t1 .0) in
     let s = part.settings-law (rowAt zs limitsPlace) (rowAt zs cornersPlace) (rowAt zs scalePlace) (rowAt zs windowPlace) (t2 .0) in
     let c = part.carriage-law (rowAt zs positionPlace) (rowAt zs penPlace) (rowAt zs polygonPlace) (rowAt zs firstPlace) (rowAt zs savedPlace) (s .valid) (t3 .0) in
-    let w = last.work-law (rowAt zs workPlace) (rowAt zs acrossPlace) (rowAt zs alongPlace) (t5 .0) in
+    let w = last.work-law (rowAt zs workPlace) (rowAt zs acrossPlace) (rowAt zs alongPlace) (rowAt zs startPlace) (t5 .0) in
     let d = last.edges-law zs edgesPlace 112 (t6 .1) (omega (arith, e)) in
     record {
       usable = record {
         valid = record { reader = r .valid; known = last.known-law (rowAt zs 0) (rowAt zs polygonPlace) (r .its-place) (t4 .0); core = c .valid; edges = d .0; length = d .2; work = w .valid };
-        inked = record { pen = last.inked-law (rowAt zs workPlace) (rowAt zs acrossPlace) (rowAt zs alongPlace) (rowAt zs penPlace) (t6 .0) (c .pen-low) (c .pen-high) };
+        inked = record { pen = last.inked-law (rowAt zs workPlace) (rowAt zs acrossPlace) (rowAt zs alongPlace) (rowAt zs startPlace) (rowAt zs penPlace) (t6 .0) (c .pen-low) (c .pen-high) };
       };
       same =
           (λ j. lay (r .its-place .same j) (lay (r .its-numbers j) (lay (r .its-number j)
           (lay (s .limits j) (lay (s .corners j) (lay (s .scale j) (lay (s .window j)
           (lay (c .position j) (lay (c .its-pen j) (lay (c .its-polygon j) (lay (c .its-first j) (lay (c .its-saved j)
-          (lay (w .its-row j) (lay (w .its-across j) (lay (w .its-along j) (d .1 j))))))))))))))))
+          (lay (w .its-row j) (lay (w .its-across j) (lay (w .its-along j) (lay (w .its-start j) (d .1 j)))))))))))))))))
           ∙ sym (by-rows zs e);
     }
 

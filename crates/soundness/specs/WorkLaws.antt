@@ -1,13 +1,13 @@
 -- What the tests of work, pen and store say: the part that is read is valid, and is written as it was read.
 use mathlib.Core.Path.{_≡_, refl, sym, ap, ap₂, _∙_, subst}
-use mathlib.Core.Bool.{Bool, true, false, cond, _&&_}
+use mathlib.Core.Bool.{Bool, true, false, cond, not, _&&_}
 use mathlib.Core.List.{List, [], _∷_}
 use Prim.Native.Nat.{ℕ, zero, suc, _+_, _*_, _≤_, _<_}
 use native.Mathlib.Nat.{add-zero}
 use native.Mathlib.Omega.{arith}
-use borrow.Author.Tests.{eqb-true}
+use borrow.Author.Tests.{eqb-true, not-true}
 use lib.Dec.{eqb}
-use lib.IntN.{ℤ, pos, negℤ, natAbs, _+ℤ_, _*ℤ_}
+use lib.IntN.{ℤ, pos, natAbs, _+ℤ_}
 use lib.ListN.{length, getD, drop, drop-of-length-le}
 use lib.Seq.{drop-drop, getD-drop}
 use Rattle.exact.specs.Whole.{_<?_, _≤?_, _≡?_, _≤ᶻ_, _<ᶻ_, ord, ≤?-true, ≡?-true, ≡?-false, le-≤?, lt-≤?, le-<?, ne-≡?, eq-≡?, add-parts}
@@ -23,10 +23,8 @@ use Rattle.reader.specs.Inside.{inside}
 use Rattle.clip.specs.declared.Point.{Point}
 use Rattle.clip.specs.Reach.{SmallPoint}
 use Rattle.plane.specs.declared.circle.Centre.{Centre}
-use Rattle.plane.specs.Bounds.{CentreBounds}
-use Rattle.plane.specs.Position.{inRangeOf}
-use Rattle.plane.specs.PositionLaws.{in-range, in-range-of}
-use Rattle.plane.specs.Circle.{fromCentre}
+use Rattle.plane.specs.Bounds.{mostAngle, mostSweep, WayBounds, CentreBounds}
+use Rattle.plane.specs.Arc.{arcFits}
 use Rattle.hpgl.specs.declared.Edge.{Edge}
 use Rattle.hpgl.specs.declared.Circle.{Circle}
 use Rattle.hpgl.specs.declared.Polygon.{Polygon}
@@ -37,8 +35,8 @@ use Rattle.hpgl.specs.Machine.{waiting}
 use Rattle.hpgl.specs.Valid.{SmallEdge, ValidCircle, ValidWork, Every, none, more}
 use Rattle.hpgl.specs.ValidFacts.{and-both}
 use Rattle.saved.specs.SavedReader.{modeTag, modeOf, placeRow}
-use Rattle.saved.specs.Saved.{flagIn, smallIn, fromOf, toOf, penRow, polygonRow, blankRow, lineRow, chordsRow, edgesRow, acrossRow, alongRow, workRow, workAcross, workAlong, centreOf, wayOf, angleIn, circleOf, workOf, edgeRow, edgesNumbers, edgeOf, edgesFrom}
-use Rattle.soundness.specs.Sound.{betweenOf, fourLow, fourHigh, fiveOf, centreLow, centreHigh, blankSound, boxSound, knownSound, endsOf, roundOf, chordsSound, blanksSound, lineSound, outlineSound, workSound, inkedSound, edgesSound}
+use Rattle.saved.specs.Saved.{flagIn, smallIn, fromOf, toOf, penRow, polygonRow, blankRow, lineRow, chordsRow, edgesRow, acrossRow, alongRow, startRow, workRow, workAcross, workAlong, workStart, centreOf, wayOf, angleIn, circleOf, workOf, edgeRow, edgesNumbers, edgeOf, edgesFrom}
+use Rattle.soundness.specs.Sound.{betweenOf, fourLow, fourHigh, fiveOf, centreLow, centreHigh, startLow, startHigh, blankSound, boxSound, knownSound, roundOf, startSound, ringSound, chordsSound, blanksSound, lineSound, outlineSound, workSound, inkedSound, edgesSound}
 use Rattle.soundness.specs.RowTests.{both, between-true, between-of, bd-of, bd-low, bd-high, Four, four-true, four-of, five-of, zero-same, flag-same, small-is, small-same, flag-bounds, blank-same}
 use Rattle.soundness.specs.PartLaws.{PlaceLaw, box-law, box-of, unless, unless-of, mode-on, mode-off, not-both}
 
@@ -89,15 +87,24 @@ known-of m op g s h = unless-of (λ off. known-mode m op s (h (mode-off (g .mode
 
 -- ---- the work
 
-pub record WorkIs (w : Work) (r across along : Row) : Type 0 where
+pub record WorkIs (w : Work) (r across along start : Row) : Type 0 where
   pub valid : ValidWork w
   pub its-row : workRow w ≡ r
   pub its-across : workAcross w ≡ across
   pub its-along : workAlong w ≡ along
+  pub its-start : workStart w ≡ start
 
-blanks : (across along : Row) → blanksSound across along ≡ true → (blankRow ≡ across) × (blankRow ≡ along)
+record Blanks (across along start : Row) : Type 0 where
+  its-across : blankRow ≡ across
+  its-along : blankRow ≡ along
+  its-start : blankRow ≡ start
+
+blanks : (across along start : Row) → blanksSound across along start ≡ true → Blanks across along start
 unfolding blanksSound blankRow
-blanks across along t = let b = and-both (blankSound across) (blankSound along) t in (blank-same across (b .0), blank-same along (b .1))
+blanks across along start t =
+    let b = and-both (blankSound across) (blankSound along && blankSound start) t in
+    let c = and-both (blankSound along) (blankSound start) (b .1) in
+    record { its-across = blank-same across (b .0); its-along = blank-same along (c .0); its-start = blank-same start (c .1) }
 
 -- the tag of a row, where it is n
 tag-is : (r : Row) (n : ℕ) → n ≤ 255 → pos n ≤ᶻ r .e → r .e ≤ᶻ pos n → (smallIn r ≡ n) × (pos n ≡ r .e)
@@ -107,33 +114,59 @@ tag-is r n h l u =
     let e : pos n ≡ r .e = omega (arith, ord, l, u) in
     (s .1 ∙ sym (ap natAbs e), e)
 
--- a centre on one axis, and a radius
-pub centre-true : (n : ℕ) (r : Row) → betweenOf (centreLow n) r (centreHigh n) ≡ true → CentreBounds (centreOf r) × Bd (r .e) n
+-- a centre on one axis, and the way from it
+pub centre-true : (r : Row) → betweenOf centreLow r centreHigh ≡ true → CentreBounds (centreOf r) × Bd (r .e) 327680000
 unfolding centreOf
-centre-true n r t =
-    let x = between-true (centreLow n) r (centreHigh n) t in (
+centre-true r t =
+    let x = between-true centreLow r centreHigh t in (
       record { base = bd-of (x .low .a) (x .high .a); part = bd-of (x .low .b) (x .high .b); span = bd-of (x .low .c) (x .high .c); width = record { bd = omega (arith, ord, abs (r .d), x .low .d, x .high .d) }; some = omega (arith, ord, x .low .d) },
       bd-of (x .low .e) (x .high .e),
     )
 
--- what a row with this tag is read as
-module _ (r across along : Row) where
-  read-as : {w : Work} → workOf r across along ≡ w → WorkIs w r across along → WorkIs (workOf r across along) r across along
-  read-as e = subst (λ (x : Work). WorkIs x r across along) (sym e)
+-- where it starts, and how far it goes
+pub start-true : (r : Row) → betweenOf startLow r startHigh ≡ true → SmallPoint (fromOf r) × Bd (r .c) 3600 × (pos 0 ≡ r .d) × (pos 0 ≡ r .e)
+unfolding fromOf
+start-true r t =
+    let x = between-true startLow r startHigh t in
+    (record { x = bd-of (x .low .a) (x .high .a); y = bd-of (x .low .b) (x .high .b) }, bd-of (x .low .c) (x .high .c), zero-same (x .low .d) (x .high .d), zero-same (x .low .e) (x .high .e))
 
-  line-law : lineSound r across along ≡ true → WorkIs (workOf r across along) r across along
-  unfolding lineSound workOf workRow workAcross workAlong lineRow fromOf toOf
+-- what `arc_fits` asks of such a circle
+pub ring-true : (r across along start : Row) → betweenOf (fiveOf 0 0 5 0 2) r (fiveOf 720 720 1200 0 2) ≡ true → ringSound across along start ≡ true →
+    let o = circleOf r across along start in
+    CentreBounds (o .x) × CentreBounds (o .y) × WayBounds (o .radius) × Bd (o .sweep) mostSweep × (0 < o .angle) × (o .angle ≤ mostAngle)
+unfolding ringSound startSound circleOf centreOf wayOf angleIn
+ring-true r across along start t u =
+    let bs = betweenOf startLow start startHigh in
+    let some = not (start .c ≡? pos 0) in
+    let t1 = and-both (betweenOf centreLow across centreHigh) (betweenOf centreLow along centreHigh && (bs && some)) u in
+    let t2 = and-both (betweenOf centreLow along centreHigh) (bs && some) (t1 .1) in
+    let x = centre-true across (t1 .0) in
+    let y = centre-true along (t2 .0) in
+    let z = start-true start (and-both bs some (t2 .1) .0) in
+    let f = between-true (fiveOf 0 0 5 0 2) r (fiveOf 720 720 1200 0 2) t in
+    let c0 : pos 0 ≤ᶻ r .c = omega (arith, ord, f .low .c) in
+    let n = small-is (r .c) mostShort c0 (f .high .c) (omega arith) in
+    (x .0, y .0, record { u = x .1; v = y .1 }, z .1, omega (arith, ord, f .low .c, n .1, abs (r .c)), omega (arith, n .1, n .2))
+
+-- what a row with this tag is read as
+module _ (r across along start : Row) where
+  read-as : {w : Work} → workOf r across along start ≡ w → WorkIs w r across along start → WorkIs (workOf r across along start) r across along start
+  read-as e = subst (λ (x : Work). WorkIs x r across along start) (sym e)
+
+  line-law : lineSound r across along start ≡ true → WorkIs (workOf r across along start) r across along start
+  unfolding lineSound workOf workRow workAcross workAlong workStart lineRow fromOf toOf
   line-law t =
-      let u = and-both (betweenOf (fourLow 1000000 1) r (fourHigh 1000000 1)) (blanksSound across along) t in
+      let u = and-both (betweenOf (fourLow 1000000 1) r (fourHigh 1000000 1)) (blanksSound across along start) t in
       let f = four-true 1000000 1 1 r (u .0) in
-      let b = blanks across along (u .1) in
+      let b = blanks across along start (u .1) in
       let k = tag-is r 1 (omega arith) (f .low) (f .high) in
       read-as {w = Line (fromOf r) (toOf r)} (rw (k .0) refl)
       (record {
         valid = (record { x = f .a; y = f .b }, record { x = f .c; y = f .d });
         its-row = λ i. row (r .a) (r .b) (r .c) (r .d) (k .1 i);
-        its-across = b .0;
-        its-along = b .1;
+        its-across = b .its-across;
+        its-along = b .its-along;
+        its-start = b .its-start;
       })
 
   -- two counts with a bounded sum
@@ -143,91 +176,85 @@ module _ (r across along : Row) where
       let q = small-is (r .b) most lb ub h in
       omega (arith, ord, s, add-parts (r .a) (r .b), abs (r .a), abs (r .b), la, lb, p .1, q .1)
 
-  outline-law : outlineSound r across along ≡ true → WorkIs (workOf r across along) r across along
-  unfolding outlineSound workOf workRow workAcross workAlong edgesRow
+  outline-law : outlineSound r across along start ≡ true → WorkIs (workOf r across along start) r across along start
+  unfolding outlineSound workOf workRow workAcross workAlong workStart edgesRow
   outline-law t =
-      let u = and-both (betweenOf (fiveOf 0 0 0 0 3) r (fiveOf 112 112 0 0 3)) ((r .a +ℤ r .b ≤? pos 112) && blanksSound across along) t in
-      let v = and-both (r .a +ℤ r .b ≤? pos 112) (blanksSound across along) (u .1) in
+      let u = and-both (betweenOf (fiveOf 0 0 0 0 3) r (fiveOf 112 112 0 0 3)) ((r .a +ℤ r .b ≤? pos 112) && blanksSound across along start) t in
+      let v = and-both (r .a +ℤ r .b ≤? pos 112) (blanksSound across along start) (u .1) in
       let f = between-true (fiveOf 0 0 0 0 3) r (fiveOf 112 112 0 0 3) (u .0) in
-      let b = blanks across along (v .1) in
+      let b = blanks across along start (v .1) in
       let k = tag-is r 3 (omega arith) (f .low .e) (f .high .e) in
       read-as {w = Edges (smallOf mostByte (r .a)) (smallOf mostByte (r .b))} (rw (k .0) refl)
       (record {
         valid = sum-most 112 mostByte (omega arith) (f .low .a) (f .high .a) (f .low .b) (f .high .b) (≤?-true (r .a +ℤ r .b) (pos 112) (v .0));
         its-row = λ i. row (small-same (r .a) mostByte (f .low .a) (f .high .a) (omega arith) i) (small-same (r .b) mostByte (f .low .b) (f .high .b) (omega arith) i) (zero-same (f .low .c) (f .high .c) i) (zero-same (f .low .d) (f .high .d) i) (k .1 i);
-        its-across = b .0;
-        its-along = b .1;
+        its-across = b .its-across;
+        its-along = b .its-along;
+        its-start = b .its-start;
       })
 
-  chords-law : chordsSound r across along ≡ true → WorkIs (workOf r across along) r across along
-  unfolding chordsSound roundOf endsOf workOf workRow workAcross workAlong chordsRow acrossRow alongRow circleOf centreOf wayOf angleIn
+  chords-law : chordsSound r across along start ≡ true → WorkIs (workOf r across along start) r across along start
+  unfolding chordsSound ringSound startSound roundOf workOf workRow workAcross workAlong workStart chordsRow acrossRow alongRow startRow circleOf centreOf wayOf angleIn fromOf
   chords-law t =
-      let o = circleOf r across along in
-      let right = inRangeOf (fromCentre (o .x) (o .radius .u *ℤ pos 100000)) in
-      let left = inRangeOf (fromCentre (o .x) (negℤ (o .radius .u) *ℤ pos 100000)) in
-      let up = inRangeOf (fromCentre (o .y) (o .radius .u *ℤ pos 100000)) in
-      let down = inRangeOf (fromCentre (o .y) (negℤ (o .radius .u) *ℤ pos 100000)) in
-      let bx = betweenOf (centreLow 327680000) across (centreHigh 327680000) in
-      let by = betweenOf (centreLow 0) along (centreHigh 0) in
-      let t1 = and-both (betweenOf (fiveOf 0 0 5 0 2) r (fiveOf 720 720 1200 0 2)) ((r .a +ℤ r .b ≤? pos 720) && (bx && (by && (right && left && (up && down))))) t in
-      let t2 = and-both (r .a +ℤ r .b ≤? pos 720) (bx && (by && (right && left && (up && down)))) (t1 .1) in
-      let t3 = and-both bx (by && (right && left && (up && down))) (t2 .1) in
-      let t4 = and-both by (right && left && (up && down)) (t3 .1) in
-      let t5 = and-both (right && left) (up && down) (t4 .1) in
-      let t6 = and-both right left (t5 .0) in
-      let t7 = and-both up down (t5 .1) in
+      let o = circleOf r across along start in
+      let bx = betweenOf centreLow across centreHigh in
+      let by = betweenOf centreLow along centreHigh in
+      let bs = betweenOf startLow start startHigh in
+      let some = not (start .c ≡? pos 0) in
+      let round = arcFits (o .x) (o .y) (o .radius) (o .sweep) (o .angle) in
+      let t1 = and-both (betweenOf (fiveOf 0 0 5 0 2) r (fiveOf 720 720 1200 0 2)) ((r .a +ℤ r .b ≤? pos 720) && (bx && (by && (bs && some)) && round)) t in
+      let t2 = and-both (r .a +ℤ r .b ≤? pos 720) (bx && (by && (bs && some)) && round) (t1 .1) in
+      let t3 = and-both (bx && (by && (bs && some))) round (t2 .1) in
+      let t4 = and-both bx (by && (bs && some)) (t3 .0) in
+      let t5 = and-both by (bs && some) (t4 .1) in
+      let t6 = and-both bs some (t5 .1) in
       let f = between-true (fiveOf 0 0 5 0 2) r (fiveOf 720 720 1200 0 2) (t1 .0) in
-      let x = between-true (centreLow 327680000) across (centreHigh 327680000) (t3 .0) in
-      let y = between-true (centreLow 0) along (centreHigh 0) (t4 .0) in
+      let x = centre-true across (t4 .0) in
+      let y = centre-true along (t5 .0) in
+      let z = start-true start (t6 .0) in
       let k = tag-is r 2 (omega arith) (f .low .e) (f .high .e) in
       let c0 : pos 0 ≤ᶻ r .c = omega (arith, ord, f .low .c) in
       let n = small-is (r .c) mostShort c0 (f .high .c) (omega arith) in
-      read-as {w = Chords (circleOf r across along) (smallOf mostShort (r .a)) (smallOf mostShort (r .b))} (rw (k .0) refl)
+      read-as {w = Chords (circleOf r across along start) (smallOf mostShort (r .a)) (smallOf mostShort (r .b))} (rw (k .0) refl)
       (record {
         valid = (
           record {
-            x = record { base = bd-of (x .low .a) (x .high .a); part = bd-of (x .low .b) (x .high .b); span = bd-of (x .low .c) (x .high .c); width = wide (across .d) (x .low .d) (x .high .d); some = omega (arith, ord, x .low .d) };
-            y = record { base = bd-of (y .low .a) (y .high .a); part = bd-of (y .low .b) (y .high .b); span = bd-of (y .low .c) (y .high .c); width = wide (along .d) (y .low .d) (y .high .d); some = omega (arith, ord, y .low .d) };
-            radius = record { u = bd-of (x .low .e) (x .high .e); v = none-of (along .e) (y .low .e) (y .high .e) };
+            x = x .0;
+            y = y .0;
+            radius = record { u = x .1; v = y .1 };
             least = omega (arith, ord, f .low .c, n .1, abs (r .c));
             most = omega (arith, n .1, n .2);
-            flat = sym (zero-same (y .low .e) (y .high .e));
-            right = in-range (fromCentre (o .x) (o .radius .u *ℤ pos 100000)) (t6 .0);
-            left = in-range (fromCentre (o .x) (negℤ (o .radius .u) *ℤ pos 100000)) (t6 .1);
-            up = in-range (fromCentre (o .y) (o .radius .u *ℤ pos 100000)) (t7 .0);
-            down = in-range (fromCentre (o .y) (negℤ (o .radius .u) *ℤ pos 100000)) (t7 .1);
+            start = z .0;
+            sweep = z .1;
+            some = ≡?-false (start .c) (pos 0) (not-true (start .c ≡? pos 0) (t6 .1));
+            fits = t3 .1;
           },
           sum-most 720 mostShort (omega arith) (f .low .a) (f .high .a) (f .low .b) (f .high .b) (≤?-true (r .a +ℤ r .b) (pos 720) (t2 .0)),
         );
         its-row = λ i. row (small-same (r .a) mostShort (f .low .a) (f .high .a) (omega arith) i) (small-same (r .b) mostShort (f .low .b) (f .high .b) (omega arith) i) (n .0 i) (zero-same (f .low .d) (f .high .d) i) (k .1 i);
         its-across = refl;
         its-along = refl;
+        its-start = λ i. row (start .a) (start .b) (start .c) (z .2 i) (z .3 i);
       })
-    where
-      wide : (z : ℤ) → pos 1 ≤ᶻ z → z ≤ᶻ pos 655360000 → Bd z 655360000
-      wide z l u = record { bd = omega (arith, ord, abs z, l, u) }
 
-      none-of : (z : ℤ) → pos 0 ≤ᶻ z → z ≤ᶻ pos 0 → Bd z 327680000
-      none-of z l u = record { bd = omega (arith, ord, abs z, l, u) }
-
-  nothing-law : blankSound r && blanksSound across along ≡ true → WorkIs (workOf r across along) r across along
-  unfolding workOf workRow workAcross workAlong blankRow
+  nothing-law : blankSound r && blanksSound across along start ≡ true → WorkIs (workOf r across along start) r across along start
+  unfolding workOf workRow workAcross workAlong workStart blankRow
   nothing-law t =
-      let u = and-both (blankSound r) (blanksSound across along) t in
-      let b = blanks across along (u .1) in
+      let u = and-both (blankSound r) (blanksSound across along start) t in
+      let b = blanks across along start (u .1) in
       let s = blank-same r (u .0) in
       let k = tag-is r 0 (omega arith) (omega (arith, ord, last s)) (omega (arith, ord, last s)) in
-      read-as {w = Nothing} (rw (k .0) refl) (record { valid = tt; its-row = s; its-across = b .0; its-along = b .1 })
+      read-as {w = Nothing} (rw (k .0) refl) (record { valid = tt; its-row = s; its-across = b .its-across; its-along = b .its-along; its-start = b .its-start })
     where
       last : row (pos 0) (pos 0) (pos 0) (pos 0) (pos 0) ≡ r → pos 0 ≡ r .e
       last s = ap (λ (x : Row). x .e) s
 
-  pub work-law : workSound r across along ≡ true → WorkIs (workOf r across along) r across along
+  pub work-law : workSound r across along start ≡ true → WorkIs (workOf r across along start) r across along start
   unfolding workSound
   work-law = go (r .e ≡? pos 1) (r .e ≡? pos 2) (r .e ≡? pos 3)
     where
-      go : (s t u : Bool) → cond s (lineSound r across along) (cond t (chordsSound r across along) (cond u (outlineSound r across along) (blankSound r && blanksSound across along))) ≡ true →
-          WorkIs (workOf r across along) r across along
+      go : (s t u : Bool) → cond s (lineSound r across along start) (cond t (chordsSound r across along start) (cond u (outlineSound r across along start) (blankSound r && blanksSound across along start))) ≡ true →
+          WorkIs (workOf r across along start) r across along start
       go true t u h = line-law h
       go false true u h = chords-law h
       go false false true h = outline-law h
@@ -239,74 +266,78 @@ blank-of : blankSound blankRow ≡ true
 unfolding blankSound blankRow
 blank-of = five-of (omega arith) (omega arith) (omega arith) (omega arith) (omega arith)
 
-blanks-of : blanksSound blankRow blankRow ≡ true
+blanks-of : blanksSound blankRow blankRow blankRow ≡ true
 unfolding blanksSound
-blanks-of = both blank-of blank-of
+blanks-of = both blank-of (both blank-of blank-of)
 
-round-true : (o : Circle) → ValidCircle o → roundOf o ≡ true
-unfolding roundOf endsOf
-round-true o v =
-    both (both (in-range-of (fromCentre (o .x) (o .radius .u *ℤ pos 100000)) (v .right)) (in-range-of (fromCentre (o .x) (negℤ (o .radius .u) *ℤ pos 100000)) (v .left)))
-    (both (in-range-of (fromCentre (o .y) (o .radius .u *ℤ pos 100000)) (v .up)) (in-range-of (fromCentre (o .y) (negℤ (o .radius .u) *ℤ pos 100000)) (v .down)))
-
-circle-back : (o : Circle) (i n : ℕ) → ValidCircle o → circleOf (chordsRow o i n) (acrossRow o) (alongRow o) ≡ o
-unfolding circleOf centreOf wayOf angleIn chordsRow acrossRow alongRow
-circle-back o i n v = λ j. record { x = o .x; y = o .y; radius = o .radius; angle = small-back mostShort (o .angle) (omega (arith, v .most)) j }
+circle-back : (o : Circle) (i n : ℕ) → ValidCircle o → circleOf (chordsRow o i n) (acrossRow o) (alongRow o) (startRow o) ≡ o
+unfolding circleOf centreOf wayOf angleIn fromOf chordsRow acrossRow alongRow startRow
+circle-back o i n v = λ j. record { x = o .x; y = o .y; radius = o .radius; angle = small-back mostShort (o .angle) (omega (arith, v .most)) j; start = o .start; sweep = o .sweep }
 
 sum-of : (i n : ℕ) {k : ℕ} → i + n ≤ k → pos i +ℤ pos n ≤ᶻ pos k
 sum-of i n {k} h = omega (arith, ord, add-parts (pos i) (pos n))
 
-centre-of : (n : ℕ) (c : Centre) (z : ℤ) → CentreBounds c → Bd z n → betweenOf (centreLow n) (row (c .base) (c .part) (c .span) (c .width) z) (centreHigh n) ≡ true
-centre-of n c z h k =
-    between-of (centreLow n) (row (c .base) (c .part) (c .span) (c .width) z) (centreHigh n)
+centre-of : (c : Centre) (z : ℤ) → CentreBounds c → Bd z 327680000 → betweenOf centreLow (row (c .base) (c .part) (c .span) (c .width) z) centreHigh ≡ true
+centre-of c z h k =
+    between-of centreLow (row (c .base) (c .part) (c .span) (c .width) z) centreHigh
     (record {
       low = record { a = bd-low (h .base); b = bd-low (h .part); c = bd-low (h .span); d = omega (arith, ord, h .some); e = bd-low k };
       high = record { a = bd-high (h .base); b = bd-high (h .part); c = bd-high (h .span); d = bd-high (h .width); e = bd-high k };
     })
 
+start-of : (o : Circle) → ValidCircle o → startSound (startRow o) ≡ true
+unfolding startSound startRow
+start-of o v =
+    both
+    (between-of startLow (startRow o) startHigh
+    (record {
+      low = record { a = bd-low (v .start .x); b = bd-low (v .start .y); c = bd-low (v .sweep); d = omega (arith, ord); e = omega (arith, ord) };
+      high = record { a = bd-high (v .start .x); b = bd-high (v .start .y); c = bd-high (v .sweep); d = omega (arith, ord); e = omega (arith, ord) };
+    }))
+    (ap not (ne-≡? (v .some)))
+
 -- each by its tag
 not-tag : (z : ℤ) (n k : ℕ) → z ≡ pos n → (n ≡ k → ⊥) → (z ≡? pos k) ≡ false
 not-tag z n k e h = ne-≡? (λ (f : z ≡ pos k). h (omega (arith, ord, e, f)))
 
-tag-one : (r across along : Row) → r .e ≡ pos 1 → lineSound r across along ≡ true → workSound r across along ≡ true
+tag-one : (r across along start : Row) → r .e ≡ pos 1 → lineSound r across along start ≡ true → workSound r across along start ≡ true
 unfolding workSound
-tag-one r across along e h = rw (eq-≡? e) h
+tag-one r across along start e h = rw (eq-≡? e) h
 
-tag-two : (r across along : Row) → r .e ≡ pos 2 → chordsSound r across along ≡ true → workSound r across along ≡ true
+tag-two : (r across along start : Row) → r .e ≡ pos 2 → chordsSound r across along start ≡ true → workSound r across along start ≡ true
 unfolding workSound
-tag-two r across along e h = rw (not-tag (r .e) 2 1 e (omega arith), eq-≡? e) h
+tag-two r across along start e h = rw (not-tag (r .e) 2 1 e (omega arith), eq-≡? e) h
 
-tag-three : (r across along : Row) → r .e ≡ pos 3 → outlineSound r across along ≡ true → workSound r across along ≡ true
+tag-three : (r across along start : Row) → r .e ≡ pos 3 → outlineSound r across along start ≡ true → workSound r across along start ≡ true
 unfolding workSound
-tag-three r across along e h = rw (not-tag (r .e) 3 1 e (omega arith), not-tag (r .e) 3 2 e (omega arith), eq-≡? e) h
+tag-three r across along start e h = rw (not-tag (r .e) 3 1 e (omega arith), not-tag (r .e) 3 2 e (omega arith), eq-≡? e) h
 
-tag-none : (r across along : Row) → r .e ≡ pos 0 → blankSound r && blanksSound across along ≡ true → workSound r across along ≡ true
+tag-none : (r across along start : Row) → r .e ≡ pos 0 → blankSound r && blanksSound across along start ≡ true → workSound r across along start ≡ true
 unfolding workSound
-tag-none r across along e h = rw (not-tag (r .e) 0 1 e (omega arith), not-tag (r .e) 0 2 e (omega arith), not-tag (r .e) 0 3 e (omega arith)) h
+tag-none r across along start e h = rw (not-tag (r .e) 0 1 e (omega arith), not-tag (r .e) 0 2 e (omega arith), not-tag (r .e) 0 3 e (omega arith)) h
 
-line-of : (p q : Point) → SmallPoint p → SmallPoint q → lineSound (lineRow p q) blankRow blankRow ≡ true
+line-of : (p q : Point) → SmallPoint p → SmallPoint q → lineSound (lineRow p q) blankRow blankRow blankRow ≡ true
 unfolding lineSound lineRow
 line-of p q a b = both (four-of 1000000 1 1 (lineRow p q) (record { a = a .x; b = a .y; c = b .x; d = b .y; low = omega (arith, ord); high = omega (arith, ord) })) blanks-of
 
-chords-of : (o : Circle) (i n : ℕ) → ValidCircle o → i + n ≤ 720 → chordsSound (chordsRow o i n) (acrossRow o) (alongRow o) ≡ true
-unfolding chordsSound chordsRow acrossRow alongRow
+chords-of : (o : Circle) (i n : ℕ) → ValidCircle o → i + n ≤ 720 → chordsSound (chordsRow o i n) (acrossRow o) (alongRow o) (startRow o) ≡ true
+unfolding chordsSound ringSound chordsRow acrossRow alongRow roundOf
 chords-of o i n v s =
     both (five-of (omega (arith, s)) (omega (arith, s)) (omega (arith, v .least, v .most)) (omega arith) (omega arith))
     (both (le-≤? (sum-of i n s))
-    (both (centre-of 327680000 (o .x) (o .radius .u) (v .x) (v .radius .u))
-    (both (centre-of 0 (o .y) (o .radius .v) (v .y) (record { bd = omega (arith, ap natAbs (v .flat)) }))
-    (ap roundOf (circle-back o i n v) ∙ round-true o v))))
+    (both (both (centre-of (o .x) (o .radius .u) (v .x) (v .radius .u)) (both (centre-of (o .y) (o .radius .v) (v .y) (v .radius .v)) (start-of o v)))
+    (ap roundOf (circle-back o i n v) ∙ v .fits)))
 
-outline-of : (i n : ℕ) → i + n ≤ 112 → outlineSound (edgesRow i n) blankRow blankRow ≡ true
+outline-of : (i n : ℕ) → i + n ≤ 112 → outlineSound (edgesRow i n) blankRow blankRow blankRow ≡ true
 unfolding outlineSound edgesRow
 outline-of i n s = both (five-of (omega (arith, s)) (omega (arith, s)) (omega arith) (omega arith) (omega arith)) (both (le-≤? (sum-of i n s)) blanks-of)
 
-pub work-of : (w : Work) → ValidWork w → workSound (workRow w) (workAcross w) (workAlong w) ≡ true
-unfolding workRow workAcross workAlong blankRow lineRow chordsRow edgesRow
-work-of Nothing v = tag-none blankRow blankRow blankRow refl (both blank-of blanks-of)
-work-of (Line p q) v = tag-one (lineRow p q) blankRow blankRow refl (line-of p q (v .0) (v .1))
-work-of (Chords o i n) v = tag-two (chordsRow o i n) (acrossRow o) (alongRow o) refl (chords-of o i n (v .0) (v .1))
-work-of (Edges i n) v = tag-three (edgesRow i n) blankRow blankRow refl (outline-of i n v)
+pub work-of : (w : Work) → ValidWork w → workSound (workRow w) (workAcross w) (workAlong w) (workStart w) ≡ true
+unfolding workRow workAcross workAlong workStart blankRow lineRow chordsRow edgesRow
+work-of Nothing v = tag-none blankRow blankRow blankRow blankRow refl (both blank-of blanks-of)
+work-of (Line p q) v = tag-one (lineRow p q) blankRow blankRow blankRow refl (line-of p q (v .0) (v .1))
+work-of (Chords o i n) v = tag-two (chordsRow o i n) (acrossRow o) (alongRow o) (startRow o) refl (chords-of o i n (v .0) (v .1))
+work-of (Edges i n) v = tag-three (edgesRow i n) blankRow blankRow blankRow refl (outline-of i n v)
 
 -- ---- the pen
 
@@ -329,23 +360,23 @@ none-read most z e =
     let s = small-is z {n = 0} most (omega (arith, ord, e)) (omega (arith, ord, e)) (omega arith) in
     omega (arith, s .1, s .2)
 
-module _ (r across along : Row) where
-  waiting-none : r .e ≡ pos 0 → waiting (workOf r across along) ≡ 0
+module _ (r across along start : Row) where
+  waiting-none : r .e ≡ pos 0 → waiting (workOf r across along start) ≡ 0
   unfolding workOf waiting smallIn
   waiting-none e = rw (none-read mostByte (r .e) e) refl
 
-  waiting-done : (smallIn r ≡ 1 → ⊥) → r .b ≡ pos 0 → waiting (workOf r across along) ≡ 0
+  waiting-done : (smallIn r ≡ 1 → ⊥) → r .b ≡ pos 0 → waiting (workOf r across along start) ≡ 0
   unfolding workOf waiting
   waiting-done h e = go (eqb (smallIn r) 1) refl (eqb (smallIn r) 2) (eqb (smallIn r) 3)
     where
       go : (s : Bool) → eqb (smallIn r) 1 ≡ s → (t u : Bool) →
-          waiting (cond s (Line (fromOf r) (toOf r)) (cond t (Chords (circleOf r across along) (smallOf mostShort (r .a)) (smallOf mostShort (r .b))) (cond u (Edges (smallOf mostByte (r .a)) (smallOf mostByte (r .b))) Nothing))) ≡ 0
+          waiting (cond s (Line (fromOf r) (toOf r)) (cond t (Chords (circleOf r across along start) (smallOf mostShort (r .a)) (smallOf mostShort (r .b))) (cond u (Edges (smallOf mostByte (r .a)) (smallOf mostByte (r .b))) Nothing))) ≡ 0
       go true f t u = absurd (h (eqb-true (smallIn r) 1 f))
       go false f true u = none-read mostShort (r .b) e
       go false f false true = none-read mostByte (r .b) e
       go false f false false = refl
 
-  pub inked-law : (pen : Row) → inkedSound pen r ≡ true → pos 0 ≤ᶻ pen .a → pen .a ≤ᶻ pos 8 → 0 < waiting (workOf r across along) → smallOf mostByte (pen .a) ≡ 0 → ⊥
+  pub inked-law : (pen : Row) → inkedSound pen r ≡ true → pos 0 ≤ᶻ pen .a → pen .a ≤ᶻ pos 8 → 0 < waiting (workOf r across along start) → smallOf mostByte (pen .a) ≡ 0 → ⊥
   unfolding inkedSound
   inked-law pen t l u h p = by (r .e ≡? pos 0) refl (r .e ≡? pos 1) refl (unless t (lt-≤? zero-pen))
     where

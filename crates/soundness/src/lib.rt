@@ -3,7 +3,7 @@
 ghost use mathlib.Core.Path.{_≡_};
 ghost use lib.ListN.{length};
 ghost use Rattle.hpgl.specs.Valid.{ValidSettings};
-ghost use Rattle.saved.specs.Places.{limitsPlace, cornersPlace, scalePlace, windowPlace, positionPlace, penPlace, polygonPlace, firstPlace, savedPlace, workPlace, acrossPlace, alongPlace, edgesPlace};
+ghost use Rattle.saved.specs.Places.{limitsPlace, cornersPlace, scalePlace, windowPlace, positionPlace, penPlace, polygonPlace, firstPlace, savedPlace, workPlace, acrossPlace, alongPlace, startPlace, edgesPlace};
 ghost use Rattle.saved.specs.Saved.{stateNumbers, settingsAt};
 ghost use Rattle.rows.specs.Rows.{rowAt};
 ghost use Rattle.soundness.specs.Sound as S;
@@ -31,6 +31,7 @@ use saving::places::POLYGON;
 use saving::places::POSITION;
 use saving::places::SAVED;
 use saving::places::SCALE;
+use saving::places::START;
 use saving::places::WINDOW;
 use saving::places::WORK;
 use saving::sheet::settings_at;
@@ -87,12 +88,13 @@ fn known_here(numbers: &[i64]) -> bool
 
 fn work_here(numbers: &[i64]) -> bool
     requires { ⌜ length (now numbers) ≡ stateNumbers ⌝ }
-    ensures { λ r. ⌜ r ≡ S.workSound (rowAt (now (numbers .entry)) workPlace) (rowAt (now (numbers .entry)) acrossPlace) (rowAt (now (numbers .entry)) alongPlace) ⌝ }
+    ensures { λ r. ⌜ r ≡ S.workSound (rowAt (now (numbers .entry)) workPlace) (rowAt (now (numbers .entry)) acrossPlace) (rowAt (now (numbers .entry)) alongPlace) (rowAt (now (numbers .entry)) startPlace) ⌝ }
 {
     work_sound(
         row_at(numbers, WORK),
         row_at(numbers, ACROSS),
         row_at(numbers, ALONG),
+        row_at(numbers, START),
     )
 }
 

@@ -1,76 +1,47 @@
-// The work's three rows: a line, chords, the edges of the store, or nothing.
+// The work's four rows: a line, chords, the edges of the store, or nothing.
 ghost use mathlib.Core.Path.{_≡_};
-ghost use lib.IntN.{pos, _*ℤ_};
+ghost use Prim.Native.Nat.{_≤_, _<_};
 ghost use Rattle.exact.specs.Fit.{Bd};
-ghost use Rattle.plane.specs.Bounds.{mostNumber, CentreBounds};
-ghost use Rattle.plane.specs.Position.{inRangeOf};
-ghost use Rattle.plane.specs.Circle.{fromCentre};
-ghost use Rattle.saved.specs.Saved.{centreOf, circleOf};
+ghost use Rattle.plane.specs.Bounds.{mostAngle, mostSweep, WayBounds, CentreBounds};
 ghost use Rattle.soundness.specs.Sound as S;
 use super::tests::between;
 use super::tests::blank;
 use super::tests::sum_below;
-use plane::circle::Centre;
-use plane::circle::vertex;
-use plane::position::in_range;
+use hpgl::Circle;
+use plane::arc::arc_fits;
+use plane::arc::round_fits;
 use rows::Row;
+use saving::work::circle_of;
+use sines::table;
 
-// What a radius is scaled by.
-const SCALE: i64 = 100_000;
-
-// Whether the point a radius from a centre is in range.
-fn end_fits(c: Centre, radius: i64) -> bool
-    requires { ⌜ CentreBounds c × Bd radius mostNumber ⌝ }
-    ensures { λ t. ⌜ t ≡ inRangeOf (fromCentre c (radius *ℤ pos 100000)) ⌝ }
+// Whether every vertex of a circle after the first is in range.
+fn round(o: Circle) -> bool
+    requires { ⌜ CentreBounds (o .x) × CentreBounds (o .y) × WayBounds (o .radius) × Bd (o .sweep) mostSweep × (0 < o .angle) × (o .angle ≤ mostAngle) ⌝ }
+    ensures { λ t. ⌜ t ≡ S.roundOf o ⌝ }
 {
-    in_range(vertex(c, radius * SCALE))
-}
-
-fn centre_in(r: Row) -> Centre
-    ensures { λ c. ⌜ c ≡ centreOf r ⌝ }
-{
-    Centre {
-        base: r.a,
-        part: r.b,
-        span: r.c,
-        width: r.d,
+    let x = o.x;
+    let y = o.y;
+    let radius = o.radius;
+    if round_fits(x, y, radius) {
+        return true;
     }
+    let sines = table();
+    arc_fits(x, y, radius, &sines, o.sweep, o.angle as usize)
 }
 
-// Whether the two points at a radius, on one axis, are in range.
-fn ends_fit(r: Row, across: Row) -> bool
-    requires { ⌜ CentreBounds (centreOf r) × Bd (across .e) mostNumber ⌝ }
-    ensures { λ t. ⌜ t ≡ S.endsOf (centreOf r) (across .e) ⌝ }
-{
-    let c = centre_in(r);
-    if end_fits(c, across.e) {
-        return end_fits(c, -across.e);
-    }
-    false
-}
-
-// Whether the four points at the radius are in range: then so is every vertex.
-fn round(r: Row, across: Row, along: Row) -> bool
-    requires { ⌜ CentreBounds (centreOf across) × CentreBounds (centreOf along) × Bd (across .e) mostNumber ⌝ }
-    ensures { λ t. ⌜ t ≡ S.roundOf (circleOf r across along) ⌝ }
-{
-    if ends_fit(across, across) {
-        return ends_fit(along, across);
-    }
-    false
-}
-
-fn blanks(across: Row, along: Row) -> bool
-    ensures { λ t. ⌜ t ≡ S.blanksSound across along ⌝ }
+fn blanks(across: Row, along: Row, start: Row) -> bool
+    ensures { λ t. ⌜ t ≡ S.blanksSound across along start ⌝ }
 {
     if blank(across) {
-        return blank(along);
+        if blank(along) {
+            return blank(start);
+        }
     }
     false
 }
 
-fn line_sound(r: Row, across: Row, along: Row) -> bool
-    ensures { λ t. ⌜ t ≡ S.lineSound r across along ⌝ }
+fn line_sound(r: Row, across: Row, along: Row, start: Row) -> bool
+    ensures { λ t. ⌜ t ≡ S.lineSound r across along start ⌝ }
 {
     let low = Row {
         a: -1_000_000,
@@ -87,13 +58,13 @@ fn line_sound(r: Row, across: Row, along: Row) -> bool
         e: 1,
     };
     if between(low, r, high) {
-        return blanks(across, along);
+        return blanks(across, along, start);
     }
     false
 }
 
-fn chords_sound(r: Row, across: Row, along: Row) -> bool
-    ensures { λ t. ⌜ t ≡ S.chordsSound r across along ⌝ }
+fn chords_sound(r: Row, across: Row, along: Row, start: Row) -> bool
+    ensures { λ t. ⌜ t ≡ S.chordsSound r across along start ⌝ }
 {
     let low = Row {
         a: 0,
@@ -115,18 +86,15 @@ fn chords_sound(r: Row, across: Row, along: Row) -> bool
     if !sum_below(r, high) {
         return false;
     }
-    if !across_sound(across) {
+    if !ring_sound(across, along, start) {
         return false;
     }
-    if !along_sound(along) {
-        return false;
-    }
-    round(r, across, along)
+    round(circle_of(r, across, along, start))
 }
 
-// A centre on one axis, with the radius.
-fn across_sound(r: Row) -> bool
-    ensures { λ t. ⌜ t ≡ S.betweenOf (S.centreLow 327680000) r (S.centreHigh 327680000) ⌝ }
+// A centre on one axis, with the way from it.
+fn centre_sound(r: Row) -> bool
+    ensures { λ t. ⌜ t ≡ S.betweenOf S.centreLow r S.centreHigh ⌝ }
 {
     between(
         Row {
@@ -147,30 +115,47 @@ fn across_sound(r: Row) -> bool
     )
 }
 
-fn along_sound(r: Row) -> bool
-    ensures { λ t. ⌜ t ≡ S.betweenOf (S.centreLow 0) r (S.centreHigh 0) ⌝ }
+// Where a circle starts, and how far it goes, which is not 0.
+fn start_sound(r: Row) -> bool
+    ensures { λ t. ⌜ t ≡ S.startSound r ⌝ }
 {
-    between(
-        Row {
-            a: -2_000_000_001_000_001,
-            b: -655_360_000,
-            c: -65_536,
-            d: 1,
-            e: 0,
-        },
-        r,
-        Row {
-            a: 2_000_000_001_000_001,
-            b: 655_360_000,
-            c: 65_536,
-            d: 655_360_000,
-            e: 0,
-        },
-    )
+    let low = Row {
+        a: -1_000_000,
+        b: -1_000_000,
+        c: -3600,
+        d: 0,
+        e: 0,
+    };
+    let high = Row {
+        a: 1_000_000,
+        b: 1_000_000,
+        c: 3600,
+        d: 0,
+        e: 0,
+    };
+    if !between(low, r, high) {
+        return false;
+    }
+    if r.c == 0 {
+        return false;
+    }
+    true
 }
 
-fn outline_sound(r: Row, across: Row, along: Row) -> bool
-    ensures { λ t. ⌜ t ≡ S.outlineSound r across along ⌝ }
+// Both axes of a circle, and its start.
+fn ring_sound(across: Row, along: Row, start: Row) -> bool
+    ensures { λ t. ⌜ t ≡ S.ringSound across along start ⌝ }
+{
+    if centre_sound(across) {
+        if centre_sound(along) {
+            return start_sound(start);
+        }
+    }
+    false
+}
+
+fn outline_sound(r: Row, across: Row, along: Row, start: Row) -> bool
+    ensures { λ t. ⌜ t ≡ S.outlineSound r across along start ⌝ }
 {
     let low = Row {
         a: 0,
@@ -192,23 +177,23 @@ fn outline_sound(r: Row, across: Row, along: Row) -> bool
     if !sum_below(r, high) {
         return false;
     }
-    blanks(across, along)
+    blanks(across, along, start)
 }
 
-pub fn work_sound(r: Row, across: Row, along: Row) -> bool
-    ensures { λ t. ⌜ t ≡ S.workSound r across along ⌝ }
+pub fn work_sound(r: Row, across: Row, along: Row, start: Row) -> bool
+    ensures { λ t. ⌜ t ≡ S.workSound r across along start ⌝ }
 {
     if r.e == 1 {
-        return line_sound(r, across, along);
+        return line_sound(r, across, along, start);
     }
     if r.e == 2 {
-        return chords_sound(r, across, along);
+        return chords_sound(r, across, along, start);
     }
     if r.e == 3 {
-        return outline_sound(r, across, along);
+        return outline_sound(r, across, along, start);
     }
     if blank(r) {
-        return blanks(across, along);
+        return blanks(across, along, start);
     }
     false
 }

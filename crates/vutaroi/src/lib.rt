@@ -28,7 +28,7 @@ use seal::sum_stands;
 use soundness::sound;
 
 // The numbers in a machine's list, and in its header.
-const LIST: usize = 640;
+const LIST: usize = 645;
 
 const HEADER: usize = 5;
 

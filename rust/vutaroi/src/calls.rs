@@ -5,7 +5,7 @@
 use crate::{Fed, Mark, NoMachine, Stroke};
 
 /// The numbers of a machine: `VUTAROI_NUMBERS` of `include/vutaroi.h`.
-pub const NUMBERS: usize = 640;
+pub const NUMBERS: usize = 645;
 
 /// The numbers of a call that was handed no machine, or a list that is too short.
 const NO_MACHINE: u8 = 40;

@@ -9,7 +9,7 @@ use mir.Val.{SFits}
 use Rattle.exact.specs.Fit.{Bd, fits64, eq-yes, eq-bits}
 use Rattle.exact.specs.Whole.{_≡?_}
 use Rattle.exact.proofs.Rules.{rules64}
-use Rattle.seal.specs.Seal.{headerSound}
+use Rattle.seal.specs.Seal.{version, headerSound}
 use Rattle.seal.proofs.header_sound.Statement.{statement}
 use Rattle.seal.proofs.header_sound.Tie as tie
 
@@ -35,7 +35,7 @@ returns c =
     let t1 : tie.Then1 = search in
     let t2 : tie.Then2 = search in
     let t3 : tie.Then3 = search in
-    rw (eq-yes (fits-a s) (small 1 tt) (t1 .if1 .taken), eq-yes (fits-c s) (small 0 tt) (t2 .if2 .taken), eq-yes (fits-d s) (small 0 tt) (t3 .if3 .taken)) (eq-bits (fits-e s) (small 0 tt))
+    rw (eq-yes (fits-a s) (small version tt) (t1 .if1 .taken), eq-yes (fits-c s) (small 0 tt) (t2 .if2 .taken), eq-yes (fits-d s) (small 0 tt) (t3 .if3 .taken)) (eq-bits (fits-e s) (small 0 tt))
 
 returns-2 : tie.Need-returns-2
 unfolding headerSound

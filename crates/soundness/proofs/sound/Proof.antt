@@ -7,7 +7,7 @@ use lib.IntN.{ℤ}
 use mathlib.Core.List.{List}
 use Rattle.rows.specs.Rows.{rowAt}
 use Rattle.hpgl.specs.Valid.{ValidSettings}
-use Rattle.saved.specs.Places.{limitsPlace, cornersPlace, scalePlace, windowPlace, positionPlace, penPlace, polygonPlace, firstPlace, savedPlace, workPlace, acrossPlace, alongPlace}
+use Rattle.saved.specs.Places.{limitsPlace, cornersPlace, scalePlace, windowPlace, positionPlace, penPlace, polygonPlace, firstPlace, savedPlace, workPlace, acrossPlace, alongPlace, startPlace}
 use Rattle.saved.specs.Saved.{settingsAt}
 use Rattle.soundness.specs.PartLaws.{settings-law}
 use Rattle.soundness.specs.Sound.{readerSound, settingsSound, carriageSound, knownSound, workSound, inkedSound, soundOf}
@@ -109,7 +109,7 @@ returns-5 c =
     let e4 : knownSound (rowAt (s .args .numbers .now) 0) (rowAt (s .args .numbers .now) polygonPlace) ≡ true = sym (a4 .known-here .ensures) ∙ not-false _ (t4 .if4 .left) in
     let a5 : tie.After-work-here = search in
     let t5 : tie.Then5 = search in
-    let e5 : workSound (rowAt (s .args .numbers .now) workPlace) (rowAt (s .args .numbers .now) acrossPlace) (rowAt (s .args .numbers .now) alongPlace) ≡ false = sym (a5 .work-here .ensures) ∙ not-true _ (t5 .if5 .taken) in
+    let e5 : workSound (rowAt (s .args .numbers .now) workPlace) (rowAt (s .args .numbers .now) acrossPlace) (rowAt (s .args .numbers .now) alongPlace) (rowAt (s .args .numbers .now) startPlace) ≡ false = sym (a5 .work-here .ensures) ∙ not-true _ (t5 .if5 .taken) in
     rw (e1, e2, e3, e4, e5) refl
 
 inked-here-requires : tie.Need-inked-here-requires
@@ -133,7 +133,7 @@ returns-6 c =
     let e4 : knownSound (rowAt (s .args .numbers .now) 0) (rowAt (s .args .numbers .now) polygonPlace) ≡ true = sym (a4 .known-here .ensures) ∙ not-false _ (t4 .if4 .left) in
     let a5 : tie.After-work-here = search in
     let t5 : tie.Else5 = search in
-    let e5 : workSound (rowAt (s .args .numbers .now) workPlace) (rowAt (s .args .numbers .now) acrossPlace) (rowAt (s .args .numbers .now) alongPlace) ≡ true = sym (a5 .work-here .ensures) ∙ not-false _ (t5 .if5 .left) in
+    let e5 : workSound (rowAt (s .args .numbers .now) workPlace) (rowAt (s .args .numbers .now) acrossPlace) (rowAt (s .args .numbers .now) alongPlace) (rowAt (s .args .numbers .now) startPlace) ≡ true = sym (a5 .work-here .ensures) ∙ not-false _ (t5 .if5 .left) in
     let a6 : tie.After-inked-here = search in
     let t6 : tie.Then6 = search in
     let e6 : inkedSound (rowAt (s .args .numbers .now) penPlace) (rowAt (s .args .numbers .now) workPlace) ≡ false = sym (a6 .inked-here .ensures) ∙ not-true _ (t6 .if6 .taken) in
@@ -160,7 +160,7 @@ returns-7 c =
     let e4 : knownSound (rowAt (s .args .numbers .now) 0) (rowAt (s .args .numbers .now) polygonPlace) ≡ true = sym (a4 .known-here .ensures) ∙ not-false _ (t4 .if4 .left) in
     let a5 : tie.After-work-here = search in
     let t5 : tie.Else5 = search in
-    let e5 : workSound (rowAt (s .args .numbers .now) workPlace) (rowAt (s .args .numbers .now) acrossPlace) (rowAt (s .args .numbers .now) alongPlace) ≡ true = sym (a5 .work-here .ensures) ∙ not-false _ (t5 .if5 .left) in
+    let e5 : workSound (rowAt (s .args .numbers .now) workPlace) (rowAt (s .args .numbers .now) acrossPlace) (rowAt (s .args .numbers .now) alongPlace) (rowAt (s .args .numbers .now) startPlace) ≡ true = sym (a5 .work-here .ensures) ∙ not-false _ (t5 .if5 .left) in
     let a6 : tie.After-inked-here = search in
     let t6 : tie.Else6 = search in
     let e6 : inkedSound (rowAt (s .args .numbers .now) penPlace) (rowAt (s .args .numbers .now) workPlace) ≡ true = sym (a6 .inked-here .ensures) ∙ not-false _ (t6 .if6 .left) in

@@ -14,6 +14,9 @@ row-at-requires-2 c κs = search needs
 row-at-requires-3 : tie.Need-row-at-requires-3
 row-at-requires-3 c κs = search needs
 
+row-at-requires-4 : tie.Need-row-at-requires-4
+row-at-requires-4 c κs = search needs
+
 work-sound-requires : tie.Need-work-sound-requires
 work-sound-requires c κs = search needs
 
@@ -23,9 +26,10 @@ returns c =
     let r0 : tie.After-row-at = search in
     let r1 : tie.After-row-at2 = search in
     let r2 : tie.After-row-at3 = search in
-    c .work-sound .ensures ∙ (λ i. workSound (r0 .row-at .ensures i) (r1 .row-at2 .ensures i) (r2 .row-at3 .ensures i))
+    let r3 : tie.After-row-at4 = search in
+    c .work-sound .ensures ∙ (λ i. workSound (r0 .row-at .ensures i) (r1 .row-at2 .ensures i) (r2 .row-at3 .ensures i) (r3 .row-at4 .ensures i))
 
 pub work-here-spec : {M : Type 1} → statement M
 work-here-spec =
     tie.close
-    (tie.spec row-at-requires row-at-requires-2 row-at-requires-3 work-sound-requires returns)
+    (tie.spec row-at-requires row-at-requires-2 row-at-requires-3 row-at-requires-4 work-sound-requires returns)

@@ -1,8 +1,12 @@
 -- The proof of `queued`: by its arms. A valid circle has at most 720 chords.
 use borrow.Author.Needs.{needs}
-use mathlib.Core.Path.{refl, subst}
+use mathlib.Core.Path.{_≡_, refl, ap, _∙_, subst}
 use Prim.Native.Nat.{_≤_}
 use native.Mathlib.Omega.{arith}
+use lib.IntN.{ℤ}
+use mir.Syntax.{w64}
+use Rattle.exact.specs.Fit.{val, sized}
+use Rattle.plane.specs.Arc.{partsOf}
 use Rattle.hpgl.specs.Machine as M
 use Rattle.hpgl.specs.Valid.{mostChords, ValidAction, ValidCircle}
 use Rattle.hpgl.specs.ValidFacts.{chords-most}
@@ -21,16 +25,24 @@ enum-known-a c = search needs
 enum-known-a-2 : tie.Need-enum-known-a-2
 enum-known-a-2 c = search needs
 
-cast-chords : tie.Need-cast-chords
-cast-chords c = search needs
+cast-parts : tie.Need-cast-parts
+cast-parts c = search needs
 
-chords-requires : tie.Need-chords-requires
-chords-requires c κs = let o : tie.After-a2 = search in (omega (arith, circle o .least), circle o .most)
+parts-requires : tie.Need-parts-requires
+parts-requires c κs =
+    let o : tie.After-a2 = search in
+    (sized (val w64 (circle o .sweep) tt) tt, omega (arith, circle o .least), circle o .most)
+
+-- how many there are, as the code finds it
+count : (c : tie.After-parts) → let o : tie.After-a2 = search in c .parts .result ≡ partsOf (o .a2 .given .0 .0 .sweep) (o .a2 .given .0 .0 .angle)
+count c =
+    let o : tie.After-a2 = search in
+    c .parts .ensures ∙ ap (λ (x : ℤ). partsOf x (o .a2 .given .0 .0 .angle)) (val w64 (circle o .sweep) tt .is)
 
 cast-t10 : tie.Need-cast-t10
 cast-t10 c =
     let o : tie.After-a2 = search in
-    let k : c .chords .result ≤ mostChords = rw (c .chords .ensures) (chords-most (circle o .least)) in
+    let k : c .parts .result ≤ mostChords = rw (count c) (chords-most (circle o)) in
     record { fits = omega (arith, k) }
 
 enum-told-2 : tie.Need-enum-told-2
@@ -56,7 +68,7 @@ returns-3 c = λ t es. rw (c .before .a .given .1) refl
 
 returns-4 : tie.Need-returns-4
 unfolding M.queued
-returns-4 c = λ t es. let o : tie.After-a2 = search in rw (o .a2 .given .1, c .chords .ensures) refl
+returns-4 c = λ t es. let o : tie.After-a2 = search in let p : tie.After-parts = search in rw (o .a2 .given .1, count p) refl
 
 returns-5 : tie.Need-returns-5
 unfolding M.queued
@@ -77,8 +89,8 @@ queued-spec =
     enum-told
     enum-known-a
     enum-known-a-2
-    cast-chords
-    chords-requires
+    cast-parts
+    parts-requires
     cast-t10
     enum-told-2
     enum-told-3

@@ -5,7 +5,7 @@ use mathlib.Core.List.{List}
 use lib.IntN.{ℤ}
 use Rattle.rows.specs.declared.Row.{Row}
 use Rattle.rows.specs.Rows.{withRow, over}
-use Rattle.saved.specs.Places.{workPlace, acrossPlace, alongPlace}
+use Rattle.saved.specs.Places.{workPlace, acrossPlace, alongPlace, startPlace}
 use Rattle.saved.specs.Saved.{workNumbers}
 use Rattle.saving.proofs.work.put_work.Statement.{statement}
 use Rattle.saving.proofs.work.put_work.Tie as tie
@@ -31,21 +31,30 @@ work-along-requires c κs = search needs
 put-row-requires-3 : tie.Need-put-row-requires-3
 put-row-requires-3 c κs = search needs
 
+work-start-requires : tie.Need-work-start-requires
+work-start-requires c κs = search needs
+
+put-row-requires-4 : tie.Need-put-row-requires-4
+put-row-requires-4 c κs = search needs
+
 same-length : tie.Need-same-length
 same-length c = search needs
 
 returns : tie.Need-returns
 unfolding workNumbers over withRow
 returns c =
-    let r : tie.After-put-row3 = c .before in
+    let z : tie.After-put-row4 = c .before in
+    let r : tie.After-put-row3 = z .before .before .before .before in
     let q : tie.After-put-row2 = r .before .before .before .before in
     let p : tie.After-put-row = q .before .before .before .before in
     let s = start p in
-    r .put-row3 .ensures
+    z .put-row4 .ensures
+    ∙ ap₂ (λ (row : Row) (zs : List ℤ). withRow row startPlace zs) (z .before .work-start .ensures)
+    (r .put-row3 .ensures
     ∙ ap₂ (λ (row : Row) (zs : List ℤ). withRow row alongPlace zs) (r .before .work-along .ensures)
     (q .put-row2 .ensures
     ∙ ap₂ (λ (row : Row) (zs : List ℤ). withRow row acrossPlace zs) (q .before .work-across .ensures)
-    (p .put-row .ensures ∙ ap (λ (row : Row). withRow row workPlace (s .args .numbers .now)) (p .before .work-row .ensures)))
+    (p .put-row .ensures ∙ ap (λ (row : Row). withRow row workPlace (s .args .numbers .now)) (p .before .work-row .ensures))))
 
 pub put-work-spec : {M : Type 1} → statement M
 put-work-spec =
@@ -57,5 +66,7 @@ put-work-spec =
     put-row-requires-2
     work-along-requires
     put-row-requires-3
+    work-start-requires
+    put-row-requires-4
     same-length
     returns)

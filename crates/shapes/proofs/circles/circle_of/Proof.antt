@@ -6,6 +6,7 @@ use mir.Syntax.{w64}
 use Rattle.exact.specs.Fit.{val}
 use Rattle.plane.specs.declared.position.Axis.{Axis}
 use Rattle.plane.specs.Circle.{centreOf}
+use Rattle.hpgl.specs.Place.{location, relativePosition}
 use Rattle.hpgl.specs.Rules.{circle}
 use Rattle.hpgl.specs.ValidFacts.{axis-bounds-x, axis-bounds-y, placed-locatable}
 use Rattle.shapes.proofs.circles.circle_of.Statement.{statement}
@@ -29,6 +30,9 @@ centre-of-requires-2 c κs =
     let w = s .pre .0 .settings in
     rw (c .axis-y .ensures) (axis-bounds-y w, placed-locatable w (s .pre .0 .position) .y)
 
+point-at-requires : tie.Need-point-at-requires
+point-at-requires c κs = search needs
+
 returns : tie.Need-returns
 unfolding circle
 returns c =
@@ -41,9 +45,11 @@ returns c =
     let ex = x .centre-of .ensures ∙ ap (λ (a : Axis). centreOf a (p .x)) (ax .axis-x .ensures) in
     let ey = y .centre-of2 .ensures ∙ ap (λ (a : Axis). centreOf a (p .y)) (ay .axis-y .ensures) in
     let r = val w64 (s .pre .1) tt in
-    λ i. record { x = ex i; y = ey i; radius = record { u = r .is i; v = pos 0 }; angle = s .args .angle }
+    let at : tie.After-point-at = search in
+    let es = at .point-at .ensures ∙ (λ i. location (s .args .c .settings) (relativePosition p (record { x = r .is i; y = pos 0 }))) in
+    λ i. record { x = ex i; y = ey i; radius = record { u = r .is i; v = pos 0 }; angle = s .args .angle; start = es i; sweep = pos 3600 }
 
 pub circle-of-spec : {M : Type 1} → statement M
 circle-of-spec =
     tie.close
-    (tie.spec axis-x-requires centre-of-requires axis-y-requires centre-of-requires-2 returns)
+    (tie.spec axis-x-requires centre-of-requires axis-y-requires centre-of-requires-2 point-at-requires returns)

@@ -1,35 +1,44 @@
--- The proof of `round`.
+-- The proof of `round`: the quick answer is right where it is yes.
 use borrow.Author.Needs.{needs}
-use mathlib.Core.Path.{_≡_, refl, sym, _∙_}
-use mathlib.Core.Bool.{true, false}
-use Rattle.saved.specs.Saved.{centreOf, circleOf, wayOf}
-use Rattle.soundness.specs.Sound.{endsOf, roundOf}
+use mathlib.Core.Path.{sym, ap, _∙_}
+use lib.IntN.{ℤ}
+use mir.Syntax.{w64}
+use Rattle.exact.specs.Fit.{val}
+use Rattle.plane.specs.Arc.{arcFits}
+use Rattle.plane.specs.ArcLaws.{round-fits}
+use Rattle.soundness.specs.Sound.{roundOf}
 use Rattle.soundness.proofs.work.round.Statement.{statement}
 use Rattle.soundness.proofs.work.round.Tie as tie
 
-ends-fit-requires : tie.Need-ends-fit-requires
-ends-fit-requires c κs = search needs
-
-ends-fit-requires-2 : tie.Need-ends-fit-requires-2
-ends-fit-requires-2 c κs = search needs
+round-fits-requires : tie.Need-round-fits-requires
+round-fits-requires c κs = search needs
 
 returns : tie.Need-returns
-unfolding roundOf circleOf wayOf
+unfolding roundOf
 returns c =
     let s : tie.Start = search in
-    let a1 : tie.After-ends-fit = search in
-    let t1 : tie.Then1 = search in
-    let e1 : endsOf (centreOf (s .args .across)) (s .args .across .e) ≡ true = sym (a1 .ends-fit .ensures) ∙ t1 .if1 .taken in
-    rw (e1) (c .ends-fit2 .ensures)
+    let a : tie.After-round-fits = search in
+    let o = s .args .o in
+    sym (round-fits (o .x) (o .y) (o .radius) (o .sweep) (o .angle) (s .pre .0 .some) (s .pre .1 .some) (sym (a .round-fits .ensures) ∙ c .if1 .taken))
+
+table-requires : tie.Need-table-requires
+table-requires c κs = search needs
+
+slice-aggregate-arc-fits : tie.Need-slice-aggregate-arc-fits
+slice-aggregate-arc-fits c = search needs
+
+cast-arc-fits : tie.Need-cast-arc-fits
+cast-arc-fits c = search needs
+
+arc-fits-requires : tie.Need-arc-fits-requires
+arc-fits-requires c κs = search needs
 
 returns-2 : tie.Need-returns-2
-unfolding roundOf circleOf wayOf
+unfolding roundOf
 returns-2 c =
     let s : tie.Start = search in
-    let a1 : tie.After-ends-fit = search in
-    let t1 : tie.Else1 = search in
-    let e1 : endsOf (centreOf (s .args .across)) (s .args .across .e) ≡ false = sym (a1 .ends-fit .ensures) ∙ t1 .if1 .left in
-    rw (e1) refl
+    let o = s .args .o in
+    c .arc-fits .ensures ∙ ap (λ (x : ℤ). arcFits (o .x) (o .y) (o .radius) x (o .angle)) (val w64 (s .pre .3) tt .is)
 
 pub round-spec : {M : Type 1} → statement M
-round-spec = tie.close (tie.spec ends-fit-requires ends-fit-requires-2 returns returns-2)
+round-spec = tie.close (tie.spec round-fits-requires returns table-requires slice-aggregate-arc-fits cast-arc-fits arc-fits-requires returns-2)
