@@ -9,6 +9,7 @@ pub mod ExactModel
 pub mod Condition3
 pub mod Valid
 pub mod Made
+pub mod ArcCases
 pub mod Cases
 pub mod Pins
 pub mod Related

@@ -27,9 +27,9 @@ use Rattle.plane.specs.declared.circle.Way.{Way}
 use Rattle.plane.specs.declared.circle.Centre.{Centre}
 use Rattle.plane.specs.Bounds.{mostNumber, WayBounds}
 use Rattle.plane.specs.Position.{relativeOf, exactOf, locationOf, inRangeOf}
-use Rattle.plane.specs.PositionLaws.{location-rounds, rebased-location, in-range, in-range-of}
+use Rattle.plane.specs.PositionLaws.{location-nearest, rebased-location, in-range, in-range-of}
 use Rattle.plane.specs.Circle.{chordsOf, angleOf, rotatedOf, vertexPointOf, centreOf, fromCentre, pointFromCentre}
-use Rattle.plane.specs.CircleLaws.{vertex-rounds, vertex-point-split, centre-range, ends-small}
+use Rattle.plane.specs.CircleLaws.{vertex-nearest, vertex-point-split, centre-range, ends-small}
 use Rattle.plane.specs.Arc.{exactWay, wayOf, wayFits, partsOf, towards, bendOf, exactArc, arcOf, arcPoint, bothInRange, fitsFrom, arcFits, endsFit, roundFits}
 
 -- ---- the way
@@ -217,10 +217,13 @@ bend-size sweep a i h = go (ltb i (partsOf sweep a)) refl
     go false e = record { bd = omega arith }
 
 -- ---- the location of a vertex rounds it: at the first the position, then about the centre
-pub arc-rounds : (a : Axis) (p q : ExactPosition) (t : ℤ) (i : ℕ) → (a .width ≡ pos 0 → ⊥) → Rounds (exactArc a p q t i) (arcOf a p q t i)
+pub arc-nearest : (a : Axis) (p q : ExactPosition) (t : ℤ) (i : ℕ) → (a .width ≡ pos 0 → ⊥) → arcOf a p q t i ≡ nearestWhole (exactArc a p q t i)
 unfolding exactArc arcOf
-arc-rounds a p q t zero z = location-rounds a p z
-arc-rounds a p q t (suc i) z = vertex-rounds a q t z
+arc-nearest a p q t zero z = location-nearest a p z
+arc-nearest a p q t (suc i) z = vertex-nearest a q t z
+
+pub arc-rounds : (a : Axis) (p q : ExactPosition) (t : ℤ) (i : ℕ) → (a .width ≡ pos 0 → ⊥) → Rounds (exactArc a p q t i) (arcOf a p q t i)
+arc-rounds a p q t i z = subst (Rounds (exactArc a p q t i)) (sym (arc-nearest a p q t i z)) (rounds (exactArc a p q t i))
 
 -- and is what the code finds
 pub arc-split : (ax ay : Axis) (px py qx qy : ExactPosition) (w : Way) (sweep : ℤ) (a i : ℕ) → (ax .width ≡ pos 0 → ⊥) → (ay .width ≡ pos 0 → ⊥) →
