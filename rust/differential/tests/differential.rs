@@ -71,9 +71,7 @@ fn digits() {
 
 #[test]
 fn arcs() {
-    let numbers: &[usize] =
-        if cfg!(feature = "arcs") { &[0, 1, 2, 3, 6, 20, 21] } else { &[0, 1, 20, 21] };
-    search(Family::Arcs, numbers);
+    search(Family::Arcs, &[0, 1, 2, 3, 6, 20, 21]);
 }
 
 #[test]
