@@ -28,6 +28,7 @@ pub mod RefusalsProof
 pub mod PinsPosition
 pub mod PinsSettings
 pub mod PinsPolygon
+pub mod PinsArc
 pub mod PinsCircle
 pub mod ValidFacts
 pub mod KeptCases

@@ -185,7 +185,7 @@ pub arc-angle-is : (n : Numbers) → Angle n 3 (n .fourth) (arcAngle n)
 unfolding arcAngle
 arc-angle-is n = given n 3 (n .fourth)
 
-arc-angle-one : (n : Numbers) (a : ℤ) → Angle n 3 (n .fourth) a → a ≡ arcAngle n
+pub arc-angle-one : (n : Numbers) (a : ℤ) → Angle n 3 (n .fourth) a → a ≡ arcAngle n
 unfolding arcAngle
 arc-angle-one n a h = given-one n 3 (n .fourth) a h
 
@@ -194,7 +194,7 @@ pub sweep-is : (n : Numbers) → IsNearest (n .third) 1000 (sweptAngle n)
 unfolding sweptAngle
 sweep-is n = nearest-is (n .third) 1000 (omega arith)
 
-sweep-one : (n : Numbers) (s : ℤ) → IsNearest (n .third) 1000 s → s ≡ sweptAngle n
+pub sweep-one : (n : Numbers) (s : ℤ) → IsNearest (n .third) 1000 s → s ≡ sweptAngle n
 unfolding sweptAngle
 sweep-one n s h = nearest-one (n .third) 1000 s (omega arith) h
 
@@ -499,7 +499,7 @@ module _ (c : Core) where
     }
 
   module _ (sound : Sound (c .settings)) (spans : Spanned (c .settings)) where
-    way-from-one : (q : Position) (w : Way) → WayFrom c q w → w ≡ wayFrom c q
+    pub way-from-one : (q : Position) (w : Way) → WayFrom c q w → w ≡ wayFrom c q
     unfolding wayFrom
     way-from-one q w h =
         let p = c .carriage .position in

@@ -40,11 +40,11 @@ use Rattle.hpgl.specs.declared.Action.the-variants.{Keep, Line, Chords, 
 use Rattle.hpgl.specs.declared.Acted.{Acted}
 use Rattle.hpgl.specs.declared.Work.the-variants as work
 use Rattle.hpgl.specs.Numbers.{polygonBytes, modeBytes, pointBytes, mostPen, quarterAngle, leastAngle, wholeTurn}
-use Rattle.hpgl.specs.Place.{point, rounded, axisX, axisY, exactPosition, location, inRange, absolutePosition, relativePosition, restAt, pagePoint}
+use Rattle.hpgl.specs.Place.{point, rounded, axisX, axisY, exactPosition, location, inRange, absolutePosition, relativePosition, pagePoint}
 use Rattle.hpgl.specs.Change.{withPosition, withPen, withPolygon, withSettings, withCarriage, withCorners, withScale, withTurn, withWindow}
 use Rattle.hpgl.specs.Ends as ends
 use Rattle.hpgl.specs.Ends.{Works, Rests, other, by-end}
-use Rattle.hpgl.specs.Rules.{done, refuse, unscaled, noWindow, freshSettings, noPolygon, freshCarriage, letters, nameRule, rebased, inRule, dfRule, goodCorners, setCorners, ipRule, scRule, setTurn, roRule, setWindow, iwRule, setPen, spRule, inked, spent, moveTo, pointCost, longer, edgeTo, storePoint, aimed, goTo, pairRule, begun, pm0, differ, closes, endedWith, ended, pm1In, pm1, leave, pm2In, pm2, pmRule, epRule, rectangular, rectangleTo, firstTwo, eaRule, erRule, circleFits, circle, circleWith, chordAngle, ciRule, sweptAngle, arcAngle, wayFrom, arc, lastVertex, follow, arcAbout, aaRule, arRule, endRule, actOn}
+use Rattle.hpgl.specs.Rules.{done, refuse, unscaled, noWindow, freshSettings, noPolygon, freshCarriage, letters, nameRule, rebased, inRule, dfRule, goodCorners, setCorners, ipRule, scRule, setTurn, roRule, setWindow, iwRule, setPen, spRule, inked, spent, moveTo, pointCost, longer, edgeTo, storePoint, aimed, goTo, pairRule, begun, pm0, differ, closes, endedWith, ended, pm1In, pm1, leave, pm2In, pm2, pmRule, epRule, rectangular, rectangleTo, firstTwo, eaRule, erRule, circleFits, circle, circleWith, chordAngle, ciRule, sweptAngle, arcAngle, wayFrom, arc, follow, arcAbout, aaRule, arRule, endRule, actOn}
 use Rattle.hpgl.specs.Machine.{vertexIn, vertex, rectangleEdges, stored, queued}
 use Rattle.hpgl.specs.ExactModel.{ExactPolygon, ExactSegment, exactSegment, outline, vertexAt, arcVertex, path, lastOf, rectangle, polygonMode, afterEnd, polygonAfter, inkedOnly, move, arcMoves, instructed, added}
 use Rattle.hpgl.specs.Related.{Sound, Fit, edgesFrom, edgesOf, edgesAfter, allEdges, polygonEdges, some, Linked, turnedEdges, chordsFrom, view, onPage}
@@ -534,7 +534,7 @@ module _ (c : Core) (es : List Edge) (g : ExactPolygon) (f : Fit (c .settings) (
       k = natAbs (arcAngle n)
 
       d : Core
-      d = withCarriage c (withPosition (c .carriage) (restAt (lastVertex (arc c q (sweptAngle n) k))))
+      d = follow c (arc c q (sweptAngle n) k) .core
 
       carried : Keeps c es g e (follow c (arc c q (sweptAngle n) k))
       carried =

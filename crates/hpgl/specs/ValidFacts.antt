@@ -254,13 +254,22 @@ circle-valid {c} {r} {a} w h l u e =
 pub sweep-size : (s : ℤ) → goodSweep s ≡ true → Bd s mostSweep
 unfolding goodSweep
 sweep-size s g =
-    let most = and-both (negℤ (pos wholeTurn) ≤? s) (s ≤? pos wholeTurn) (and-both ((negℤ (pos wholeTurn) ≤? s) && (s ≤? pos wholeTurn)) (not (s ≡? pos 0)) g .0) in
+    let most = and-both (negℤ (pos wholeTurn) ≤? s) (s ≤? pos wholeTurn) (and-both ((negℤ (pos wholeTurn) ≤? s) && (s ≤? pos wholeTurn)) _ g .0) in
     record { bd = omega (arith, ord, abs s, ≤?-true (negℤ (pos wholeTurn)) s (most .0), ≤?-true s (pos wholeTurn) (most .1)) }
+
+-- "without 0"
+pub sweep-some : (s : ℤ) → goodSweep s ≡ true → s ≡ pos 0 → ⊥
+unfolding goodSweep
+sweep-some s g = ≡?-false s (pos 0) (off (s ≡? pos 0) (and-both ((negℤ (pos wholeTurn) ≤? s) && (s ≤? pos wholeTurn)) (not (s ≡? pos 0)) g .1))
+  where
+    off : (b : Bool) → not b ≡ true → b ≡ false
+    off true e = sym e
+    off false e = refl
 
 -- "A vertex out of range refuses the arc": one that is not refused may be drawn, about a centre that may be located
 pub arc-valid : {c : Core} {q : Position} {a : ℕ} (s : ℤ) → ValidCore c → LocatablePosition (c .settings) q → goodSweep s ≡ true → leastAngle ≤ a → a ≤ mostAngle →
     wayFits (wayFrom c q) ≡ true → (let o = arc c q s a in arcFits (o .x) (o .y) (o .radius) (o .sweep) (o .angle) ≡ true) → ValidCircle (arc c q s a)
-unfolding arc goodSweep
+unfolding arc
 arc-valid {c} {q} {a} s w k g l u f e =
     record {
       x = round.centre-bounds (axisX (c .settings)) (q .x) (axis-bounds-x (w .settings)) (k .x);
@@ -270,13 +279,9 @@ arc-valid {c} {q} {a} s w k g l u f e =
       most = u;
       start = w .position .near;
       sweep = sweep-size s g;
-      some = ≡?-false s (pos 0) (off (s ≡? pos 0) (and-both ((negℤ (pos wholeTurn) ≤? s) && (s ≤? pos wholeTurn)) (not (s ≡? pos 0)) g .1));
+      some = sweep-some s g;
       fits = e;
     }
-  where
-    off : (b : Bool) → not b ≡ true → b ≡ false
-    off true e = sym e
-    off false e = refl
 
 -- and its last vertex is in range
 pub last-small : {o : Circle} → ValidCircle o → SmallPoint (lastVertex o)

@@ -14,9 +14,7 @@ use Rattle.hpgl.specs.declared.Circle.{Circle}
 use Rattle.hpgl.specs.declared.Action.the-variants.{Chords}
 use Rattle.hpgl.specs.declared.Core.{Core}
 use Rattle.hpgl.specs.Numbers.{outOfRange, tooFar, leastAngle}
-use Rattle.hpgl.specs.Place.{restAt}
-use Rattle.hpgl.specs.Change.{withPosition, withCarriage}
-use Rattle.hpgl.specs.Rules.{inked, circleFits, circleWith, chordAngle, ciRule, sweptAngle, arcAngle, lastVertex, follow, arcAbout, aaRule, arRule}
+use Rattle.hpgl.specs.Rules.{done, inked, circleFits, circleWith, chordAngle, ciRule, sweptAngle, arcAngle, follow, arcAbout, aaRule, arRule}
 use Rattle.hpgl.specs.Valid.{LocatablePosition, ValidCore, ValidAction, ValidCircle, ValidActed}
 use Rattle.hpgl.specs.ValidFacts.{from-to, rest-placed, absolute-locatable, relative-locatable, circle-valid, arc-valid, last-small}
 use Rattle.hpgl.specs.Cases.{pick, whether}
@@ -41,9 +39,9 @@ valid-ci {n = n} w h = valid-circle (chordAngle n) w (h .first)
 
 -- outside polygon mode, where alone AA and AR are known, nothing is asked of the position for the polygon's sake
 valid-follow : {c : Core} {o : Circle} → ValidCore c → ValidCircle o → ValidActed c (follow c o)
-unfolding follow inked
+unfolding follow done inked
 valid-follow {c} {o} w h =
-    let d : Core = withCarriage c (withPosition (c .carriage) (restAt (lastVertex o))) in
+    let d : Core = follow c o .core in
     acts c d _ (pick (ValidAction (c .carriage .polygon .edges)) (c .carriage .pen .down && inked c) h tt)
     (valid-core {d = d} (w .settings) (rest-placed (w .settings) (last-small h)) (w .pen) (w .polygon)) (down-with-ink d (c .carriage .pen .down) (Chords o))
 

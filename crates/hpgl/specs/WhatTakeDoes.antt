@@ -46,10 +46,10 @@ of-table c (Pair n) h = pair n
 of-table c (Ended op n) h = end (instruction op (h .0 .listed)) n
 of-table c (Refused k) h = refusal k
 
-sound : {s : Settings} → ValidSettings s → Sound s
+pub sound : {s : Settings} → ValidSettings s → Sound s
 sound w = record { x = axis-bounds-x w .some; y = axis-bounds-y w .some; turn = w .turn }
 
-spanned : {s : Settings} → ValidSettings s → Spanned s
+pub spanned : {s : Settings} → ValidSettings s → Spanned s
 spanned w = record { x = axis-bounds-x w .moves; y = axis-bounds-y w .moves }
 
 pub take-does : (m : State) → Usable m → (b : ℕ) → Does m b

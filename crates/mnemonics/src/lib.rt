@@ -40,7 +40,7 @@ pub const AA: usize = 16;
 
 pub const AR: usize = 17;
 
-const ROWS: usize = 18;
+pub const ROWS: usize = 18;
 
 // The columns: two letters, least and most numbers, what the count goes up by, and whether the instruction is known in
 // polygon mode and changes settings.
