@@ -517,12 +517,11 @@ module _ (c : Core) (es : List Edge) (g : ExactPolygon) (f : Fit (c .settings) (
       (arc-split (axisX k) (axisY k) (p .x) (p .y) (q .x) (q .y) (wayFrom c q) s a i (f .sound .x) (f .sound .y)
       ∙ (λ j. point (arc-nearest (axisX k) (p .x) (q .x) (w .u) i (f .sound .x) j) (arc-nearest (axisY k) (p .y) (q .y) (w .v) i (f .sound .y) j)))
 
-  -- the core after it stands at p, and differs in nothing else
-  same-bends : (p q : Position) (s : ℤ) (a i n : ℕ) →
-      chordsFrom (c .settings) (arc c q s a) i n ≡ onPage (path (withCarriage c (withPosition (c .carriage) p)) (arcVertex c q s a) i n)
+  -- the core after it has another carriage
+  same-bends : (k : Carriage) (q : Position) (s : ℤ) (a i n : ℕ) → chordsFrom (c .settings) (arc c q s a) i n ≡ onPage (path (withCarriage c k) (arcVertex c q s a) i n)
   unfolding chordsFrom path onPage exactSegment
-  same-bends p q s a i zero = refl
-  same-bends p q s a i (suc n) = λ j. record { start = same-bend q s a i j; end = same-bend q s a (i + 1) j; shown = true } ∷ same-bends p q s a (i + 1) n j
+  same-bends k q s a i zero = refl
+  same-bends k q s a i (suc n) = λ j. record { start = same-bend q s a i j; end = same-bend q s a (i + 1) j; shown = true } ∷ same-bends k q s a (i + 1) n j
 
   keeps-arc : (e : Event) (q : Position) (n : Numbers) → c .carriage .polygon .mode ≡ false → ((d : Core) → polygonAfter c d e g ≡ g) →
       ((d : Core) (x : ExactPolygon) → added c d e x ≡ arcMoves c d q n) → Keeps c es g e (arcAbout c q n)
