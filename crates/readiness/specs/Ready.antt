@@ -9,7 +9,7 @@ use Rattle.rows.specs.Rows.{rowAt}
 use Rattle.seal.specs.Seal.{sealedOf, headerSound, sumStands}
 use Rattle.hpgl.specs.declared.State.{State}
 use Rattle.saved.specs.Saved.{savedOf, loadedOf}
-use Rattle.soundness.specs.Sound.{soundOf}
+use Rattle.wellformed.specs.Sound.{soundOf}
 
 -- the list is no machine
 abbrev pub noMachine : ℕ

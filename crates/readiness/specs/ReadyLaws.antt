@@ -25,9 +25,9 @@ use Rattle.hpgl.specs.ValidFacts.{and-both}
 use Rattle.hpgl.specs.ValidKept.{usable-fresh, usable-take, usable-draw, made-usable}
 use Rattle.saved.specs.Saved.{stateNumbers, savedOf, loadedOf}
 use Rattle.saved.specs.SavedLaws.{saved-back, saved-length}
-use Rattle.soundness.specs.Sound.{soundOf}
-use Rattle.soundness.specs.SoundLaws.{Passed, sound-passed, usable-sound}
-use Rattle.soundness.specs.LightLaws.{sound-light}
+use Rattle.wellformed.specs.Sound.{soundOf}
+use Rattle.wellformed.specs.SoundLaws.{Passed, sound-passed, usable-sound}
+use Rattle.wellformed.specs.LightLaws.{sound-light}
 use Rattle.machine.specs.Loadable.{Loadable}
 use Rattle.readiness.specs.Ready.{noMachine, tooShort, listNumbers, listOf, machineIn, machineStands, readyOf}
 

@@ -10,8 +10,8 @@ use lib.IntN.{ℤ}
 use lib.ListN.{drop, length-drop}
 use Rattle.rows.specs.Rows.{rowAt}
 use Rattle.seal.specs.Seal.{headerSound}
-use Rattle.soundness.specs.Sound.{soundOf}
-use Rattle.soundness.specs.LightLaws.{sound-light}
+use Rattle.wellformed.specs.Sound.{soundOf}
+use Rattle.wellformed.specs.LightLaws.{sound-light}
 use Rattle.readiness.specs.Ready.{machineStands}
 use Rattle.readiness.proofs.stands.Statement.{statement}
 use Rattle.readiness.proofs.stands.Tie as tie

@@ -36,9 +36,9 @@ use Rattle.hpgl.specs.Valid.{SmallEdge, ValidCircle, ValidWork, Every, none, mo
 use Rattle.hpgl.specs.ValidFacts.{and-both}
 use Rattle.saved.specs.SavedReader.{modeTag, modeOf, placeRow}
 use Rattle.saved.specs.Saved.{flagIn, smallIn, fromOf, toOf, penRow, polygonRow, blankRow, lineRow, chordsRow, edgesRow, acrossRow, alongRow, startRow, workRow, workAcross, workAlong, workStart, centreOf, wayOf, angleIn, circleOf, workOf, edgeRow, edgesNumbers, edgeOf, edgesFrom}
-use Rattle.soundness.specs.Sound.{betweenOf, fourLow, fourHigh, fiveOf, centreLow, centreHigh, startLow, startHigh, blankSound, boxSound, knownSound, roundOf, startSound, ringSound, chordsSound, blanksSound, lineSound, outlineSound, workSound, inkedSound, edgesSound}
-use Rattle.soundness.specs.RowTests.{both, between-true, between-of, bd-of, bd-low, bd-high, Four, four-true, four-of, five-of, zero-same, flag-same, small-is, small-same, flag-bounds, blank-same}
-use Rattle.soundness.specs.PartLaws.{PlaceLaw, box-law, box-of, unless, unless-of, mode-on, mode-off, not-both}
+use Rattle.wellformed.specs.Sound.{betweenOf, fourLow, fourHigh, fiveOf, centreLow, centreHigh, startLow, startHigh, blankSound, boxSound, knownSound, roundOf, startSound, ringSound, chordsSound, blanksSound, lineSound, outlineSound, workSound, inkedSound, edgesSound}
+use Rattle.wellformed.specs.RowTests.{both, between-true, between-of, bd-of, bd-low, bd-high, Four, four-true, four-of, five-of, zero-same, flag-same, small-is, small-same, flag-bounds, blank-same}
+use Rattle.wellformed.specs.PartLaws.{PlaceLaw, box-law, box-of, unless, unless-of, mode-on, mode-off, not-both}
 
 -- ---- what is being read in polygon mode is known there
 

@@ -10,7 +10,7 @@ use Rattle.exact.specs.Fit.{Bd, abs}
 use Rattle.rows.specs.declared.Row.{Row}
 use Rattle.rows.specs.Rows.{row, flagNumber, flagOf, placeNumber, smallOf, mostByte}
 use Rattle.hpgl.specs.ValidFacts.{and-both}
-use Rattle.soundness.specs.Sound.{firstBelow, lastBelow, belowOf, betweenOf, fourLow, fourHigh, fiveOf, blankSound}
+use Rattle.wellformed.specs.Sound.{firstBelow, lastBelow, belowOf, betweenOf, fourLow, fourHigh, fiveOf, blankSound}
 
 pub both : {x y : Bool} → x ≡ true → y ≡ true → x && y ≡ true
 both {x} {y} e f = ap (λ (t : Bool). t && y) e ∙ f

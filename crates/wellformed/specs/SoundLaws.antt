@@ -21,10 +21,10 @@ use Rattle.saved.specs.Places.{limitsPlace, cornersPlace, scalePlace, windowPla
 use Rattle.saved.specs.SavedReader.{numbersRow, numberRow, readerOf, readerAt}
 use Rattle.saved.specs.Saved.{stateNumbers, settingsOf, settingsAt, positionRow, penRow, polygonRow, penOf, pm0Of, polygonOf, carriageOf, carriageAt, workAt, storeAt, savedOf, loadedOf}
 use Rattle.saved.specs.SavedLaws.{saved-back}
-use Rattle.soundness.specs.Sound.{readerSound, placeSound, numbersSound, numberSound, settingsSound, carriageSound, knownSound, workSound, inkedSound, edgesSound, soundOf}
-use Rattle.soundness.specs.RowTests.{both}
-use Rattle.soundness.specs.PartLaws as part
-use Rattle.soundness.specs.WorkLaws as last
+use Rattle.wellformed.specs.Sound.{readerSound, placeSound, numbersSound, numberSound, settingsSound, carriageSound, knownSound, workSound, inkedSound, edgesSound, soundOf}
+use Rattle.wellformed.specs.RowTests.{both}
+use Rattle.wellformed.specs.PartLaws as part
+use Rattle.wellformed.specs.WorkLaws as last
 
 -- the reader's three rows
 record ReaderLaw (place numbers number : Row) : Type 0 where

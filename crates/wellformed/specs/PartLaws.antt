@@ -29,8 +29,8 @@ use Rattle.hpgl.specs.Valid.{ValidSettings, Placed, KeptPosition, ValidPolygon,
 use Rattle.hpgl.specs.ValidFacts.{and-both, axis-bounds-x, axis-bounds-y, placed-locatable, placed-kept, located-placed}
 use Rattle.saved.specs.SavedReader.{modeTag, modeLetter, modeOf, placeRow, numbersRow, numbersOf, numberRow, numberOf}
 use Rattle.saved.specs.Saved.{flagIn, smallIn, limitsRow, cornersRow, scaleRow, windowRow, boxOf, fromOf, toOf, rangeX, rangeY, settingsOf, positionRow, penRow, polygonRow, positionOf, penOf, pm0Of, polygonOf, carriageOf}
-use Rattle.soundness.specs.Sound.{betweenOf, fourLow, fourHigh, fiveOf, placeSound, numbersSound, numberSound, limitsSound, cornersSound, scaleSound, boxSound, settingsSound, roomOf, locatableOf, placedOf, positionLow, positionHigh, positionSound, penSound, polygonSound, keptSound, positionsSound, partsSound, carriageSound}
-use Rattle.soundness.specs.RowTests.{both, Between, between-true, between-of, bd-of, bd-low, bd-high, Four, four-true, four-of, five-of, zero-same, flag-same, small-is, small-same, small-most, place-is, place-same, flag-bounds, flag-zero}
+use Rattle.wellformed.specs.Sound.{betweenOf, fourLow, fourHigh, fiveOf, placeSound, numbersSound, numberSound, limitsSound, cornersSound, scaleSound, boxSound, settingsSound, roomOf, locatableOf, placedOf, positionLow, positionHigh, positionSound, penSound, polygonSound, keptSound, positionsSound, partsSound, carriageSound}
+use Rattle.wellformed.specs.RowTests.{both, Between, between-true, between-of, bd-of, bd-low, bd-high, Four, four-true, four-of, five-of, zero-same, flag-same, small-is, small-same, small-most, place-is, place-same, flag-bounds, flag-zero}
 
 -- ---- the reader
 
