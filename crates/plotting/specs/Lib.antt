@@ -1,10 +1,2 @@
-pub mod Printed
 pub mod Plotted
-pub mod Figures
-pub mod PlotPrinted
 pub mod PlottedLaws
-pub mod Compared
-pub mod ComparedLaws
-pub mod Tally
-pub mod Ran
-pub mod RanLaws

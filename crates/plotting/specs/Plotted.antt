@@ -10,7 +10,7 @@ use Rattle.machine.specs.declared.Gathered.{Gathered}
 use Rattle.textlines.specs.Text.{longest}
 use Rattle.decimals.specs.Puts.{Puts}
 use Rattle.plotting.specs.declared.Plot.{Plot}
-use Rattle.plotting.specs.Printed.{printed}
+use Rattle.printed.specs.Printed.{printed}
 
 -- what is still to be printed, where `later` are the bytes of the blocks to come
 abbrev pub due : Plot → List ℕ → List ℕ → List ℕ

@@ -24,9 +24,9 @@ use Rattle.machine.specs.Gather.{plottedOf}
 use Rattle.textlines.specs.Text.{marksBelow}
 use Rattle.decimals.specs.Puts.{Puts, puts-nothing, puts-then}
 use Rattle.plotting.specs.declared.Plot.{Plot}
-use Rattle.plotting.specs.Printed.{printed}
+use Rattle.printed.specs.Printed.{printed}
 use Rattle.plotting.specs.Plotted.{begunOf, emptiedOf, movedOf, due, Ready, Plotted}
-use Rattle.plotting.specs.PlotPrinted.{markLines, idle-end, plot-prints, Ended, plot-ended, numbers-lines, lines-some}
+use Rattle.printed.specs.PlotPrinted.{markLines, idle-end, plot-prints, Ended, plot-ended, numbers-lines, lines-some}
 
 pub plotted-nothing : {p : Plot} {block : List ℕ} (text : List ℕ) → Ready p block → p .length ≤ length text → Plotted p p block text text
 plotted-nothing text h l = record { text = []; prints = λ later. refl; puts = puts-nothing text l; ready = h; earlier = refl }

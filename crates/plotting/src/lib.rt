@@ -1,4 +1,4 @@
-// What the program strokes prints: bytes in blocks, and their lines into a lent buffer. specs/Printed.antt has the lines, specs/Plotted.antt what
+// What the program strokes prints: bytes in blocks, and their lines into a lent buffer. The crate printed has the lines, specs/Plotted.antt what
 // a part of the printing does.
 ghost use mathlib.Core.Bool.{true};
 ghost use mathlib.Core.Path.{_≡_};
@@ -6,10 +6,6 @@ ghost use Prim.Native.Nat.{_+_, _*_, _≤_, _<_};
 ghost use lib.ListN.{length};
 ghost use Rattle.hpgl.specs.Valid.{Usable};
 ghost use Rattle.plotting.specs.Plotted.{Ready, Plotted, begunOf, emptiedOf, movedOf, mostMarks, most};
-
-mod edge;
-pub mod files;
-
 use machine::Gathered;
 use machine::Machine;
 use textlines::LONGEST;

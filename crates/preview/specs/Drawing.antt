@@ -1,25 +1,16 @@
 -- How far a drawing is, after a feed and at the start of a block.
-use mathlib.Core.Bool.{true, not, cond}
-use mathlib.Core.List.{List, [], _∷_}
+use mathlib.Core.Bool.{true, not}
+use mathlib.Core.List.{List}
 use Prim.Native.Nat.{ℕ, _+_}
 use lib.Dec.{eqb}
 use lib.ListN.{take, drop}
-use Rattle.hpgl.specs.declared.Stroke.{Stroke}
 use Rattle.feeding.specs.Feed.{feedOf}
-use Rattle.drive.specs.Drive.{endsEqualOf}
 use Rattle.feed.specs.declared.Listed.{Listed}
 use Rattle.feed.specs.Fed.{listedOf}
 use Rattle.console.specs.Sums.{added}
+use Rattle.noting.specs.Dots.{dotsOf}
+use Rattle.noting.specs.Refusals.{notedOf}
 use Rattle.preview.specs.declared.strokes.Drawing.{Drawing}
-use Rattle.preview.specs.Refusals.{notedOf}
-
--- "one dot if its ends are equal"
-unfoldable pub dotCount : Stroke → ℕ
-dotCount s = cond (endsEqualOf s) 1 0
-
-unfoldable pub dotsOf : List Stroke → ℕ
-dotsOf [] = 0
-dotsOf (s ∷ ss) = dotCount s + dotsOf ss
 
 -- feed counts the bytes from the place on; how much of the buffer is used then no contract can say
 abbrev pub afterOf : Drawing → Listed → ℕ → Drawing

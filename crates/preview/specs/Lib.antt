@@ -1,4 +1,3 @@
-pub mod Refusals
 pub mod Drawing
 pub mod Sheet
 pub mod DrawingLaws

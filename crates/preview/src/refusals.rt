@@ -1,69 +1,14 @@
-// The refusals of a drawing: the first forty, and how many there are.
-ghost use mathlib.Core.Path.{_≡_};
-ghost use Rattle.preview.specs.Refusals.{noneOf, keptOf, notedOf};
+// What stands beside the sheet: the counts, and the refusals in words.
 use super::sheet::Sheet;
 use super::sheet::row;
 use console::sum;
+use noting::Refusals;
+use noting::SHOWN;
 use output::natural_then;
 use output::put_byte;
 use output::put_bytes;
 use output::put_words;
-use rulekit::numbers::LIST_FULL;
 use words::cause;
-
-pub const SHOWN: usize = 40;
-
-pub struct Refusals {
-    pub count: u64,
-    pub numbers: [u8; 40],
-    pub places: [u64; 40],
-}
-
-pub fn none() -> Refusals
-    ensures { λ r. ⌜ r ≡ noneOf ⌝ }
-{
-    Refusals {
-        count: 0,
-        numbers: [0; 40],
-        places: [0; 40],
-    }
-}
-
-// One more: a number, and the byte that was refused, counted from 1.
-fn kept(r: Refusals, number: u8, place: u64) -> Refusals
-    ensures { λ q. ⌜ q ≡ keptOf r number place ⌝ }
-{
-    let mut numbers = r.numbers;
-    let mut places = r.places;
-    let count = r.count;
-    if count < 40 {
-        numbers[count as usize] = number;
-        places[count as usize] = place;
-        return Refusals {
-            count: sum(count, 1),
-            numbers: numbers,
-            places: places,
-        };
-    }
-    Refusals {
-        count: sum(count, 1),
-        numbers: numbers,
-        places: places,
-    }
-}
-
-// What a feed's number adds: nothing where the bytes or the list ended.
-pub fn noted(r: Refusals, number: u8, place: u64) -> Refusals
-    ensures { λ q. ⌜ q ≡ notedOf r number place ⌝ }
-{
-    if number == 0 {
-        return r;
-    }
-    if number == LIST_FULL {
-        return r;
-    }
-    kept(r, number, place)
-}
 
 // One refusal: its number, its place, and what the number means.
 fn refusal(text: &mut [u8; 65536], used: usize, number: u8, place: u64) -> usize {

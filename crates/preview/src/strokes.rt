@@ -1,13 +1,10 @@
 // The strokes of standard input, each a line or a dot of the picture. Feed gives them, in lists of at most 64.
 ghost use Prim.Native.Nat.{_+_, _≤_};
-ghost use lib.ListN.{length, take};
+ghost use lib.ListN.{length};
 ghost use mathlib.Core.Path.{_≡_};
 ghost use Rattle.console.specs.Sums.{largest};
 ghost use Rattle.hpgl.specs.Valid.{Usable};
-ghost use Rattle.preview.specs.Drawing.{dotCount, dotsOf, afterOf, stepOf, begunOf, flushedOf};
-use super::refusals::Refusals;
-use super::refusals::none;
-use super::refusals::noted;
+ghost use Rattle.preview.specs.Drawing.{afterOf, stepOf, begunOf, flushedOf};
 use console::sum;
 use drive::ends_equal;
 use feed::Listed;
@@ -15,6 +12,10 @@ use feed::feed_list;
 use hpgl::Stroke;
 use libc::STDIN_FILENO;
 use machine::Machine;
+use noting::Refusals;
+use noting::dots_of;
+use noting::none;
+use noting::noted;
 use output::failed;
 use output::flush;
 use output::put_byte;
@@ -101,31 +102,6 @@ fn elements(
         i += 1;
     }
     end
-}
-
-// One for a dot.
-fn dot_count(s: Stroke) -> u64
-    ensures { λ r. ⌜ r ≡ dotCount s ⌝ }
-{
-    if ends_equal(s) {
-        return 1;
-    }
-    0
-}
-
-// The dots among the first strokes of a list.
-fn dots_of(list: [Stroke; 64], count: usize) -> u64
-    requires { ⌜ count ≤ 64 ⌝ }
-    ensures { λ r. ⌜ r ≡ dotsOf (take count list) ⌝ }
-{
-    let mut dots = 0;
-    let mut i = 0;
-    while i < count {
-        let s = list[i];
-        dots += dot_count(s);
-        i += 1;
-    }
-    dots
 }
 
 // What a feed of the block from its place on leaves: its strokes are counted, and a byte that was refused is kept.

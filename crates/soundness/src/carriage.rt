@@ -5,7 +5,7 @@ ghost use Rattle.exact.specs.Whole.{_≤?_};
 ghost use Rattle.exact.specs.Fit.{Bd};
 ghost use Rattle.hpgl.specs.Valid.{ValidSettings};
 ghost use Rattle.saved.specs.Saved.{positionOf};
-ghost use Rattle.soundness.specs.Sound as S;
+ghost use Rattle.wellformed.specs.Sound as S;
 use super::places::placed;
 use super::tests::between;
 use hpgl::Position;

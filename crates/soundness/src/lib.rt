@@ -1,12 +1,12 @@
 // Whether a list of numbers is a machine: each row is tested, so that a program may hand in any list.
-// specs/Sound.antt says what is tested, specs/SoundLaws.antt that just the lists pass that save writes of a machine.
+// The crate wellformed says what is tested (Sound.antt), and that just the lists pass that save writes of a machine (SoundLaws.antt).
 ghost use mathlib.Core.Path.{_≡_};
 ghost use lib.ListN.{length};
 ghost use Rattle.hpgl.specs.Valid.{ValidSettings};
 ghost use Rattle.saved.specs.Places.{limitsPlace, cornersPlace, scalePlace, windowPlace, positionPlace, penPlace, polygonPlace, firstPlace, savedPlace, workPlace, acrossPlace, alongPlace, startPlace, edgesPlace};
 ghost use Rattle.saved.specs.Saved.{stateNumbers, settingsAt};
 ghost use Rattle.rows.specs.Rows.{rowAt};
-ghost use Rattle.soundness.specs.Sound as S;
+ghost use Rattle.wellformed.specs.Sound as S;
 
 mod carriage;
 mod places;

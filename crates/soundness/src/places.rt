@@ -2,7 +2,7 @@
 ghost use mathlib.Core.Path.{_≡_};
 ghost use Rattle.plane.specs.Bounds.{AxisBounds};
 ghost use Rattle.hpgl.specs.Valid.{ValidSettings};
-ghost use Rattle.soundness.specs.Sound as S;
+ghost use Rattle.wellformed.specs.Sound as S;
 use exact::floor_div;
 use hpgl::Position;
 use hpgl::Settings;

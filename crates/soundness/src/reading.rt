@@ -1,6 +1,6 @@
 // The reader's three rows, and that what it reads is known in polygon mode.
 ghost use mathlib.Core.Path.{_≡_};
-ghost use Rattle.soundness.specs.Sound as S;
+ghost use Rattle.wellformed.specs.Sound as S;
 use super::tests::between;
 use mnemonics::ROWS;
 use mnemonics::known_in_polygon;

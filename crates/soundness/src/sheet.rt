@@ -1,6 +1,6 @@
 // The settings' four rows.
 ghost use mathlib.Core.Path.{_≡_};
-ghost use Rattle.soundness.specs.Sound as S;
+ghost use Rattle.wellformed.specs.Sound as S;
 use super::tests::between;
 use rows::Row;
 

@@ -3,7 +3,7 @@ ghost use mathlib.Core.Path.{_≡_};
 ghost use lib.IntN.{_+ℤ_};
 ghost use Rattle.exact.specs.Whole.{_≤?_};
 ghost use Rattle.exact.specs.Fit.{Bd};
-ghost use Rattle.soundness.specs.Sound as S;
+ghost use Rattle.wellformed.specs.Sound as S;
 use rows::Row;
 
 fn first_below(p: Row, q: Row) -> bool

@@ -3,7 +3,7 @@ ghost use mathlib.Core.Path.{_≡_};
 ghost use Prim.Native.Nat.{_≤_, _<_};
 ghost use Rattle.exact.specs.Fit.{Bd};
 ghost use Rattle.plane.specs.Bounds.{mostAngle, mostSweep, WayBounds, CentreBounds};
-ghost use Rattle.soundness.specs.Sound as S;
+ghost use Rattle.wellformed.specs.Sound as S;
 use super::tests::between;
 use super::tests::blank;
 use super::tests::sum_below;

@@ -2,12 +2,12 @@
 //
 // With four arguments the hard limits are these: left, bottom, right, top.
 use console::limits;
+use delivery::files::End;
+use delivery::files::Sink;
+use delivery::files::run;
 use libc::STDERR_FILENO;
 use libc::STDIN_FILENO;
 use libc::STDOUT_FILENO;
-use plotting::files::End;
-use plotting::files::Sink;
-use plotting::files::run;
 
 // Says what went wrong, if anything did.
 fn tell(end: End) {

@@ -24,9 +24,9 @@ use Rattle.hpgl.specs.Place.{point, limits}
 use Rattle.hpgl.specs.Machine.{strokeOf, waiting, drawAnswer}
 use Rattle.hpgl.specs.Segment.{workSegment, segmentOf, drawnOf, segment-drawn}
 use Rattle.hpgl.specs.Valid.{Usable}
-use Rattle.vutaroi.specs.Calls.{drawnKind}
-use Rattle.vutaroi.specs.Ready.{machineIn, readyOf}
-use Rattle.vutaroi.specs.ReadyLaws.{ready-goes, goes-usable}
+use Rattle.answers.specs.Answers.{drawnKind}
+use Rattle.readiness.specs.Ready.{machineIn, readyOf}
+use Rattle.readiness.specs.ReadyLaws.{ready-goes, goes-usable}
 
 pub record Painted (m : State) (k : Stroke) : Type 0 where
   pub least : 1 ≤ k .pen

@@ -12,7 +12,7 @@ use Rattle.machine.specs.Gather.{plottedOf}
 use Rattle.textlines.specs.Text.{marksBelow}
 use Rattle.decimals.specs.Puts.{Puts, puts-same}
 use Rattle.plotting.specs.Plotted.{movedOf, mostMarks}
-use Rattle.plotting.specs.PlotPrinted.{markLines}
+use Rattle.printed.specs.PlotPrinted.{markLines}
 use Rattle.plotting.specs.PlottedLaws.{marked, marks-lines, steps}
 use borrow.Author.Needs.{needs}
 use Rattle.plotting.proofs.step.Statement.{statement}

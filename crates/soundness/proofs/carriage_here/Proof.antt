@@ -2,7 +2,7 @@
 use borrow.Author.Needs.{needs}
 use mathlib.Core.Path.{sym, _∙_, subst}
 use Rattle.hpgl.specs.Valid.{ValidSettings}
-use Rattle.soundness.specs.Sound.{carriageSound}
+use Rattle.wellformed.specs.Sound.{carriageSound}
 use Rattle.soundness.proofs.carriage_here.Statement.{statement}
 use Rattle.soundness.proofs.carriage_here.Tie as tie
 

@@ -8,7 +8,7 @@ use Prim.Native.Nat.{ℕ, suc, _+_, _*_, _-_, _≤_, _<_}
 use native.Mathlib.Omega.{arith}
 use lib.IntN.{ℤ}
 use Rattle.rows.specs.Rows.{rowAt}
-use Rattle.soundness.specs.Sound.{boxSound, edgesSound}
+use Rattle.wellformed.specs.Sound.{boxSound, edgesSound}
 use Rattle.soundness.proofs.edges_here.Statement.{statement}
 use Rattle.soundness.proofs.edges_here.Tie as tie
 use Rattle.saved.specs.Places.{edgesPlace}

@@ -1,7 +1,7 @@
 -- The proof of `inked_here`.
 use borrow.Author.Needs.{needs}
 use mathlib.Core.Path.{_∙_}
-use Rattle.soundness.specs.Sound.{inkedSound}
+use Rattle.wellformed.specs.Sound.{inkedSound}
 use Rattle.soundness.proofs.inked_here.Statement.{statement}
 use Rattle.soundness.proofs.inked_here.Tie as tie
 

@@ -1,7 +1,7 @@
 -- The proof of `known_here`.
 use borrow.Author.Needs.{needs}
 use mathlib.Core.Path.{_∙_}
-use Rattle.soundness.specs.Sound.{knownSound}
+use Rattle.wellformed.specs.Sound.{knownSound}
 use Rattle.soundness.proofs.known_here.Statement.{statement}
 use Rattle.soundness.proofs.known_here.Tie as tie
 

@@ -1,7 +1,7 @@
 -- The proof of `reader_here`.
 use borrow.Author.Needs.{needs}
 use mathlib.Core.Path.{_∙_}
-use Rattle.soundness.specs.Sound.{readerSound}
+use Rattle.wellformed.specs.Sound.{readerSound}
 use Rattle.soundness.proofs.reader_here.Statement.{statement}
 use Rattle.soundness.proofs.reader_here.Tie as tie
 

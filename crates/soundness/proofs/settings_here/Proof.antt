@@ -1,7 +1,7 @@
 -- The proof of `settings_here`.
 use borrow.Author.Needs.{needs}
 use mathlib.Core.Path.{_∙_}
-use Rattle.soundness.specs.Sound.{settingsSound}
+use Rattle.wellformed.specs.Sound.{settingsSound}
 use Rattle.soundness.proofs.settings_here.Statement.{statement}
 use Rattle.soundness.proofs.settings_here.Tie as tie
 

@@ -9,8 +9,8 @@ use Rattle.rows.specs.Rows.{rowAt}
 use Rattle.hpgl.specs.Valid.{ValidSettings}
 use Rattle.saved.specs.Places.{limitsPlace, cornersPlace, scalePlace, windowPlace, positionPlace, penPlace, polygonPlace, firstPlace, savedPlace, workPlace, acrossPlace, alongPlace, startPlace}
 use Rattle.saved.specs.Saved.{settingsAt}
-use Rattle.soundness.specs.PartLaws.{settings-law}
-use Rattle.soundness.specs.Sound.{readerSound, settingsSound, carriageSound, knownSound, workSound, inkedSound, soundOf}
+use Rattle.wellformed.specs.PartLaws.{settings-law}
+use Rattle.wellformed.specs.Sound.{readerSound, settingsSound, carriageSound, knownSound, workSound, inkedSound, soundOf}
 use Rattle.soundness.proofs.sound.Statement.{statement}
 use Rattle.soundness.proofs.sound.Tie as tie
 

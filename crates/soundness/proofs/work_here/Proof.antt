@@ -1,7 +1,7 @@
 -- The proof of `work_here`.
 use borrow.Author.Needs.{needs}
 use mathlib.Core.Path.{_∙_}
-use Rattle.soundness.specs.Sound.{workSound}
+use Rattle.wellformed.specs.Sound.{workSound}
 use Rattle.soundness.proofs.work_here.Statement.{statement}
 use Rattle.soundness.proofs.work_here.Tie as tie
 

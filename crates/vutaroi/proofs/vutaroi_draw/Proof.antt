@@ -14,9 +14,10 @@ use Rattle.hpgl.specs.Machine.{drawState, drawAnswer}
 use Rattle.hpgl.specs.ValidKept.{usable-draw}
 use Rattle.saved.specs.Saved.{savedOf, loadedOf}
 use Rattle.machine.specs.Loadable.{Loadable}
-use Rattle.vutaroi.specs.Ready.{listOf, machineIn, readyOf}
-use Rattle.vutaroi.specs.ReadyLaws.{Goes, ready-goes, goes-loadable, usable-light, part-rest}
-use Rattle.vutaroi.specs.Calls.{drawnKind, drawnNumbers, drawCall}
+use Rattle.readiness.specs.Ready.{listOf, machineIn, readyOf}
+use Rattle.readiness.specs.ReadyLaws.{Goes, ready-goes, goes-loadable, usable-light, part-rest}
+use Rattle.answers.specs.Answers.{drawnKind, drawnNumbers}
+use Rattle.vutaroi.specs.Calls.{drawCall}
 use Rattle.vutaroi.proofs.vutaroi_draw.Statement.{statement}
 use Rattle.vutaroi.proofs.vutaroi_draw.Tie as tie
 

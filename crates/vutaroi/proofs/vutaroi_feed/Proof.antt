@@ -15,9 +15,10 @@ use Rattle.feeding.specs.Feed.{feedOf, laidNumbers}
 use Rattle.feeding.specs.FeedLaws.{feed-usable}
 use Rattle.saved.specs.Saved.{savedOf, loadedOf}
 use Rattle.machine.specs.Loadable.{Loadable}
-use Rattle.vutaroi.specs.Ready.{listOf, machineIn, readyOf}
-use Rattle.vutaroi.specs.ReadyLaws.{Goes, ready-goes, goes-loadable, usable-light, part-rest}
-use Rattle.vutaroi.specs.Calls.{countsOf, feedCall}
+use Rattle.readiness.specs.Ready.{listOf, machineIn, readyOf}
+use Rattle.readiness.specs.ReadyLaws.{Goes, ready-goes, goes-loadable, usable-light, part-rest}
+use Rattle.answers.specs.Answers.{countsOf}
+use Rattle.vutaroi.specs.Calls.{feedCall}
 use Rattle.vutaroi.proofs.vutaroi_feed.Statement.{statement}
 use Rattle.vutaroi.proofs.vutaroi_feed.Tie as tie
 

@@ -12,8 +12,8 @@ use Rattle.seal.specs.Light.{Light}
 use Rattle.hpgl.specs.Machine.{rect, freshState, freshNumber}
 use Rattle.hpgl.specs.ValidKept.{usable-fresh}
 use Rattle.saved.specs.Saved.{savedOf}
-use Rattle.vutaroi.specs.Ready.{listNumbers, listOf}
-use Rattle.vutaroi.specs.ReadyLaws.{usable-light, part-rest}
+use Rattle.readiness.specs.Ready.{listNumbers, listOf}
+use Rattle.readiness.specs.ReadyLaws.{usable-light, part-rest}
 use Rattle.vutaroi.specs.Calls.{freshCall}
 use Rattle.vutaroi.proofs.vutaroi_fresh.Statement.{statement}
 use Rattle.vutaroi.proofs.vutaroi_fresh.Tie as tie

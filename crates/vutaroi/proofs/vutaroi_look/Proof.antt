@@ -11,9 +11,10 @@ use Rattle.rows.specs.Rows.{over}
 use Rattle.hpgl.specs.Machine.{lookAt}
 use Rattle.saved.specs.Saved.{loadedOf}
 use Rattle.machine.specs.Loadable.{Loadable}
-use Rattle.vutaroi.specs.Ready.{machineIn, readyOf}
-use Rattle.vutaroi.specs.ReadyLaws.{Goes, ready-goes, goes-loadable}
-use Rattle.vutaroi.specs.Calls.{lookNumbers, lookCall}
+use Rattle.readiness.specs.Ready.{machineIn, readyOf}
+use Rattle.readiness.specs.ReadyLaws.{Goes, ready-goes, goes-loadable}
+use Rattle.answers.specs.Answers.{lookNumbers}
+use Rattle.vutaroi.specs.Calls.{lookCall}
 use Rattle.vutaroi.proofs.vutaroi_look.Statement.{statement}
 use Rattle.vutaroi.proofs.vutaroi_look.Tie as tie
 

@@ -15,9 +15,10 @@ use Rattle.feeding.specs.Plot.{plotFrom, laidMarks}
 use Rattle.feeding.specs.PlotLaws.{plot-usable}
 use Rattle.saved.specs.Saved.{savedOf, loadedOf}
 use Rattle.machine.specs.Loadable.{Loadable}
-use Rattle.vutaroi.specs.Ready.{listOf, machineIn, readyOf}
-use Rattle.vutaroi.specs.ReadyLaws.{Goes, ready-goes, goes-loadable, usable-light, part-rest}
-use Rattle.vutaroi.specs.Calls.{markCountsOf, plotCall}
+use Rattle.readiness.specs.Ready.{listOf, machineIn, readyOf}
+use Rattle.readiness.specs.ReadyLaws.{Goes, ready-goes, goes-loadable, usable-light, part-rest}
+use Rattle.answers.specs.Answers.{markCountsOf}
+use Rattle.vutaroi.specs.Calls.{plotCall}
 use Rattle.vutaroi.proofs.vutaroi_plot.Statement.{statement}
 use Rattle.vutaroi.proofs.vutaroi_plot.Tie as tie
 

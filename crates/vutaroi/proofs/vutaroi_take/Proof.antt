@@ -13,8 +13,8 @@ use Rattle.hpgl.specs.Machine.{takeState, takeNumber}
 use Rattle.hpgl.specs.ValidKept.{usable-take}
 use Rattle.saved.specs.Saved.{savedOf, loadedOf}
 use Rattle.machine.specs.Loadable.{Loadable}
-use Rattle.vutaroi.specs.Ready.{listOf, machineIn, readyOf}
-use Rattle.vutaroi.specs.ReadyLaws.{Goes, ready-goes, goes-loadable, usable-light, part-rest}
+use Rattle.readiness.specs.Ready.{listOf, machineIn, readyOf}
+use Rattle.readiness.specs.ReadyLaws.{Goes, ready-goes, goes-loadable, usable-light, part-rest}
 use Rattle.vutaroi.specs.Calls.{takeCall}
 use Rattle.vutaroi.proofs.vutaroi_take.Statement.{statement}
 use Rattle.vutaroi.proofs.vutaroi_take.Tie as tie

@@ -3,7 +3,7 @@ use borrow.Author.Needs.{needs}
 use mathlib.Core.Path.{_≡_, refl, sym, _∙_}
 use mathlib.Core.Bool.{true, false}
 use Rattle.saved.specs.Saved.{positionOf}
-use Rattle.soundness.specs.Sound.{placedOf, partsSound, carriageSound}
+use Rattle.wellformed.specs.Sound.{placedOf, partsSound, carriageSound}
 use Rattle.soundness.proofs.carriage.carriage_sound.Statement.{statement}
 use Rattle.soundness.proofs.carriage.carriage_sound.Tie as tie
 

@@ -7,7 +7,7 @@ use mir.Syntax.{w64}
 use mir.Val.{SFits}
 use Rattle.exact.specs.Fit.{eq64-t, eq64-f}
 use Rattle.saved.specs.Saved.{positionOf}
-use Rattle.soundness.specs.Sound.{placedOf, keptSound}
+use Rattle.wellformed.specs.Sound.{placedOf, keptSound}
 use Rattle.soundness.proofs.carriage.kept_sound.Statement.{statement}
 use Rattle.soundness.proofs.carriage.kept_sound.Tie as tie
 

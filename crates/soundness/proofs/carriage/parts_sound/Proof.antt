@@ -2,7 +2,7 @@
 use borrow.Author.Needs.{needs}
 use mathlib.Core.Path.{_≡_, refl, sym, _∙_}
 use mathlib.Core.Bool.{true, false}
-use Rattle.soundness.specs.Sound.{penSound, positionsSound, partsSound}
+use Rattle.wellformed.specs.Sound.{penSound, positionsSound, partsSound}
 use Rattle.soundness.proofs.carriage.parts_sound.Statement.{statement}
 use Rattle.soundness.proofs.carriage.parts_sound.Tie as tie
 

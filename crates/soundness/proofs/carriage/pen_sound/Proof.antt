@@ -1,7 +1,7 @@
 -- The proof of `pen_sound`.
 use borrow.Author.Needs.{needs}
 use Rattle.exact.proofs.Rules.{rules64}
-use Rattle.soundness.specs.Sound.{penSound}
+use Rattle.wellformed.specs.Sound.{penSound}
 use Rattle.soundness.proofs.carriage.pen_sound.Statement.{statement}
 use Rattle.soundness.proofs.carriage.pen_sound.Tie as tie
 

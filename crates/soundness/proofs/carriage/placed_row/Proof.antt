@@ -5,7 +5,7 @@ use mir.Syntax.{w64}
 use mir.Val.{SFits}
 use Rattle.exact.specs.Fit.{arg}
 use Rattle.saved.specs.Saved.{positionOf}
-use Rattle.soundness.specs.Sound.{placedOf}
+use Rattle.wellformed.specs.Sound.{placedOf}
 use Rattle.soundness.proofs.carriage.placed_row.Statement.{statement}
 use Rattle.soundness.proofs.carriage.placed_row.Tie as tie
 

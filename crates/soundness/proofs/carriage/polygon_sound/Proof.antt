@@ -7,8 +7,8 @@ use mir.Syntax.{w64}
 use mir.Val.{SFits}
 use Rattle.exact.specs.Fit.{eq64-t, eq64-f}
 use native.Mathlib.Omega.{arith}
-use Rattle.soundness.specs.RowTests.{between-true, bd-nat}
-use Rattle.soundness.specs.Sound.{betweenOf, fiveOf, polygonSound}
+use Rattle.wellformed.specs.RowTests.{between-true, bd-nat}
+use Rattle.wellformed.specs.Sound.{betweenOf, fiveOf, polygonSound}
 use Rattle.soundness.proofs.carriage.polygon_sound.Statement.{statement}
 use Rattle.soundness.proofs.carriage.polygon_sound.Tie as tie
 

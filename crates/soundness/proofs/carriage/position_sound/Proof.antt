@@ -1,7 +1,7 @@
 -- The proof of `position_sound`.
 use borrow.Author.Needs.{needs}
 use Rattle.exact.proofs.Rules.{rules64}
-use Rattle.soundness.specs.Sound.{positionSound}
+use Rattle.wellformed.specs.Sound.{positionSound}
 use Rattle.soundness.proofs.carriage.position_sound.Statement.{statement}
 use Rattle.soundness.proofs.carriage.position_sound.Tie as tie
 

@@ -2,7 +2,7 @@
 use borrow.Author.Needs.{needs}
 use mathlib.Core.Path.{_≡_, refl, sym, _∙_}
 use mathlib.Core.Bool.{true, false}
-use Rattle.soundness.specs.Sound.{positionSound, positionsSound}
+use Rattle.wellformed.specs.Sound.{positionSound, positionsSound}
 use Rattle.soundness.proofs.carriage.positions_sound.Statement.{statement}
 use Rattle.soundness.proofs.carriage.positions_sound.Tie as tie
 

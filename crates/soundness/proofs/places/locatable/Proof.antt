@@ -8,7 +8,7 @@ use Rattle.exact.specs.Fit.{arg, le?-is, m64, Bd, Num, ret, put, neg, fit}
 use native.Mathlib.Nat.{div-le-self}
 use Rattle.plane.specs.declared.position.Axis.{Axis}
 use Rattle.plane.specs.Position.{inRangeOf}
-use Rattle.soundness.specs.Sound.{roomOf, locatableOf}
+use Rattle.wellformed.specs.Sound.{roomOf, locatableOf}
 use Rattle.soundness.proofs.places.locatable.Statement.{statement}
 use Rattle.soundness.proofs.places.locatable.Tie as tie
 

@@ -6,8 +6,8 @@ use Rattle.plane.specs.declared.position.Axis.{Axis}
 use Rattle.plane.specs.Bounds.{AxisBounds}
 use Rattle.hpgl.specs.Place.{axisX, axisY, inRange}
 use Rattle.hpgl.specs.ValidFacts.{axis-bounds-x, axis-bounds-y}
-use Rattle.soundness.specs.PartLaws.{locatable-true}
-use Rattle.soundness.specs.Sound.{locatableOf, placedOf}
+use Rattle.wellformed.specs.PartLaws.{locatable-true}
+use Rattle.wellformed.specs.Sound.{locatableOf, placedOf}
 use Rattle.soundness.proofs.places.placed.Statement.{statement}
 use Rattle.soundness.proofs.places.placed.Tie as tie
 

@@ -7,7 +7,7 @@ use Prim.Native.Nat.{ℕ, _/_}
 use Rattle.exact.specs.Whole.{_<ᶻ_, <?-true, <?-false}
 use Rattle.exact.specs.Divide.{floorDiv}
 use Rattle.exact.specs.Nearest.{neg-pos, pos-of}
-use Rattle.soundness.specs.Sound.{roomOf}
+use Rattle.wellformed.specs.Sound.{roomOf}
 use Rattle.soundness.proofs.places.room.Statement.{statement}
 use Rattle.soundness.proofs.places.room.Tie as tie
 

@@ -7,7 +7,7 @@ use mir.Val.{SFits}
 use Rattle.exact.specs.Fit.{arg, num, lt?-is, eq64-t, eq64-f}
 use Rattle.mnemonics.specs.Table.{knownInPolygon}
 use Rattle.rows.specs.Rows.{smallOf, mostByte}
-use Rattle.soundness.specs.Sound.{knownSound}
+use Rattle.wellformed.specs.Sound.{knownSound}
 use Rattle.soundness.proofs.reading.known_sound.Statement.{statement}
 use Rattle.soundness.proofs.reading.known_sound.Tie as tie
 

@@ -1,7 +1,7 @@
 -- The proof of `number_sound`.
 use borrow.Author.Needs.{needs}
 use Rattle.exact.proofs.Rules.{rules64}
-use Rattle.soundness.specs.Sound.{numberSound}
+use Rattle.wellformed.specs.Sound.{numberSound}
 use Rattle.soundness.proofs.reading.number_sound.Statement.{statement}
 use Rattle.soundness.proofs.reading.number_sound.Tie as tie
 

@@ -1,7 +1,7 @@
 -- The proof of `numbers_sound`.
 use borrow.Author.Needs.{needs}
 use Rattle.exact.proofs.Rules.{rules64}
-use Rattle.soundness.specs.Sound.{numbersSound}
+use Rattle.wellformed.specs.Sound.{numbersSound}
 use Rattle.soundness.proofs.reading.numbers_sound.Statement.{statement}
 use Rattle.soundness.proofs.reading.numbers_sound.Tie as tie
 

@@ -4,7 +4,7 @@ use lib.IntN.{pos}
 use mir.Syntax.{w64}
 use mir.Val.{SFits}
 use Rattle.exact.specs.Fit.{eq64-t, eq64-f}
-use Rattle.soundness.specs.Sound.{placeSound}
+use Rattle.wellformed.specs.Sound.{placeSound}
 use Rattle.soundness.proofs.reading.place_sound.Statement.{statement}
 use Rattle.soundness.proofs.reading.place_sound.Tie as tie
 

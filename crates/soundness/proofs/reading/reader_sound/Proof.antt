@@ -2,7 +2,7 @@
 use borrow.Author.Needs.{needs}
 use mathlib.Core.Path.{_≡_, refl, sym, _∙_}
 use mathlib.Core.Bool.{true, false}
-use Rattle.soundness.specs.Sound.{placeSound, numbersSound, readerSound}
+use Rattle.wellformed.specs.Sound.{placeSound, numbersSound, readerSound}
 use Rattle.soundness.proofs.reading.reader_sound.Statement.{statement}
 use Rattle.soundness.proofs.reading.reader_sound.Tie as tie
 

@@ -1,7 +1,7 @@
 -- The proof of `box_sound`.
 use borrow.Author.Needs.{needs}
 use Rattle.exact.proofs.Rules.{rules64}
-use Rattle.soundness.specs.Sound.{boxSound}
+use Rattle.wellformed.specs.Sound.{boxSound}
 use Rattle.soundness.proofs.sheet.box_sound.Statement.{statement}
 use Rattle.soundness.proofs.sheet.box_sound.Tie as tie
 

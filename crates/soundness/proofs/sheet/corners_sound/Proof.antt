@@ -5,7 +5,7 @@ use mathlib.Core.Bool.{true, false}
 use mir.Syntax.{w64}
 use mir.Val.{SFits}
 use Rattle.exact.specs.Fit.{eq64-t, eq64-f}
-use Rattle.soundness.specs.Sound.{betweenOf, fourLow, fourHigh, cornersSound}
+use Rattle.wellformed.specs.Sound.{betweenOf, fourLow, fourHigh, cornersSound}
 use Rattle.soundness.proofs.sheet.corners_sound.Statement.{statement}
 use Rattle.soundness.proofs.sheet.corners_sound.Tie as tie
 

@@ -5,7 +5,7 @@ use mathlib.Core.Bool.{true, false}
 use mir.Syntax.{w64}
 use mir.Val.{SFits}
 use Rattle.exact.specs.Fit.{arg, lt?-is}
-use Rattle.soundness.specs.Sound.{betweenOf, fourLow, fourHigh, limitsSound}
+use Rattle.wellformed.specs.Sound.{betweenOf, fourLow, fourHigh, limitsSound}
 use Rattle.soundness.proofs.sheet.limits_sound.Statement.{statement}
 use Rattle.soundness.proofs.sheet.limits_sound.Tie as tie
 

@@ -6,7 +6,7 @@ use lib.IntN.{pos}
 use mir.Syntax.{w64}
 use mir.Val.{SFits}
 use Rattle.exact.specs.Fit.{eq64-t, eq64-f}
-use Rattle.soundness.specs.Sound.{betweenOf, fourLow, fourHigh, scaleSound}
+use Rattle.wellformed.specs.Sound.{betweenOf, fourLow, fourHigh, scaleSound}
 use Rattle.soundness.proofs.sheet.scale_sound.Statement.{statement}
 use Rattle.soundness.proofs.sheet.scale_sound.Tie as tie
 

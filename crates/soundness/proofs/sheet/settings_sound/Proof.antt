@@ -2,7 +2,7 @@
 use borrow.Author.Needs.{needs}
 use mathlib.Core.Path.{_≡_, refl, sym, _∙_}
 use mathlib.Core.Bool.{true, false}
-use Rattle.soundness.specs.Sound.{limitsSound, cornersSound, scaleSound, settingsSound}
+use Rattle.wellformed.specs.Sound.{limitsSound, cornersSound, scaleSound, settingsSound}
 use Rattle.soundness.proofs.sheet.settings_sound.Statement.{statement}
 use Rattle.soundness.proofs.sheet.settings_sound.Tie as tie
 

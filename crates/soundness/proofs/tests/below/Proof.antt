@@ -2,7 +2,7 @@
 use borrow.Author.Needs.{needs}
 use mathlib.Core.Path.{_≡_, refl, sym, _∙_}
 use mathlib.Core.Bool.{true, false}
-use Rattle.soundness.specs.Sound.{firstBelow, belowOf}
+use Rattle.wellformed.specs.Sound.{firstBelow, belowOf}
 use Rattle.soundness.proofs.tests.below.Statement.{statement}
 use Rattle.soundness.proofs.tests.below.Tie as tie
 

@@ -2,7 +2,7 @@
 use borrow.Author.Needs.{needs}
 use mathlib.Core.Path.{_≡_, refl, sym, _∙_}
 use mathlib.Core.Bool.{true, false}
-use Rattle.soundness.specs.Sound.{belowOf, betweenOf}
+use Rattle.wellformed.specs.Sound.{belowOf, betweenOf}
 use Rattle.soundness.proofs.tests.between.Statement.{statement}
 use Rattle.soundness.proofs.tests.between.Tie as tie
 

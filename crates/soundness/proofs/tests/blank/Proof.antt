@@ -1,7 +1,7 @@
 -- The proof of `blank`.
 use borrow.Author.Needs.{needs}
 use Rattle.exact.proofs.Rules.{rules64}
-use Rattle.soundness.specs.Sound.{blankSound}
+use Rattle.wellformed.specs.Sound.{blankSound}
 use Rattle.soundness.proofs.tests.blank.Statement.{statement}
 use Rattle.soundness.proofs.tests.blank.Tie as tie
 

@@ -2,7 +2,7 @@
 use borrow.Author.Needs.{needs}
 use mathlib.Core.Path.{_≡_, refl, sym, _∙_}
 use mathlib.Core.Bool.{true, false}
-use Rattle.soundness.specs.Sound.{blankSound, blanksSound}
+use Rattle.wellformed.specs.Sound.{blankSound, blanksSound}
 use Rattle.soundness.proofs.work.blanks.Statement.{statement}
 use Rattle.soundness.proofs.work.blanks.Tie as tie
 

@@ -6,9 +6,9 @@ use mathlib.Core.Bool.{true, false}
 use lib.IntN.{pos, _+ℤ_}
 use Rattle.exact.specs.Whole.{_≤?_}
 use native.Mathlib.Omega.{arith}
-use Rattle.soundness.specs.RowTests.{between-true, bd-nat}
-use Rattle.soundness.specs.WorkLaws.{ring-true}
-use Rattle.soundness.specs.Sound.{betweenOf, fiveOf, roundOf, ringSound, chordsSound}
+use Rattle.wellformed.specs.RowTests.{between-true, bd-nat}
+use Rattle.wellformed.specs.WorkLaws.{ring-true}
+use Rattle.wellformed.specs.Sound.{betweenOf, fiveOf, roundOf, ringSound, chordsSound}
 use Rattle.soundness.proofs.work.chords_sound.Statement.{statement}
 use Rattle.soundness.proofs.work.chords_sound.Tie as tie
 

@@ -7,7 +7,7 @@ use mir.Val.{SFits, ofZ}
 use Rattle.exact.specs.Whole.{_≡?_}
 use Rattle.exact.specs.Fit.{arg, num, le?-is, eq64-t, eq64-f, eq-bits, fits, lit}
 use lib.Dec.{eqb}
-use Rattle.soundness.specs.Sound.{inkedSound}
+use Rattle.wellformed.specs.Sound.{inkedSound}
 use Rattle.soundness.proofs.work.inked_sound.Statement.{statement}
 use Rattle.soundness.proofs.work.inked_sound.Tie as tie
 

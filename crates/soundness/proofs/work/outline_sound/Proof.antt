@@ -6,8 +6,8 @@ use mathlib.Core.Bool.{true, false}
 use lib.IntN.{pos, _+ℤ_}
 use Rattle.exact.specs.Whole.{_≤?_}
 use native.Mathlib.Omega.{arith}
-use Rattle.soundness.specs.RowTests.{between-true, bd-nat}
-use Rattle.soundness.specs.Sound.{betweenOf, fiveOf, outlineSound}
+use Rattle.wellformed.specs.RowTests.{between-true, bd-nat}
+use Rattle.wellformed.specs.Sound.{betweenOf, fiveOf, outlineSound}
 use Rattle.soundness.proofs.work.outline_sound.Statement.{statement}
 use Rattle.soundness.proofs.work.outline_sound.Tie as tie
 

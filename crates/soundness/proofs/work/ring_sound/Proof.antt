@@ -2,7 +2,7 @@
 use borrow.Author.Needs.{needs}
 use mathlib.Core.Path.{_≡_, refl, sym, _∙_}
 use mathlib.Core.Bool.{true, false}
-use Rattle.soundness.specs.Sound.{betweenOf, centreLow, centreHigh, ringSound}
+use Rattle.wellformed.specs.Sound.{betweenOf, centreLow, centreHigh, ringSound}
 use Rattle.soundness.proofs.work.ring_sound.Statement.{statement}
 use Rattle.soundness.proofs.work.ring_sound.Tie as tie
 

@@ -6,7 +6,7 @@ use mir.Syntax.{w64}
 use Rattle.exact.specs.Fit.{val}
 use Rattle.plane.specs.Arc.{arcFits}
 use Rattle.plane.specs.ArcLaws.{round-fits}
-use Rattle.soundness.specs.Sound.{roundOf}
+use Rattle.wellformed.specs.Sound.{roundOf}
 use Rattle.soundness.proofs.work.round.Statement.{statement}
 use Rattle.soundness.proofs.work.round.Tie as tie
 

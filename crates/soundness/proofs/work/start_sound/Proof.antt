@@ -7,7 +7,7 @@ use lib.IntN.{pos}
 use mir.Syntax.{w64}
 use mir.Val.{SFits}
 use Rattle.exact.specs.Fit.{eq64-t, eq64-f}
-use Rattle.soundness.specs.Sound.{betweenOf, startLow, startHigh, startSound}
+use Rattle.wellformed.specs.Sound.{betweenOf, startLow, startHigh, startSound}
 use Rattle.soundness.proofs.work.start_sound.Statement.{statement}
 use Rattle.soundness.proofs.work.start_sound.Tie as tie
 

@@ -6,7 +6,7 @@ use lib.IntN.{pos}
 use mir.Syntax.{w64}
 use mir.Val.{SFits}
 use Rattle.exact.specs.Fit.{eq64-t, eq64-f}
-use Rattle.soundness.specs.Sound.{blankSound, workSound}
+use Rattle.wellformed.specs.Sound.{blankSound, workSound}
 use Rattle.soundness.proofs.work.work_sound.Statement.{statement}
 use Rattle.soundness.proofs.work.work_sound.Tie as tie
 
