@@ -1,6 +1,6 @@
 -- The name of what is refused, from the bytes before it.
 use mathlib.Core.Bool.{cond}
-use mathlib.Core.List.{List}
+use mathlib.Core.List.{List, [], _∷_}
 use Prim.Native.Char.{code}
 use Prim.Native.Nat.{ℕ, zero, suc, _-_}
 use lib.Dec.{eqb, ltb, leb}
@@ -27,6 +27,12 @@ letterBefore bytes (suc n) = letterOf (getD bytes n 0)
 unfoldable pub letterEnd : List ℕ → ℕ → ℕ
 letterEnd bytes zero = 0
 letterEnd bytes (suc n) = cond (eqb (letterBefore bytes (suc n)) 0) (letterEnd bytes n) (suc n)
+
+-- how many of the first n bytes stand before the first letter
+unfoldable pub letterless : ℕ → List ℕ → ℕ
+letterless zero bytes = 0
+letterless (suc n) [] = 0
+letterless (suc n) (b ∷ bytes) = cond (eqb (letterOf b) 0) (suc (letterless n bytes)) 0
 
 -- the last two letters of the first n bytes; l is for those before these bytes
 unfoldable pub twoLetters : Letters → List ℕ → ℕ → ℕ → Letters

@@ -53,6 +53,11 @@ inGroup r group key place =
 unfoldable pub notedOf : Refusals → ℕ → Letters → ℕ → Refusals
 notedOf r number name place = inGroup r (groupIn (r .keys) (keyOf number name)) (keyOf number name) place
 
+-- refusals of one number and name at these places, one after the other
+unfoldable pub notedAll : Refusals → ℕ → Letters → List ℕ → Refusals
+notedAll r number name [] = r
+notedAll r number name (place ∷ places) = notedAll (notedOf r number name place) number name places
+
 -- what becomes of a group
 unfoldable pub kindOfKey : ℕ → ℕ
 kindOfKey key = refusedKind (numberOf key) (nameIn key .first) (nameIn key .second)

@@ -1,6 +1,7 @@
 // The name of what is refused, from the bytes before it.
 ghost use mathlib.Core.Path.{_≡_};
 ghost use Prim.Native.Nat.{_-_};
+ghost use lib.ListN.{drop};
 ghost use Rattle.counting.specs.Names as S;
 
 // Two letters: the last two before a place, or a name.
@@ -57,6 +58,26 @@ fn letter_before(bytes: &[u8], at: usize) -> u8
         return letter(bytes[at - 1]);
     }
     0
+}
+
+// How many bytes from a place on are no letters, of so many at most.
+pub fn letterless(bytes: &[u8], from: usize, most: usize) -> usize
+    ensures { λ r. ⌜ r ≡ S.letterless most (drop from (now (bytes .entry))) ⌝ }
+{
+    let mut n = 0;
+    while n < most {
+        if bytes.len() <= from {
+            return n;
+        }
+        if bytes.len() - from <= n {
+            return n;
+        }
+        if letter(bytes[from + n]) != 0 {
+            return n;
+        }
+        n += 1;
+    }
+    n
 }
 
 // The place after the last letter before a place; 0 where there is none.

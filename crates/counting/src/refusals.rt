@@ -70,45 +70,46 @@ fn group_of(keys: [u64; 16], key: u64) -> usize
 }
 
 // One more place in a group that has so many.
-fn with_place(places: [u64; 96], group: usize, count: u64, place: u64) -> [u64; 96]
-    ensures { λ r. ⌜ r ≡ S.withPlace places group count place ⌝ }
+fn put_place(places: &mut [u64; 96], group: usize, count: u64, place: u64)
+    ensures { λ _. ⌜ now (places .exit) ≡ S.withPlace (now (places .entry)) group count place ⌝ }
 {
-    let mut changed = places;
     if group < GROUPS {
         if count < 6 {
-            changed[group * PLACES + count as usize] = place;
-            return changed;
+            places[group * PLACES + count as usize] = place;
+            return;
         }
-        return changed;
+        return;
     }
-    changed
 }
 
-// One more refusal: the byte is counted from 1.
-pub fn noted(r: Refusals, number: u8, name: Letters, place: u64) -> Refusals
-    ensures { λ q. ⌜ q ≡ S.notedOf r number name place ⌝ }
+// Refusals of one number and name at these places, bytes counted from 1. The lists are changed in place: to copy them takes longer than all the rest.
+pub fn noted(r: Refusals, number: u8, name: Letters, bytes: &[u64]) -> Refusals
+    ensures { λ q. ⌜ q ≡ S.notedAll r number name (now (bytes .entry)) ⌝ }
 {
+    let key = key_of(number, name);
     let mut keys = r.keys;
     let mut counts = r.counts;
-    let places = r.places;
-    let key = key_of(number, name);
-    let group = group_of(keys, key);
-    if group < GROUPS {
-        let count = counts[group];
-        keys[group] = key;
-        counts[group] = sum(count, 1);
-        return Refusals {
-            keys: keys,
-            counts: counts,
-            places: with_place(places, group, count, place),
-            others: r.others,
-        };
+    let mut places = r.places;
+    let mut others = r.others;
+    let mut i = 0;
+    while i < bytes.len() {
+        let place = bytes[i];
+        let group = group_of(keys, key);
+        i += 1;
+        if group < GROUPS {
+            let count = counts[group];
+            keys[group] = key;
+            counts[group] = sum(count, 1);
+            put_place(&mut places, group, count, place);
+            continue;
+        }
+        others = sum(others, 1);
     }
     Refusals {
         keys: keys,
         counts: counts,
         places: places,
-        others: sum(r.others, 1),
+        others: others,
     }
 }
 

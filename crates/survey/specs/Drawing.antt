@@ -1,87 +1,70 @@
--- A drawing step by step: a waiting segment is drawn and counted; else the machine runs up to a refusal or the next segment; else the block has ended.
+-- A drawing byte by byte: each byte is taken, a refused one is noted, and the segments that it leaves waiting are drawn and counted.
 use mathlib.Core.Bool.{Bool, true, false, cond}
-use mathlib.Core.List.{List}
+use mathlib.Core.List.{List, [], _∷_}
 use Prim.Native.Char.{code}
-use Prim.Native.Nat.{ℕ, zero, suc}
-use lib.Dec.{eqb, ltb}
-use lib.ListN.{length, drop}
+use Prim.Native.Nat.{ℕ, zero, suc, _+_, _*_}
+use lib.Dec.{eqb}
+use lib.IntN.{ℤ, pos, natAbs}
+use lib.ListN.{length, getD, drop}
+use Rattle.reader.specs.Reader.{unknown}
 use Rattle.hpgl.specs.declared.State.{State}
 use Rattle.hpgl.specs.declared.Segment.{Segment}
 use Rattle.hpgl.specs.declared.Segment.the-variants as segment
-use Rattle.hpgl.specs.Machine.{takeState, takeNumber}
+use Rattle.hpgl.specs.Machine.{waiting, takeState, takeNumber, drawState, drawAnswer}
 use Rattle.hpgl.specs.Segment.{segmentOf}
-use Rattle.machine.specs.declared.Ran.{Ran}
-use Rattle.machine.specs.declared.Worked.{Worked}
-use Rattle.machine.specs.Calls.{workedOf}
-use Rattle.machine.specs.Run.{runOf}
 use Rattle.console.specs.Sums.{added}
+use Rattle.counting.specs.declared.names.Letters.{Letters}
 use Rattle.counting.specs.declared.refusals.Refusals.{Refusals}
+use Rattle.counting.specs.declared.tally.Tally.{Tally}
 use Rattle.survey.specs.declared.drawing.Drawing.{Drawing}
+use Rattle.survey.specs.declared.drawing.Painted.{Painted}
 use Rattle.survey.specs.declared.drawing.Surveyed.{Surveyed}
 use Rattle.counting.specs.Tally.{countedOf}
-use Rattle.counting.specs.Names.{lettersBefore, nameOf}
-use Rattle.counting.specs.Refusals.{notedOf}
+use Rattle.counting.specs.Names.{unnamed, lettersBefore, nameOf}
+use Rattle.counting.specs.Refusals.{notedOf, notedAll}
 
 unfoldable pub waitsOf : Segment → Bool
 waitsOf segment.Nothing = false
 waitsOf segment.PenUp = true
 waitsOf (segment.Line a b) = true
 
--- a segment is drawn, and counted
-abbrev pub drewOf : Drawing → Segment → Worked → Drawing
-drewOf d s w = record {
-  machine = w .machine;
-  before = d .before;
-  letters = d .letters;
-  at = d .at;
-  tally = countedOf (d .tally) s (w .drawn);
-  refusals = d .refusals;
-  more = true;
-}
+-- k segments wait: each is drawn, and counted
+unfoldable pub drawnOff : ℕ → State → Tally → Painted
+drawnOff zero m t = record { machine = record { state = m }; tally = t }
+drawnOff (suc k) m t = drawnOff k (drawState m) (countedOf t (segmentOf m) (drawAnswer m))
 
 -- a refused byte is noted with its name, and its place counted from 1
+unfoldable pub refusedAt : Refusals → Letters → ℕ → List ℕ → ℕ → ℕ → Refusals
+refusedAt r letters before block at number = notedOf r number (nameOf letters block at number) (added before at)
+
 unfoldable pub refusalsAfter : Drawing → List ℕ → ℕ → ℕ → Refusals
-refusalsAfter d block at number =
-    cond (eqb number 0) (d .refusals) (notedOf (d .refusals) number (nameOf (d .letters) block at number) (added (d .before) at))
+refusalsAfter d block at number = cond (eqb number 0) (d .refusals) (refusedAt (d .refusals) (d .letters) (d .before) block at number)
 
-abbrev pub ranOn : Drawing → List ℕ → Ran → Drawing
-ranOn d block r = record {
-  machine = r .machine;
-  before = d .before;
-  letters = d .letters;
-  at = r .at;
-  tally = d .tally;
-  refusals = refusalsAfter d block (r .at) (r .number);
-  more = true;
-}
+abbrev pub drawing : Painted → ℕ → Letters → Refusals → Drawing
+drawing p before letters refusals = record { machine = p .machine; before = before; letters = letters; tally = p .tally; refusals = refusals }
 
+-- the machine has come to m by bytes before the place `at`, the last of which has this number; what waits is drawn
+unfoldable pub wentOn : Drawing → List ℕ → State → ℕ → ℕ → Drawing
+wentOn d block m at number = drawing (drawnOff (waiting (m .work)) m (d .tally)) (d .before) (d .letters) (refusalsAfter d block at number)
+
+-- the bytes of a block from the place `at` on, one by one
+unfoldable pub bytesFrom : Drawing → List ℕ → List ℕ → ℕ → Drawing
+bytesFrom d block [] at = d
+bytesFrom d block (b ∷ bs) at =
+    bytesFrom (wentOn d block (takeState (d .machine .state) b) (at + 1) (takeNumber (d .machine .state) b)) block bs (at + 1)
+
+-- the next block begins after this one
 abbrev pub endedOf : Drawing → List ℕ → Drawing
 endedOf d block = record {
   machine = d .machine;
   before = added (d .before) (length block);
   letters = lettersBefore (d .letters) block (length block);
-  at = 0;
   tally = d .tally;
   refusals = d .refusals;
-  more = false;
 }
 
-unfoldable pub stepOf : Drawing → List ℕ → Drawing
-stepOf d block =
-    cond (waitsOf (segmentOf (d .machine .state))) (drewOf d (segmentOf (d .machine .state)) (workedOf (d .machine .state)))
-    (cond (ltb (d .at) (length block)) (ranOn d block (runOf (d .machine .state) (drop (d .at) block) (d .at))) (endedOf d block))
-
-abbrev pub begunOf : Drawing → Drawing
-begunOf d = record { machine = d .machine; before = d .before; letters = d .letters; at = d .at; tally = d .tally; refusals = d .refusals; more = true }
-
--- so many steps at most, up to the end of the block
-unfoldable pub stepsOf : ℕ → Drawing → List ℕ → Drawing
-stepsOf zero d block = d
-stepsOf (suc n) d block = cond (d .more) (stepsOf n (stepOf d block) block) d
-
--- which no input uses up
-abbrev pub mostTurns : ℕ
-mostTurns = 140737488355328
+unfoldable pub blockOf : Drawing → List ℕ → Drawing
+blockOf d block = endedOf (bytesFrom d block block 0) block
 
 -- the last instruction is open: with one more semicolon something would be painted or refused
 unfoldable pub openEnd : State → Bool
@@ -89,3 +72,21 @@ openEnd m = cond (eqb (takeNumber m (code ";")) 0) (waitsOf (segmentOf (takeStat
 
 unfoldable pub finishedOf : Drawing → Bool → Surveyed
 finishedOf d unread = record { tally = d .tally; refusals = d .refusals; unended = openEnd (d .machine .state); unread = unread }
+
+-- ---- bytes without letters, a stretch at a time
+
+-- so many bytes at most, with a record of five numbers for each
+abbrev pub stretch : ℕ
+stretch = 256
+
+abbrev pub stretchNumbers : ℕ
+stretchNumbers = stretch * 5
+
+-- the places of the first n records, of which the third number is the place in the block
+unfoldable pub placesOf : ℕ → List ℤ → ℕ → List ℕ
+placesOf before numbers zero = []
+placesOf before numbers (suc n) = added before (natAbs (getD numbers 2 (pos 0))) ∷ placesOf before (drop 5 numbers) n
+
+-- no letter, no name
+unfoldable pub unnamedIn : Refusals → ℕ → List ℤ → ℕ → Refusals
+unnamedIn r before numbers n = notedAll r unknown unnamed (placesOf before numbers n)

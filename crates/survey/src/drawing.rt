@@ -1,9 +1,15 @@
 // A drawing from its first byte to its last: the machine runs up to a refusal or a waiting segment, and each segment is counted as it is drawn.
+// A machine is large, and to hand it over and back takes as long as to read dozens of bytes: those without letters, of which nothing but refusals can
+// come, are taken a stretch at a time.
 ghost use mathlib.Core.Path.{_≡_};
+ghost use Prim.Native.Nat.{_*_, _≤_};
+ghost use lib.ListN.{length, take};
+ghost use Rattle.hpgl.specs.Machine.{waiting};
 ghost use Rattle.hpgl.specs.Valid.{Usable};
 ghost use Rattle.survey.specs.Drawing as S;
 use console::sum;
 use counting::names::Letters;
+use counting::names::letterless;
 use counting::names::letters_before;
 use counting::names::name_of;
 use counting::names::no_letters;
@@ -13,26 +19,37 @@ use counting::refusals::noted;
 use counting::tally::Tally;
 use counting::tally::counted;
 use counting::tally::nothing;
+use decimals::size;
 use hpgl::Segment;
 use libc::STDIN_FILENO;
 use machine::Machine;
-use machine::Ran;
-use machine::Worked;
+use reader::UNKNOWN;
 use streams::read;
 
-// A proved loop has to end: these go round so often at most, which no input uses up.
+// A proved loop has to end: this one reads so many blocks at most, which no input uses up.
 const TURNS: u64 = 0x800000000000;
 
-// How far the drawing is: the machine, the bytes before the block and the last letters of these, the place in the block, what is counted and
-// what was refused, and whether some of the block is left.
+// A stretch has at most so many bytes, so that a plot has a record for each, of five numbers. One shorter than SHORT is not worth a plot.
+const STRETCH: usize = 256;
+
+const NUMBERS: usize = STRETCH * 5;
+
+const SHORT: usize = 8;
+
+// How far the drawing is at the beginning of a block: the machine, the bytes before the block and the last letters of these, what is counted
+// and what was refused.
 struct Drawing {
     machine: Machine,
     before: u64,
     letters: Letters,
-    at: usize,
     tally: Tally,
     refusals: Refusals,
-    more: bool,
+}
+
+// What drawing leaves: the machine, and the counts.
+struct Painted {
+    machine: Machine,
+    tally: Tally,
 }
 
 // A whole input: what is counted and refused, whether its last instruction is open, and whether some of it could not be read.
@@ -53,126 +70,115 @@ fn waits(s: Segment) -> bool
     }
 }
 
-// A segment is drawn, and counted.
-fn drew(d: Drawing, s: Segment, w: Worked) -> Drawing
-    ensures { λ r. ⌜ r ≡ S.drewOf d s w ⌝ }
+// Draws and counts the segments that wait.
+fn drawn_off(first: Machine, before: Tally) -> Painted
+    requires { ⌜ Usable (first .state) ⌝ }
+    ensures { λ r. ⌜ (r ≡ S.drawnOff (waiting (first .state .work)) (first .state) before) × Usable (r .machine .state) × (waiting (r .machine .state .work) ≡ 0) ⌝ }
 {
-    let machine = w.machine;
-    let drawn = w.drawn;
-    let tally = d.tally;
-    let letters = d.letters;
-    let refusals = d.refusals;
-    Drawing {
-        machine: machine,
-        before: d.before,
-        letters: letters,
-        at: d.at,
-        tally: counted(tally, s, drawn),
-        refusals: refusals,
-        more: true,
-    }
-}
-
-// The refusals after a run: 0 is none.
-fn after(d: Drawing, block: &[u8], at: usize, number: u8) -> Refusals
-    ensures { λ r. ⌜ r ≡ S.refusalsAfter d (now (block .entry)) at number ⌝ }
-{
-    let refusals = d.refusals;
-    let letters = d.letters;
-    if number == 0 {
-        return refusals;
-    }
-    let name = name_of(letters, block, at, number);
-    noted(refusals, number, name, sum(d.before, at as u64))
-}
-
-// The machine has run on.
-fn ran(d: Drawing, block: &[u8], r: Ran) -> Drawing
-    ensures { λ q. ⌜ q ≡ S.ranOn d (now (block .entry)) r ⌝ }
-{
-    let machine = r.machine;
-    let tally = d.tally;
-    let letters = d.letters;
-    Drawing {
-        machine: machine,
-        before: d.before,
-        letters: letters,
-        at: r.at,
-        tally: tally,
-        refusals: after(d, block, r.at, r.number),
-        more: true,
-    }
-}
-
-// Nothing of the block is left: the next one begins after it.
-fn ended(d: Drawing, block: &[u8]) -> Drawing
-    ensures { λ r. ⌜ r ≡ S.endedOf d (now (block .entry)) ⌝ }
-{
-    let machine = d.machine;
-    let letters = d.letters;
-    let tally = d.tally;
-    let refusals = d.refusals;
-    Drawing {
-        machine: machine,
-        before: sum(d.before, block.len() as u64),
-        letters: letters_before(letters, block, block.len()),
-        at: 0,
-        tally: tally,
-        refusals: refusals,
-        more: false,
-    }
-}
-
-// One step: a waiting segment is drawn, else the machine runs on, else the block has ended.
-fn step(d: Drawing, block: &[u8]) -> Drawing
-    requires { ⌜ Usable (d .machine .state) ⌝ }
-    ensures { λ r. ⌜ (r ≡ S.stepOf d (now (block .entry))) × Usable (r .machine .state) ⌝ }
-{
-    let machine = d.machine;
-    let s = machine.segment();
-    if waits(s) {
-        return drew(d, s, machine.draw());
-    }
-    if d.at < block.len() {
-        return ran(d, block, machine.run(block, d.at));
-    }
-    ended(d, block)
-}
-
-// A block begins.
-fn begun(d: Drawing) -> Drawing
-    ensures { λ r. ⌜ r ≡ S.begunOf d ⌝ }
-{
-    let machine = d.machine;
-    let letters = d.letters;
-    let tally = d.tally;
-    let refusals = d.refusals;
-    Drawing {
-        machine: machine,
-        before: d.before,
-        letters: letters,
-        at: d.at,
-        tally: tally,
-        refusals: refusals,
-        more: true,
-    }
-}
-
-// A block, step by step.
-fn block_of(d: Drawing, block: &[u8]) -> Drawing
-    requires { ⌜ Usable (d .machine .state) ⌝ }
-    ensures { λ r. ⌜ (r ≡ S.stepsOf S.mostTurns (S.begunOf d) (now (block .entry))) × Usable (r .machine .state) ⌝ }
-{
-    let mut q = begun(d);
-    let mut turns = TURNS;
-    while turns > 0 {
-        if !q.more {
-            return q;
+    let mut machine = first;
+    let mut tally = before;
+    loop {
+        let s = machine.segment();
+        if !waits(s) {
+            return Painted {
+                machine: machine,
+                tally: tally,
+            };
         }
-        q = step(q, block);
-        turns -= 1;
+        let w = machine.draw();
+        let drawn = w.drawn;
+        tally = counted(tally, s, drawn);
+        machine = w.machine;
     }
-    q
+}
+
+// A byte is refused: it is noted with its name, and its place after so many bytes.
+fn refused(
+    refusals: Refusals,
+    letters: Letters,
+    before: u64,
+    block: &[u8],
+    at: usize,
+    number: u8,
+) -> Refusals
+    ensures { λ r. ⌜ r ≡ S.refusedAt refusals letters before (now (block .entry)) at number ⌝ }
+{
+    let name = name_of(letters, block, at, number);
+    let one = [sum(before, at as u64); 1];
+    noted(refusals, number, name, &one)
+}
+
+// Room for the marks of a stretch.
+fn records() -> [i64; NUMBERS]
+    ensures { λ r. ⌜ S.stretchNumbers ≡ length r ⌝ }
+{
+    [0; NUMBERS]
+}
+
+// The places of refusals, from the records that plot stores, after so many bytes.
+fn places(numbers: &[i64], count: usize, before: u64) -> [u64; STRETCH]
+    requires { ⌜ (count ≤ S.stretch) × (count * 5 ≤ length (now numbers)) ⌝ }
+    ensures { λ r. ⌜ take count r ≡ S.placesOf before (now (numbers .entry)) count ⌝ }
+{
+    let mut list = [0; STRETCH];
+    let mut i = 0;
+    while i < count {
+        list[i] = sum(before, size(numbers[i * 5 + 2]));
+        i += 1;
+    }
+    list
+}
+
+// The refusals of a stretch: no letter, no name.
+fn unnamed(refusals: Refusals, numbers: &[i64], count: usize, before: u64) -> Refusals
+    requires { ⌜ (count ≤ S.stretch) × (count * 5 ≤ length (now numbers)) ⌝ }
+    ensures { λ r. ⌜ r ≡ S.unnamedIn refusals before (now (numbers .entry)) count ⌝ }
+{
+    let list = places(numbers, count, before);
+    noted(refusals, UNKNOWN, no_letters(), &list[..count])
+}
+
+// A block: the machine runs up to a byte that leaves segments, which are drawn, or that is refused. After that it is outside an instruction,
+// and bytes without letters leave nothing but refusals.
+fn block_of(d: Drawing, block: &[u8]) -> Drawing
+    requires { ⌜ Usable (d .machine .state) × (waiting (d .machine .state .work) ≡ 0) ⌝ }
+    ensures { λ r. ⌜ (r ≡ S.blockOf d (now (block .entry))) × Usable (r .machine .state) × (waiting (r .machine .state .work) ≡ 0) ⌝ }
+{
+    let mut space = records();
+    let numbers: &mut [i64] = &mut space;
+    let letters = d.letters;
+    let before = d.before;
+    let mut machine = d.machine;
+    let mut tally = d.tally;
+    let mut refusals = d.refusals;
+    let mut at = 0;
+    while at < block.len() {
+        let r = machine.run(block, at);
+        machine = r.machine;
+        at = r.at;
+        if r.number == 0 {
+            let p = drawn_off(machine, tally);
+            machine = p.machine;
+            tally = p.tally;
+            continue;
+        }
+        refusals = refused(refusals, letters, before, block, at, r.number);
+        let n = letterless(block, at, STRETCH);
+        if n < SHORT {
+            continue;
+        }
+        let g = machine.plot(&block[..at + n], at, numbers);
+        machine = g.machine;
+        at = g.at;
+        refusals = unnamed(refusals, numbers, g.stored, before);
+    }
+    Drawing {
+        machine: machine,
+        before: sum(before, block.len() as u64),
+        letters: letters_before(letters, block, block.len()),
+        tally: tally,
+        refusals: refusals,
+    }
 }
 
 // Whether the last instruction is open: with one more semicolon something would be painted or refused.
@@ -206,17 +212,15 @@ fn finished(d: Drawing, unread: bool) -> Surveyed
 
 // Standard input to its end, or to a read that fails, which is told at once.
 pub fn survey(machine: Machine) -> Surveyed
-    requires { ⌜ Usable (machine .state) ⌝ }
+    requires { ⌜ Usable (machine .state) × (waiting (machine .state .work) ≡ 0) ⌝ }
 {
     let mut block = io::large_buffer();
     let mut d = Drawing {
         machine: machine,
         before: 0,
         letters: no_letters(),
-        at: 0,
         tally: nothing(),
         refusals: none(),
-        more: true,
     };
     let mut turns = TURNS;
     while turns > 0 {

@@ -1,60 +1,185 @@
--- Each step takes one of so many turns.
+-- Each turn goes further, and what is left comes to the same.
 use borrow.Author.Needs.{needs}
-use mathlib.Core.Path.{_≡_, refl, sym, ap, _∙_}
+use mathlib.Core.Path.{_≡_, sym, ap, _∙_}
+use Prim.Native.Nat.{ℕ, _-_}
 use native.Mathlib.Omega.{arith}
-use Prim.Native.Nat.{_-_}
 use denote.Ref.{now}
-use Rattle.hpgl.specs.Valid.{Usable}
-use Rattle.survey.specs.Drawing.{stepsOf, begunOf, mostTurns}
-use Rattle.survey.specs.Laws.{was-true, was-false, steps-more, steps-over, steps-none}
+use mathlib.Core.List.{List}
+use lib.IntN.{ℤ}
+use lib.ListN.{length}
+use lib.Seq.{length-take-le}
+use Rattle.machine.specs.declared.Machine.{Machine}
+use Rattle.counting.specs.declared.names.Letters.{Letters}
+use Rattle.counting.specs.declared.refusals.Refusals.{Refusals}
+use Rattle.counting.specs.declared.tally.Tally.{Tally}
+use Rattle.survey.specs.declared.drawing.Drawing.{Drawing}
+use Rattle.survey.specs.Drawing.{stretchNumbers, unnamedIn}
+use Rattle.survey.specs.Laws.{Far, far-begun, far-ended, ran-further, ran-usable, ran-outside, far-drawn, far-refused, stretch-within, plotted-further, plotted-few, far-plotted}
 use Rattle.survey.proofs.drawing.block_of.Statement.{statement}
 use Rattle.survey.proofs.drawing.block_of.Tie as tie
 
+abbrev begun : Machine → ℕ → Letters → Tally → Refusals → Drawing
+begun m n l t r = record { machine = m; before = n; letters = l; tally = t; refusals = r }
+
 abbrev Inv-loop : tie.InvT-loop
-Inv-loop block q₀ turns₀ q turns = (stepsOf mostTurns q₀ block ≡ stepsOf turns q block) × Usable (q .machine .state)
+Inv-loop block numbers₀ letters before machine₀ tally₀ refusals₀ at₀ numbers machine tally refusals at =
+    Far (begun machine₀ before letters tally₀ refusals₀) block machine tally refusals at × (length numbers ≡ stretchNumbers)
 
 abbrev μ-loop : tie.MeasureT-loop
-μ-loop block q₀ turns₀ q turns = turns
+μ-loop block numbers₀ letters before machine₀ tally₀ refusals₀ at₀ numbers machine tally refusals at =
+    length block - at
 
-begun-requires : tie.Need-begun-requires Inv-loop μ-loop
-begun-requires c κs = search needs
+-- from the loop back to its start
+abbrev start : tie.At-loop Inv-loop μ-loop → tie.Start Inv-loop μ-loop
+start l = l .before .before .before .before .before .before .before .before
+
+records-requires : tie.Need-records-requires Inv-loop μ-loop
+records-requires c κs = search needs
+
+slice-aggregate-numbers : tie.Need-slice-aggregate-numbers Inv-loop μ-loop
+slice-aggregate-numbers c = search needs
 
 loop-holds : tie.Need-loop-holds Inv-loop μ-loop
 loop-holds c =
     let s : tie.Start Inv-loop μ-loop = search in
-    (refl, rw (c .begun .ensures) (s .pre))
+    let r : tie.After-records Inv-loop μ-loop = search in
+    (far-begun (s .args .d) (now (s .args .block)) (s .pre .0) (s .pre .1), sym (r .records .ensures))
 
-returns : tie.Need-returns Inv-loop μ-loop
-returns c =
+run-requires : tie.Need-run-requires Inv-loop μ-loop
+run-requires c κs = let l : tie.At-loop Inv-loop μ-loop = search in l .loop .inv .0 .usable
+
+drawn-off-requires : tie.Need-drawn-off-requires Inv-loop μ-loop
+drawn-off-requires c κs =
     let l : tie.At-loop Inv-loop μ-loop = search in
-    let s : tie.Start Inv-loop μ-loop = search in
-    let b : tie.After-begun Inv-loop μ-loop = search in
-    (sym ((λ i. stepsOf mostTurns (sym (b .begun .ensures) i) (now (s .args .block))) ∙ l .loop .inv .0 ∙ steps-over (l .loop .q) (now (s .args .block)) (l .loop .turns) (was-false (l .loop .q .more) (c .if1 .taken))), l .loop .inv .1)
-
-step-requires : tie.Need-step-requires Inv-loop μ-loop
-step-requires c κs = let l : tie.At-loop Inv-loop μ-loop = search in l .loop .inv .1
-
-sub-turns : tie.Need-sub-turns Inv-loop μ-loop
-sub-turns c = omega arith
+    let s = start l in
+    let r : tie.After-run Inv-loop μ-loop = search in
+    ran-usable (s .args .d) (now (s .args .block)) (l .loop .inv .0) (r .run .result) (r .run .ensures)
 
 loop-less : tie.Need-loop-less Inv-loop μ-loop
-loop-less c = omega arith
+loop-less c =
+    let r = c .before .before .before .before .before .before in
+    let t = r .before in
+    let l = t .before in
+    let s = start l in
+    omega (arith, t .loop-test .taken, ran-further (s .args .d) (now (s .args .block)) (l .loop .inv .0) (r .run .result) (r .run .ensures) (t .loop-test .taken))
 
 loop-again : tie.Need-loop-again Inv-loop μ-loop
 loop-again c =
     let l : tie.At-loop Inv-loop μ-loop = search in
-    let s : tie.Start Inv-loop μ-loop = search in
-    let e : tie.Else1 Inv-loop μ-loop = search in
-    let t : tie.After-step Inv-loop μ-loop = search in
-    (l .loop .inv .0 ∙ steps-more (l .loop .q) (now (s .args .block)) (l .loop .turns) (omega arith) (was-true (l .loop .q .more) (e .if1 .left)) ∙ (λ i. stepsOf (l .loop .turns - 1) (sym (t .step .ensures .0) i) (now (s .args .block))), t .step .ensures .1)
+    let s = start l in
+    let r : tie.After-run Inv-loop μ-loop = search in
+    let t : tie.Then1 Inv-loop μ-loop = search in
+    let p : tie.After-drawn-off Inv-loop μ-loop = search in
+    (far-drawn (s .args .d) (now (s .args .block)) (l .loop .inv .0) (r .run .result) (r .run .ensures) (t .if1 .taken) (p .drawn-off .ensures .0) (p .drawn-off .ensures .1) (p .drawn-off .ensures .2), l .loop .inv .1)
 
-returns-2 : tie.Need-returns-2 Inv-loop μ-loop
-returns-2 c =
+refused-requires : tie.Need-refused-requires Inv-loop μ-loop
+refused-requires c κs = search needs
+
+letterless-requires : tie.Need-letterless-requires Inv-loop μ-loop
+letterless-requires c κs = search needs
+
+loop-less-2 : tie.Need-loop-less-2 Inv-loop μ-loop
+loop-less-2 c =
+    let r = c .before .before .before .before .before .before in
+    let t = r .before in
+    let l = t .before in
+    let s = start l in
+    omega (arith, t .loop-test .taken, ran-further (s .args .d) (now (s .args .block)) (l .loop .inv .0) (r .run .result) (r .run .ensures) (t .loop-test .taken))
+
+loop-again-2 : tie.Need-loop-again-2 Inv-loop μ-loop
+loop-again-2 c =
     let l : tie.At-loop Inv-loop μ-loop = search in
-    let s : tie.Start Inv-loop μ-loop = search in
-    let b : tie.After-begun Inv-loop μ-loop = search in
-    let z : l .loop .turns ≡ 0 = omega arith in
-    (sym ((λ i. stepsOf mostTurns (sym (b .begun .ensures) i) (now (s .args .block))) ∙ l .loop .inv .0 ∙ (λ i. stepsOf (z i) (l .loop .q) (now (s .args .block))) ∙ steps-none (l .loop .q) (now (s .args .block))), l .loop .inv .1)
+    let s = start l in
+    let r : tie.After-run Inv-loop μ-loop = search in
+    let e : tie.Else1 Inv-loop μ-loop = search in
+    let k : tie.After-refused Inv-loop μ-loop = search in
+    (far-refused (s .args .d) (now (s .args .block)) (l .loop .inv .0) (r .run .result) (r .run .ensures) (e .if1 .left) (k .refused .ensures), l .loop .inv .1)
+
+-- from what follows the search for a letter back to the run, and to the loop
+abbrev run-of : tie.After-letterless Inv-loop μ-loop → tie.After-run Inv-loop μ-loop
+run-of n = n .before .before .before .before .before
+
+abbrev loop-of : tie.After-letterless Inv-loop μ-loop → tie.At-loop Inv-loop μ-loop
+loop-of n = run-of n .before .before
+
+-- the refusal of the run is noted
+far-of : (n : tie.After-letterless Inv-loop μ-loop) → let l = loop-of n in
+    Far (start l .args .d) (now (start l .args .block)) (run-of n .run .result .machine) (l .loop .tally) (n .before .refused .result) (run-of n .run .result .at)
+far-of n =
+    let r = run-of n in
+    let l = loop-of n in
+    let s = start l in
+    far-refused (s .args .d) (now (s .args .block)) (l .loop .inv .0) (r .run .result) (r .run .ensures) (n .before .before .if1 .left) (n .before .refused .ensures)
+
+add-plot : tie.Need-add-plot Inv-loop μ-loop
+add-plot c =
+    let n = c .before in
+    let l = loop-of n in
+    let s = start l in
+    let h = stretch-within (s .args .d) (now (s .args .block)) (far-of n) (n .letterless .result) (n .letterless .ensures) in
+    search (needs, h)
+
+slice-aggregate-plot : tie.Need-slice-aggregate-plot Inv-loop μ-loop
+slice-aggregate-plot c =
+    let n = c .before .before in
+    let l = loop-of n in
+    let s = start l in
+    let h = stretch-within (s .args .d) (now (s .args .block)) (far-of n) (n .letterless .result) (n .letterless .ensures) in
+    sym (length-take-le _ (now (s .args .block)) h)
+
+plot-requires : tie.Need-plot-requires Inv-loop μ-loop
+plot-requires c κs =
+    let r = run-of (c .before .before .before) in
+    let l = r .before .before in
+    let s = start l in
+    ran-usable (s .args .d) (now (s .args .block)) (l .loop .inv .0) (r .run .result) (r .run .ensures)
+
+unnamed-requires : tie.Need-unnamed-requires Inv-loop μ-loop
+unnamed-requires c κs =
+    let n = c .before .before .before .before .before .before .before in
+    let l = loop-of n in
+    let s = start l in
+    let g = c .before .before .before in
+    let h = plotted-few (s .args .d) (now (s .args .block)) (far-of n) (n .letterless .result) (n .letterless .ensures) _ (g .plot .ensures .0) in
+    let few = rw (l .loop .inv .1) at h in
+    (few, omega (arith, few, g .plot .kept .1 .1 .1 .0, l .loop .inv .1))
+
+loop-less-3 : tie.Need-loop-less-3 Inv-loop μ-loop
+loop-less-3 c =
+    let n = c .before .before .before .before .before .before .before .before in
+    let l = loop-of n in
+    let s = start l in
+    let r = run-of n in
+    let t = r .before in
+    let g = c .before .before .before .before in
+    let h = plotted-further (s .args .d) (now (s .args .block)) (far-of n) (n .letterless .result) (n .letterless .ensures) _ (g .plot .ensures .0) in
+    omega (arith, h, t .loop-test .taken, ran-further (s .args .d) (now (s .args .block)) (l .loop .inv .0) (r .run .result) (r .run .ensures) (t .loop-test .taken))
+
+loop-again-3 : tie.Need-loop-again-3 Inv-loop μ-loop
+loop-again-3 c =
+    let n = c .before .before .before .before .before .before .before .before in
+    let l = loop-of n in
+    let s = start l in
+    let g = c .before .before .before .before in
+    let o = ran-outside (s .args .d) (now (s .args .block)) (l .loop .inv .0) (run-of n .run .result) (run-of n .run .ensures) (n .before .before .if1 .left) in (
+      far-plotted (s .args .d) (now (s .args .block)) (far-of n) (n .letterless .result) (n .letterless .ensures) _ (g .plot .ensures .0) o _
+          (c .unnamed .ensures ∙ ap (λ (ns : List ℤ). unnamedIn (n .before .refused .result) (s .args .d .before) ns (g .plot .result .stored)) (g .plot .ensures .1)),
+      g .plot .kept .1 .1 .1 .0 ∙ l .loop .inv .1,
+    )
+
+sum-requires : tie.Need-sum-requires Inv-loop μ-loop
+sum-requires c κs = search needs
+
+letters-before-requires : tie.Need-letters-before-requires Inv-loop μ-loop
+letters-before-requires c κs = search needs
+
+returns : tie.Need-returns Inv-loop μ-loop
+returns c =
+    let l : tie.At-loop Inv-loop μ-loop = search in
+    let s = start l in
+    let u : tie.After-sum Inv-loop μ-loop = search in
+    let f = l .loop .inv .0 in
+    (rw (c .letters-before .ensures, u .sum .ensures) (far-ended (s .args .d) (now (s .args .block)) f (omega arith)), f .usable, f .idle)
 
 pub block-of-spec : {M : Type 1} → statement M
 block-of-spec =
@@ -62,11 +187,23 @@ block-of-spec =
     (tie.spec
     Inv-loop
     μ-loop
-    begun-requires
+    records-requires
+    slice-aggregate-numbers
     loop-holds
-    returns
-    step-requires
-    sub-turns
+    run-requires
+    drawn-off-requires
     loop-less
     loop-again
-    returns-2)
+    refused-requires
+    letterless-requires
+    loop-less-2
+    loop-again-2
+    add-plot
+    slice-aggregate-plot
+    plot-requires
+    unnamed-requires
+    loop-less-3
+    loop-again-3
+    sum-requires
+    letters-before-requires
+    returns)

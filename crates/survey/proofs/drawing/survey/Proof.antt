@@ -3,12 +3,13 @@ use borrow.Author.Needs.{needs}
 use mathlib.Core.Path.{_≡_, sym, _∙_}
 use native.Mathlib.Omega.{arith}
 use lib.ListN.{length}
+use Rattle.hpgl.specs.Machine.{waiting}
 use Rattle.hpgl.specs.Valid.{Usable}
 use Rattle.survey.proofs.drawing.survey.Statement.{statement}
 use Rattle.survey.proofs.drawing.survey.Tie as tie
 
 abbrev Inv-loop : tie.InvT-loop
-Inv-loop block₀ d₀ turns₀ t block d turns = (65536 ≡ length block) × Usable (d .machine .state)
+Inv-loop block₀ d₀ turns₀ t block d turns = (65536 ≡ length block) × Usable (d .machine .state) × (waiting (d .machine .state .work) ≡ 0)
 
 abbrev μ-loop : tie.MeasureT-loop
 μ-loop block₀ d₀ turns₀ t block d turns = turns
@@ -29,7 +30,7 @@ loop-holds : tie.Need-loop-holds Inv-loop μ-loop
 loop-holds c =
     let s : tie.Start Inv-loop μ-loop = search in
     let b : tie.After-large-buffer Inv-loop μ-loop = search in
-    (b .large-buffer .ensures, s .pre)
+    (b .large-buffer .ensures, s .pre .0, s .pre .1)
 
 slice-aggregate-read : tie.Need-slice-aggregate-read Inv-loop μ-loop
 slice-aggregate-read c = search needs
@@ -62,7 +63,7 @@ slice-aggregate-block-of : tie.Need-slice-aggregate-block-of Inv-loop μ-loop
 slice-aggregate-block-of c = search needs
 
 block-of-requires : tie.Need-block-of-requires Inv-loop μ-loop
-block-of-requires c κs = let l : tie.At-loop Inv-loop μ-loop = search in l .loop .inv .1
+block-of-requires c κs = let l : tie.At-loop Inv-loop μ-loop = search in (l .loop .inv .1, l .loop .inv .2)
 
 sub-turns : tie.Need-sub-turns Inv-loop μ-loop
 sub-turns c = let t : tie.In-loop Inv-loop μ-loop = search in omega (arith, t .loop-test .taken)
@@ -80,7 +81,7 @@ read t = search
 loop-again : tie.Need-loop-again Inv-loop μ-loop
 loop-again c =
     let t : tie.After-block-of Inv-loop μ-loop = search in
-    (turn t .before .loop .inv .0 ∙ sym (read t .read .kept .1 .0), t .block-of .ensures .1)
+    (turn t .before .loop .inv .0 ∙ sym (read t .read .kept .1 .0), t .block-of .ensures .1, t .block-of .ensures .2)
 
 finished-requires-3 : tie.Need-finished-requires-3 Inv-loop μ-loop
 finished-requires-3 c κs = let l : tie.At-loop Inv-loop μ-loop = search in l .loop .inv .1
