@@ -19,6 +19,7 @@ enum { LIMITS = HEADER + 15 };
 static const char *const drawings[] = {
     "IN;SP1;PA0,0;PD100,50;PU;", "SP2;SC0,100,0,100;PA50,50;CI20;", "SP3;PM0;PD10,10,20,20;PM2;EP;", "SP4;IW-100,-100,100,100;EA500,500;", "SP5;RO90;PA100,100;ER300,300;",
     "SP6;PM;PD1,1,2,2,3,3;PM1;PD5,5;", "SP7;CI100,5", "IP-1000,-1000,1000,1000;SC-5,5,-5,5;SP8;PD3,3;CI1;", "LBhello", "SP1;PD5", "P", "SP1;PA10,10;XX5,5",
+    "SP1;PU100,0;PD;AA0,0,90,30;", "SP2;RO90;PD;AR-50,20,-300,.5;", "SP3;SC0,9,0,9;PD;AA1,1,7,1",
 };
 
 /* Numbers at the edges of what a state may hold. */
@@ -164,7 +165,7 @@ int main(int argc, char **argv) {
     for (long k = 0; k < machines; k++) {
         int way = (int)any(WAYS);
         vutaroi_machine good = made(), m = good;
-        if (!stands(&good)) seen.wrong++;
+        if (!stands(&good) || good.numbers[0] != VUTAROI_FORM) seen.wrong++;
         size_t count = damage(&m, way);
         if (count == VUTAROI_NUMBERS && memcmp(&m, &good, sizeof m) == 0) continue;
         tried[way]++;

@@ -1,5 +1,5 @@
--- The figures of document 01: calls, and what they answer, in the order of its headings; its own checked figures (a) to (n) come last. Figures.antt has the theorem.
--- A sentence of 01 stands over the rows that show it. A row is there for a wrong number, operand or branch of a definition that it would show.
+-- The figures of documents 01 and 02: calls, and what they answer, in the order of 01's headings, with its own checked figures (a) to (n) after them, and then of 02's requests. Figures.antt has the theorem.
+-- A sentence of 01 or 02 stands over the rows that show it. A row is there for a wrong number, operand or branch of a definition that it would show.
 use mathlib.Core.Bool.{true, false}
 use mathlib.Core.List.{List, [], _∷_, _++_}
 use Prim.Native.Nat.{ℕ}
@@ -772,6 +772,101 @@ checked =
     take "IN;SP1;PA0,0;PD100,50;PD20000,50;XX;" (line 1 0 0 100 50 ∷ line 1 100 50 10000 50 ∷ refused 1 35 ∷ down 20000 50 1 0 ∷ []) ∷
     []
 
+-- ---- Document 02, CR 1: arcs
+
+-- "Add AA and AR: centre (absolute or relative), swept angle and optional chord angle, as for CI; three or four numbers": whatever the mode, which stays; on the byte that ends the instruction; not in
+-- polygon mode, where "only PU, PD, PA, PR, PM, IN are known". Chord angles of .45 and 120.0499 degrees pass, .4499 and 120.05 do not. The order is 3 by a number, 2, 3 by a setting, 6
+abbrev arcForms : List Row
+arcForms =
+    take "SP1;PU100,0;PD;AA0,0,90,30;" (line 1 100 0 87 50 ∷ line 1 87 50 50 87 ∷ line 1 50 87 0 100 ∷ down 0 100 1 0 ∷ []) ∷
+    take "SP1;PD;AR-100,0,90,45;" (stroke 1 (pos 0) (pos 0) (minus 29) (pos 71) ∷ stroke 1 (minus 29) (pos 71) (minus 100) (pos 100) ∷ seen (minus 100) (pos 100) 1 true 0 ∷ []) ∷
+    ends "PR1,1;AA10,1,180;PR1,0;" (up 20 1 0 0) ∷
+    ends "PA1,1;AR9,0,180;PA1,0;" (up 1 0 0 0) ∷
+    take "sp1;pu100,0;pd;aa0,0,90,90pu" (line 1 100 0 0 100 ∷ up 0 100 1 0 ∷ []) ∷
+    take "AA1,2;AA1,2,3,4,5;AR1;AA;" (refused 2 6 ∷ refused 2 18 ∷ refused 2 22 ∷ refused 2 25 ∷ up 0 0 0 0 ∷ []) ∷
+    stops "AA0,0,0,5,1;" 2 12 (up 0 0 0 0) ∷
+    stops "AA0,0,400,40000;" 3 16 (up 0 0 0 0) ∷
+    stops "IP0,0,10000,10000;SC0,1,0,1;PA99,0;AR0,2,400;" 3 45 (up 990000 0 0 0) ∷
+    take "PA1000,0;AA0,0,1,.45;AA0,0,1,.4499;AA0,0,1,120.0499;AA0,0,1,120.05;" (refused 3 35 ∷ refused 3 67 ∷ up 1000 34 0 0 ∷ []) ∷
+    take "PM0;AA0,0,90;AR1,1,90;PM2;" (refused 1 6 ∷ refused 1 15 ∷ up 0 0 0 11 ∷ []) ∷
+    stops "PM0;PD;AA0,50,90;PU;PM2;" 1 9 (up 0 0 0 11) ∷
+    []
+
+-- "The swept angle is rounded to tenths of a degree, −3600 to 3600 without 0, else 3; positive is from x towards y": in current units, so that a mirrored scale mirrors it, and the turn turns it
+abbrev arcSweeps : List Row
+arcSweeps =
+    take "SP1;PU100,0;PD;AA0,0,-90,30;" (stroke 1 (pos 100) (pos 0) (pos 87) (minus 50) ∷ stroke 1 (pos 87) (minus 50) (pos 50) (minus 87) ∷ stroke 1 (pos 50) (minus 87) (pos 0) (minus 100) ∷ seen (pos 0) (minus 100) 1 true 0 ∷ []) ∷
+    stops "PA100,0;AA0,0,.0499;" 3 20 (up 100 0 0 0) ∷
+    ends "PA1000,0;AA0,0,.05;" (up 1000 2 0 0) ∷
+    stops "PA1000,0;AA0,0,-.05;" 3 20 (up 1000 0 0 0) ∷
+    ends "PA1000,0;AA0,0,-.0501;" (seen (pos 1000) (minus 2) 0 false 0) ∷
+    ends "PA1000,0;AA0,0,360.0499;" (up 1000 0 0 0) ∷
+    stops "PA1000,0;AA0,0,360.05;" 3 22 (up 1000 0 0 0) ∷
+    ends "PA1000,0;AA0,0,-360.05;" (up 1000 0 0 0) ∷
+    stops "PA1000,0;AA0,0,-360.0501;" 3 25 (up 1000 0 0 0) ∷
+    take "SP1;RO90;PU100,0;PD;AA0,0,90,90;" (stroke 1 (pos 0) (pos 100) (minus 100) (pos 0) ∷ down 0 100 1 0 ∷ []) ∷
+    take "IP0,0,100,100;SC1,0,0,1;SP1;PU0,0;PD;AA.5,.5,90,90;" (line 1 100 0 0 0 ∷ down 0 0 1 0 ∷ []) ∷
+    []
+
+-- "The way from centre to current point is taken per axis in current units, rounded to ten-thousandths; more than 32768 units either way is 3": with P1 (0,0), P2 (20000,20000) and SC0,1,0,1 a plotter unit is half
+-- a ten-thousandth, and a way of a half goes to 1, of minus a half to 0. Of unequal scales an arc is part of an ellipse
+abbrev arcWays : List Row
+arcWays =
+    ends "PA32767,0;AA-1,0,1;" (up 32762 572 0 0) ∷
+    stops "PA32767,0;AA-1.0001,0,1;" 3 24 (up 32767 0 0 0) ∷
+    take "PA0,32767;AA0,-2,1;PA0,-32768;AA0,.0001,1;AA0,0,1;" (refused 3 19 ∷ refused 3 42 ∷ seen (pos 572) (minus 32763) 0 false 0 ∷ []) ∷
+    ends "PA32767,0;PR1,0;AR-32768,0,1;" (up 32763 572 0 0) ∷
+    ends "IP0,0,20000,20000;PA1,0;SC0,1,0,1;AA0,0,180;" (seen (minus 2) (pos 0) 0 false 0) ∷
+    ends "IP0,0,20000,20000;PA-1,0;SC0,1,0,1;AA0,0,180;" (up 0 0 0 0) ∷
+    take "IP0,0,3000,3000;PA1000,0;SC0,1,0,1;SP1;PD;AA0,0,180,90;" (line 1 1000 0 0 1000 ∷ stroke 1 (pos 0) (pos 1000) (minus 1000) (pos 0) ∷ seen (minus 1000) (pos 0) 1 true 0 ∷ []) ∷
+    take "IP0,0,200,100;SC0,1,0,1;SP1;PU1,.5;PD;AA.5,.5,90,45;" (line 1 200 50 171 85 ∷ line 1 171 85 100 100 ∷ down 100 100 1 0 ∷ []) ∷
+    []
+
+-- "The arc starts at the current exact position. Each later vertex is the centre plus that way turned, by whole chord angles and at the last by the swept angle itself. Turning uses the sine table and nothing
+-- more is rounded.": the way is from the exact position, 100.5 and not 100.1. At a tenth of a degree 30000 × 175 / 100,000 is 52.5 (52.4 by the true sine); half a ten-thousandth is one plotter unit
+abbrev arcVertices : List Row
+arcVertices =
+    take "SP1;PR.4,0;PD;AR-100,0,90,90;" (stroke 1 (pos 0) (pos 0) (minus 100) (pos 100) ∷ seen (minus 100) (pos 100) 1 true 0 ∷ []) ∷
+    ends "PA.4,0;AA-100.1,0,90;" (seen (minus 100) (pos 101) 0 false 0) ∷
+    take "SP1;PU100,0;PD;AA0,0,12;" (line 1 100 0 100 9 ∷ line 1 100 9 98 17 ∷ line 1 98 17 98 21 ∷ down 98 21 1 0 ∷ []) ∷
+    take "SP1;PU100,0;PD;AA0,0,50,20;" (line 1 100 0 94 34 ∷ line 1 94 34 77 64 ∷ line 1 77 64 64 77 ∷ down 64 77 1 0 ∷ []) ∷
+    take "SP1;PU100,0;PD;AA0,0,60,20;" (line 1 100 0 94 34 ∷ line 1 94 34 77 64 ∷ line 1 77 64 50 87 ∷ down 50 87 1 0 ∷ []) ∷
+    take "SP1;PU100,0;PD;AA0,0,3,120;" (line 1 100 0 100 5 ∷ down 100 5 1 0 ∷ []) ∷
+    take "SP1;PU1000,0;PD;AA0,0,360,120;" (stroke 1 (pos 1000) (pos 0) (minus 500) (pos 866) ∷ stroke 1 (minus 500) (pos 866) (minus 500) (minus 866) ∷ stroke 1 (minus 500) (minus 866) (pos 1000) (pos 0) ∷ down 1000 0 1 0 ∷ []) ∷
+    take "SP1;PU1000,0;PD;AA0,0,-360,90;" (stroke 1 (pos 1000) (pos 0) (pos 0) (minus 1000) ∷ stroke 1 (pos 0) (minus 1000) (minus 1000) (pos 0) ∷ stroke 1 (minus 1000) (pos 0) (pos 0) (pos 1000) ∷ line 1 0 1000 1000 0 ∷ down 1000 0 1 0 ∷ []) ∷
+    ends "PA30000,0;AA0,0,.1;" (up 30000 53 0 0) ∷
+    ends "IP0,0,20000,20000;SC0,1,0,1;PA.0001,0;AA0,0,60,60;" (up 1 2 0 0) ∷
+    []
+
+-- "The pen stays as it is. The position afterwards is the last vertex, kept as its location with offset 0": 87 and .8 are 88; 86.603 and .8 would be 87
+abbrev arcEnds : List Row
+arcEnds =
+    ends "SP1;PU100,0;AA0,0,90;" (up 0 100 1 0) ∷
+    ends "PU100,0;PD;AA0,0,90;" (down 0 100 0 0) ∷
+    ends "PA100,0;AA0,0,30;PR.8,0;" (up 88 50 0 0) ∷
+    []
+
+-- "Condition 3 covers arcs, each chord between neighbouring exact vertices being a move": with pen down and pen not 0 each waits, to be drawn, fed or clipped as moves are; about the current point each is a dot
+abbrev arcChords : List Row
+arcChords =
+    take "SP1;PD;AA0,0,90,45;" (line 1 0 0 0 0 ∷ line 1 0 0 0 0 ∷ down 0 0 1 0 ∷ []) ∷
+    taken ten "SP1;PU12,0;PD;AA0,0,90,30;" (line 1 10 6 10 6 ∷ line 1 10 6 6 10 ∷ line 1 6 10 6 10 ∷ down 0 12 1 0 ∷ []) ∷
+    waits "SP1;PU100,0;PD;AA0,0,90;" 18 ∷
+    waits "SP1;PU100,0;AA0,0,90;" 0 ∷
+    waits "PU100,0;PD;AA0,0,90;" 0 ∷
+    undrawn "SP1;PU100,0;PD;AA0,0,60,30;@" "" (refused 20 28 ∷ line 1 100 0 87 50 ∷ line 1 87 50 50 87 ∷ idle ∷ down 50 87 1 0 ∷ []) ∷
+    feeds (lent "SP1;PU100,0;PD;AA0,0,60,30;PU" (blank ∷ []) ∷ lent "PU" (blank ∷ blank ∷ []) ∷ []) (fed 27 1 21 (path 100 0 87 50 ∷ []) ∷ fed 2 1 0 (path 87 50 50 87 ∷ blank ∷ []) ∷ []) ∷
+    []
+
+-- "A vertex out of range refuses the arc with 6 before drawing": pen up too, and one that is not the last; what is between the vertices is not judged
+abbrev arcRanges : List Row
+arcRanges =
+    take "IP0,0,10000,10000;SC0,1,0,1;PA99,0;AR1.01,0,90,90;AR0,1.01,90,45;" (refused 6 50 ∷ refused 6 65 ∷ up 990000 0 0 0 ∷ []) ∷
+    stops "IP0,0,10000,10000;SC0,1,0,1;PA99.8485,-.8485;AA99,0,90,90;PA99.8485,-.8485;AA99,0,90,45;" 6 88 (seen (pos 998485) (minus 8485) 0 false 0) ∷
+    stops "IP0,0,10000,10000;SC0,1,0,1;PA99,0;AR0,2,90;AR0,.5,90;" 6 44 (up 995000 5000 0 0) ∷
+    stops "IP0,0,10000,10000;SC0,1,0,1;PA99,0;SP1;PD;AR0,2,180,30;" 6 55 (down 990000 0 1 0) ∷
+    []
+
 -- ---- the table, heading by heading
 
 abbrev pub table : List Row
@@ -785,3 +880,4 @@ table =
     ++ driveMoves
     ++ orders
     ++ checked
+    ++ arcForms ++ arcSweeps ++ arcWays ++ arcVertices ++ arcEnds ++ arcChords ++ arcRanges

@@ -1,4 +1,4 @@
--- Who may change what, and what it is set to (document 01, "Position", "Rectangles and polygons", "Causes and numbers"): a line for each thing that happens, with the
+-- Who may change what, and what it is set to (document 01, "Position", "Rectangles and polygons", "Causes and numbers"; document 02): a line for each thing that happens, with the
 -- parts of the machine that it changes. All that a line does not name is as it was before. The rules (Rules.antt) are written once more here, by parts and not by steps;
 -- EffectsProof.antt proves that both say the same of every machine that the calls make.
 use mathlib.Core.Bool.{Bool, true, false, cond, not, _&&_}
@@ -13,14 +13,15 @@ use Rattle.reader.specs.declared.Event.{Event}
 use Rattle.reader.specs.declared.Event.the-variants as event
 use Rattle.mnemonics.specs.Table as code
 use Rattle.plane.specs.Turn.{turnedBackOf, orderedOf}
+use Rattle.plane.specs.Circle.{vertexPointOf}
 use Rattle.hpgl.specs.declared.Position.{Position}
 use Rattle.hpgl.specs.declared.Scale.{Scale}
 use Rattle.hpgl.specs.declared.Window.{Window}
 use Rattle.hpgl.specs.declared.Polygon.{Polygon}
 use Rattle.hpgl.specs.declared.Core.{Core}
-use Rattle.hpgl.specs.Place.{point, rounded, location, absolutePosition, relativePosition, restAt, pagePoint}
-use Rattle.hpgl.specs.Rules.{unscaled, noWindow, closes}
-use Rattle.hpgl.specs.Instruction.{Instruction, IN, DF, EP, IP, SC, IW, RO, SP, PM, CI, EA, ER, PU, PD, PA, PR}
+use Rattle.hpgl.specs.Place.{point, rounded, axisX, axisY, location, absolutePosition, relativePosition, restAt, pagePoint}
+use Rattle.hpgl.specs.Rules.{unscaled, noWindow, closes, sweptAngle, wayFrom}
+use Rattle.hpgl.specs.Instruction.{Instruction, IN, DF, EP, IP, SC, IW, RO, SP, PM, CI, EA, ER, AA, AR, PU, PD, PA, PR}
 
 -- ---- the parts, and how one is set. `c ▸ s` is c with the part that s names set as s says
 
@@ -109,6 +110,16 @@ secondCorner c n = location (c .settings) (absolutePosition (c .settings) (recor
 abbrev pub newWindow : Core → Numbers → Window
 newWindow c n = cond (eqb (n .count) 0) noWindow (record { set = true; area = orderedOf (firstCorner c n) (secondCorner c n) })
 
+-- AA's and AR's centre: "(absolute or relative)"; "The position afterwards is the last vertex, kept as its location with offset 0": that at the swept angle itself
+abbrev pub centreAA : Core → Numbers → Position
+centreAA c n = absolutePosition (c .settings) (record { x = n .first; y = n .second })
+
+abbrev pub centreAR : Core → Numbers → Position
+centreAR c n = relativePosition (c .carriage .position) (record { x = n .first; y = n .second })
+
+abbrev pub arcEnd : Core → Position → Numbers → Point
+arcEnd c q n = vertexPointOf (axisX (c .settings)) (axisY (c .settings)) (q .x) (q .y) (wayFrom c q) (sweptAngle n)
+
 -- bytes: "9 for each point, 2 when the point is the first of a PU or PD that itself changed the pen"; the point that closes a subpolygon
 abbrev pub pairBytes : Core → ℕ
 pairBytes c = cond (c .carriage .pen .changed) 11 9
@@ -169,6 +180,8 @@ atEnd SP c n g = c ▸ penNumber (natAbs (asked n))
 atEnd PM c n g = cond (asked n ≡? pos 0) (begins c g) (cond (asked n ≡? pos 1) (ends c g) (leaves c (closingBytes c) g))
 atEnd EA c n g = c ▸ polygon g false 49
 atEnd ER c n g = c ▸ polygon g false 49
+atEnd AA c n g = c ▸ position (restAt (arcEnd c (centreAA c n) n))
+atEnd AR c n g = c ▸ position (restAt (arcEnd c (centreAR c n) n))
 atEnd EP c n g = c
 atEnd CI c n g = c
 atEnd PU c n g = c

@@ -16,6 +16,7 @@ use Rattle.mnemonics.specs.Table.{knownInPolygon}
 use Rattle.plane.specs.Bounds.{mostAngle}
 use Rattle.plane.specs.Turn.{turnCount, turnedBackOf}
 use Rattle.plane.specs.TurnLaws.{back-forth}
+use Rattle.plane.specs.CircleLaws.{vertex-point-split}
 use Rattle.hpgl.specs.Cases.{pick, choose, whether}
 use Rattle.hpgl.specs.declared.Position.{Position}
 use Rattle.hpgl.specs.declared.Scale.{Scale}
@@ -27,10 +28,12 @@ use Rattle.hpgl.specs.declared.Core.{Core}
 use Rattle.hpgl.specs.declared.Action.the-variants.{Keep, Rectangle}
 use Rattle.hpgl.specs.declared.Acted.{Acted}
 use Rattle.hpgl.specs.Numbers.{unknown, outOfRange, tooFar, polygonFull, polygonBytes, modeBytes, pointBytes, mostPen, quarterAngle, leastAngle}
-use Rattle.hpgl.specs.Place.{rounded, location, inRange, restAt, pagePoint}
+use Rattle.hpgl.specs.Place.{rounded, axisX, axisY, location, inRange, restAt, pagePoint}
 use Rattle.hpgl.specs.Change.{withPosition, withRelative, withPolygon, withCarriage, withCorners, withScale, withWindow}
-use Rattle.hpgl.specs.Rules.{done, refuse, unscaled, noWindow, inked, freshSettings, noPolygon, freshCarriage, letters, nameRule, rebased, inRule, dfRule, goodCorners, setCorners, carried, ipRule, scRule, setTurn, roRule, setWindow, iwRule, setPen, spRule, moveTo, pointCost, longer, edgeTo, storePoint, aimed, goTo, pairRule, begun, pm0, closes, endedWith, ended, pm1In, pm1, leave, pm2In, pm2, pmRule, epRule, rectangular, rectangleTo, eaRule, erRule, circleFits, circleWith, chordAngle, ciRule, endRule, actOn}
-use Rattle.hpgl.specs.Instruction.{Instruction, IN, DF, EP, IP, SC, IW, RO, SP, PM, CI, EA, ER, PU, PD, PA, PR}
+use Rattle.hpgl.specs.Rules.{done, refuse, unscaled, noWindow, inked, freshSettings, noPolygon, freshCarriage, letters, nameRule, rebased, inRule, dfRule, goodCorners, setCorners, carried, ipRule, scRule, setTurn, roRule, setWindow, iwRule, setPen, spRule, moveTo, pointCost, longer, edgeTo, storePoint, aimed, goTo, pairRule, begun, pm0, closes, endedWith, ended, pm1In, pm1, leave, pm2In, pm2, pmRule, epRule, rectangular, rectangleTo, eaRule, erRule, circleFits, circleWith, chordAngle, ciRule, sweptAngle, wayFrom, arc, lastVertex, follow, arcAbout, aaRule, arRule, endRule, actOn}
+use Rattle.hpgl.specs.Instruction.{Instruction, IN, DF, EP, IP, SC, IW, RO, SP, PM, CI, EA, ER, AA, AR, PU, PD, PA, PR}
+use Rattle.hpgl.specs.Related.{Sound}
+use Rattle.hpgl.specs.ArcCases.{by-arc}
 use Rattle.hpgl.specs.Effects as effects
 use Rattle.hpgl.specs.Effects.{_▸_, penNumber, corners, scale, turn, window, position, polygon, asked, changedBy, Happens, nothing, name, pair, end, refusal}
 
@@ -267,6 +270,14 @@ module _ (c : Core) where
       pick (λ (t : Acted). t .core ≡ c) ((pos leastAngle ≤? chordAngle n) && (chordAngle n ≤? pos mostAngle))
       (pick (λ (t : Acted). t .core ≡ c) (circleFits c (n .first)) refl refl) refl
 
+  -- an arc, about q: where both widths are not 0, the last vertex is what the code finds from the split centre
+  sets-arc : (q : Position) (n : Numbers) → Sound (c .settings) → Sets (λ (p : Point). c ▸ position (restAt p)) (effects.arcEnd c q n) (arcAbout c q n)
+  unfolding follow arc lastVertex done refuse
+  sets-arc q n w =
+      by-arc c q n (Sets (λ (p : Point). c ▸ position (restAt p)) (effects.arcEnd c q n))
+      (λ h. record { is = ap (λ (p : Point). c ▸ position (restAt p)) (vertex-point-split (axisX (c .settings)) (axisY (c .settings)) (q .x) (q .y) (wayFrom c q) (sweptAngle n) (w .x) (w .y)) })
+      (record { is = refl }) (record { is = refl })
+
   -- ---- every event
 
   same : (k : ℕ) → c ≡ cond (eqb k 0) c c
@@ -276,13 +287,13 @@ module _ (c : Core) where
       either true = refl
       either false = refl
 
-  obeys-end : {op : ℕ} (i : Instruction op) (n : Numbers) → c .settings .turn < turnCount → Obeys (end i n) (endRule c op n)
-  unfolding endRule eaRule erRule epRule done windowed turned penned scaled
+  obeys-end : {op : ℕ} (i : Instruction op) (n : Numbers) → Sound (c .settings) → Obeys (end i n) (endRule c op n)
+  unfolding endRule eaRule erRule epRule aaRule arRule done windowed turned penned scaled
   obeys-end IN n h = obeys-in n
-  obeys-end DF n h = obeys-df h n
+  obeys-end DF n h = obeys-df (h .turn) n
   obeys-end EP n h = record { is = refl }
-  obeys-end IP n h = record { is = sets-ip h n .is }
-  obeys-end SC n h = record { is = sets-sc h n .is }
+  obeys-end IP n h = record { is = sets-ip (h .turn) n .is }
+  obeys-end SC n h = record { is = sets-sc (h .turn) n .is }
   obeys-end IW n h = record { is = sets-iw n .is }
   obeys-end RO n h = record { is = sets-ro n .is }
   obeys-end SP n h = record { is = sets-sp n .is }
@@ -290,13 +301,15 @@ module _ (c : Core) where
   obeys-end CI n h = record { is = carries-circle n ∙ same (ciRule c n .number) }
   obeys-end EA n h = record { is = carries-rectangle _ .is }
   obeys-end ER n h = record { is = carries-rectangle _ .is }
+  obeys-end AA n h = record { is = sets-arc _ n h .is }
+  obeys-end AR n h = record { is = sets-arc _ n h .is }
   obeys-end PU n h = record { is = refl }
   obeys-end PD n h = record { is = refl }
   obeys-end PA n h = record { is = refl }
   obeys-end PR n h = record { is = refl }
 
 -- what an event changes is what Effects.antt names
-pub obeyed : (c : Core) {e : Event} (k : Happens e) → c .settings .turn < turnCount → let t = actOn c e in t .core ≡ changedBy k c (t .number) (t .core .carriage .polygon)
+pub obeyed : (c : Core) {e : Event} (k : Happens e) → Sound (c .settings) → let t = actOn c e in t .core ≡ changedBy k c (t .number) (t .core .carriage .polygon)
 unfolding actOn done refuse
 obeyed c nothing h = refl
 obeyed c (name i) h = obeys-name c i .is

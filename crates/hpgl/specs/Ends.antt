@@ -29,12 +29,14 @@ pub data Works : ℕ → Type 0 where
   CI : Works code.CI
   EA : Works code.EA
   ER : Works code.ER
+  AA : Works code.AA
+  AR : Works code.AR
 
 abbrev pub working : List ℕ
-working = code.IN ∷ code.DF ∷ code.EP ∷ code.IP ∷ code.SC ∷ code.IW ∷ code.RO ∷ code.SP ∷ code.PM ∷ code.CI ∷ code.EA ∷ code.ER ∷ []
+working = code.IN ∷ code.DF ∷ code.EP ∷ code.IP ∷ code.SC ∷ code.IW ∷ code.RO ∷ code.SP ∷ code.PM ∷ code.CI ∷ code.EA ∷ code.ER ∷ code.AA ∷ code.AR ∷ []
 
 works : (op : ℕ) → among op working ≡ true → Works op
-works = listed Works working (IN ⨾ DF ⨾ EP ⨾ IP ⨾ SC ⨾ IW ⨾ RO ⨾ SP ⨾ PM ⨾ CI ⨾ EA ⨾ ER ⨾ none)
+works = listed Works working (IN ⨾ DF ⨾ EP ⨾ IP ⨾ SC ⨾ IW ⨾ RO ⨾ SP ⨾ PM ⨾ CI ⨾ EA ⨾ ER ⨾ AA ⨾ AR ⨾ none)
 
 -- PU, PD, PA, PR have done their work, and no name gives a code beyond the table.
 pub record Rests (op : ℕ) : Type 0 where
@@ -60,6 +62,8 @@ rests c op n r =
       other r code.CI refl,
       other r code.EA refl,
       other r code.ER refl,
+      other r code.AA refl,
+      other r code.AR refl,
     ) refl
 
 pub pairs-end : (c : Core) (op : ℕ) (n : Numbers) → takesPairs op ≡ true → endRule c op n ≡ done c Keep

@@ -1,4 +1,4 @@
--- The exact model: what is owed paint, by document 01's words ("Strokes"), at exact positions and in a queue. It is fed with the calls alone.
+-- The exact model: what is owed paint, by the documents' words (01, "Strokes"; 02), at exact positions and in a queue. It is fed with the calls alone.
 -- Reading, settings and position go by the same rules as the machine's; but what joins the polygon and the queue is decided here, from the event, the
 -- number and the positions before and after. It never looks at the machine's actions, store, work or counts.
 use Prim.Native.Nat.{ℕ, zero, suc, _+_}
@@ -15,15 +15,16 @@ use Rattle.reader.specs.declared.Event.{Event}
 use Rattle.reader.specs.declared.Event.the-variants.{Nothing, Named, Pair, Ended, Refused}
 use Rattle.reader.specs.Reader.{freshReader}
 use Rattle.reader.specs.Step.{stepOf}
-use Rattle.mnemonics.specs.Table.{IN, EP, PM, CI, EA, ER}
+use Rattle.mnemonics.specs.Table.{IN, EP, PM, CI, EA, ER, AA, AR}
 use Rattle.plane.specs.Turn.{turnedOf, turnedExact}
 use Rattle.plane.specs.declared.circle.Way.{Way}
 use Rattle.plane.specs.Circle.{chordsOf, angleOf, rotatedOf, exactVertex}
+use Rattle.plane.specs.Arc.{partsOf, bendOf, exactArc}
 use Rattle.hpgl.specs.declared.Position.{Position}
 use Rattle.hpgl.specs.declared.Settings.{Settings}
 use Rattle.hpgl.specs.declared.Core.{Core}
 use Rattle.hpgl.specs.Place.{axisX, axisY, exactPosition, absolutePosition, relativePosition}
-use Rattle.hpgl.specs.Rules.{freshCore, differ, chordAngle, actOn}
+use Rattle.hpgl.specs.Rules.{freshCore, differ, chordAngle, sweptAngle, arcAngle, wayFrom, actOn}
 use Rattle.hpgl.specs.Machine.{readerAfter}
 
 -- ---- what the model has
@@ -95,6 +96,16 @@ vertexAt c r a i =
       y = exactVertex (axisY (c .settings)) (c .carriage .position .y) (w .v);
     }
 
+-- vertex i of an arc from the position about q, through the sweep s by the chord angle a: "The arc starts at the current exact position. Each later vertex is the centre
+-- plus that way turned, by whole chord angles and at the last by the swept angle itself."
+unfoldable pub arcVertex : Core → Position → ℤ → ℕ → ℕ → Exact
+arcVertex c q s a i =
+    let w : Way = rotatedOf (wayFrom c q) (bendOf s a i) in
+    record {
+      x = exactArc (axisX (c .settings)) (c .carriage .position .x) (q .x) (w .u) i;
+      y = exactArc (axisY (c .settings)) (c .carriage .position .y) (q .y) (w .v) i;
+    }
+
 -- "A circle's chords join its exact vertices": n segments that are owed, from vertex i on, each from v there to v at the next
 unfoldable pub path : Core → (ℕ → Exact) → ℕ → ℕ → List ExactSegment
 path c v i zero = []
@@ -163,19 +174,27 @@ move c d =
     (inkedOnly d (exactSegment d (exactPosition (c .settings) (c .carriage .position)) (exactPosition (d .settings) (d .carriage .position)) true ∷ []))
     [])
 
--- "each circle chord with pen not 0, pen up or down, and each polygon edge drawn with pen not 0"
-unfoldable pub instructed : Core → ℕ → Numbers → ExactPolygon → List ExactSegment
-instructed d op n g =
+-- "Condition 3 covers arcs, each chord between neighbouring exact vertices being a move": about q, from the position before it
+unfoldable pub arcMoves : Core → Core → Position → Numbers → List ExactSegment
+arcMoves c d q n =
+    let a : ℕ = natAbs (arcAngle n) in
+    cond (d .carriage .pen .down) (inkedOnly d (path d (arcVertex c q (sweptAngle n) a) 0 (partsOf (sweptAngle n) a))) []
+
+-- "each circle chord with pen not 0, pen up or down, and each polygon edge drawn with pen not 0"; c is the core before it, and d after it
+unfoldable pub instructed : Core → Core → ℕ → Numbers → ExactPolygon → List ExactSegment
+instructed c d op n g =
     cond (eqb op EP || eqb op EA || eqb op ER) (inkedOnly d (outline d g))
     (cond (eqb op CI) (inkedOnly d (path d (vertexAt d (n .first) (natAbs (chordAngle n))) 0 (chordsOf (natAbs (chordAngle n)))))
-    [])
+    (cond (eqb op AA) (arcMoves c d (absolutePosition (c .settings) (record { x = n .first; y = n .second })) n)
+    (cond (eqb op AR) (arcMoves c d (relativePosition (c .carriage .position) (record { x = n .first; y = n .second })) n)
+    [])))
 
 -- what an event that was not refused adds to the queue; g is the polygon after it
 unfoldable pub added : Core → Core → Event → ExactPolygon → List ExactSegment
 added c d Nothing g = []
 added c d (Named op) g = []
 added c d (Pair p) g = move c d
-added c d (Ended op n) g = instructed d op n g
+added c d (Ended op n) g = instructed c d op n g
 added c d (Refused k) g = []
 
 -- ---- the calls

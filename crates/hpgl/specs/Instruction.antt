@@ -20,6 +20,8 @@ pub data Instruction : ℕ → Type 0 where
   CI : Instruction code.CI
   EA : Instruction code.EA
   ER : Instruction code.ER
+  AA : Instruction code.AA
+  AR : Instruction code.AR
 
 -- every code of the table is one of them
 pub instruction : (op : ℕ) → op < code.rows → Instruction op
@@ -39,4 +41,6 @@ instruction (suc (suc (suc (suc (suc (suc (suc (suc (suc (suc (suc (suc zero))))
 instruction (suc (suc (suc (suc (suc (suc (suc (suc (suc (suc (suc (suc (suc zero))))))))))))) h = CI
 instruction (suc (suc (suc (suc (suc (suc (suc (suc (suc (suc (suc (suc (suc (suc zero)))))))))))))) h = EA
 instruction (suc (suc (suc (suc (suc (suc (suc (suc (suc (suc (suc (suc (suc (suc (suc zero))))))))))))))) h = ER
-instruction (suc (suc (suc (suc (suc (suc (suc (suc (suc (suc (suc (suc (suc (suc (suc (suc op)))))))))))))))) h = absurd (omega arith)
+instruction (suc (suc (suc (suc (suc (suc (suc (suc (suc (suc (suc (suc (suc (suc (suc (suc zero)))))))))))))))) h = AA
+instruction (suc (suc (suc (suc (suc (suc (suc (suc (suc (suc (suc (suc (suc (suc (suc (suc (suc zero))))))))))))))))) h = AR
+instruction (suc (suc (suc (suc (suc (suc (suc (suc (suc (suc (suc (suc (suc (suc (suc (suc (suc (suc op)))))))))))))))))) h = absurd (omega arith)

@@ -9,6 +9,7 @@ pub mod ExactModel
 pub mod Condition3
 pub mod Valid
 pub mod Made
+pub mod ArcCases
 pub mod Cases
 pub mod Pins
 pub mod Related
@@ -27,6 +28,7 @@ pub mod RefusalsProof
 pub mod PinsPosition
 pub mod PinsSettings
 pub mod PinsPolygon
+pub mod PinsArc
 pub mod PinsCircle
 pub mod ValidFacts
 pub mod KeptCases

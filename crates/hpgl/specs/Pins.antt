@@ -17,7 +17,7 @@ use Rattle.reader.specs.declared.Event.the-variants.{Nothing, Named, Pair, Ende
 use Rattle.reader.specs.declared.Mode.the-variants.{Idle, Label}
 use Rattle.reader.specs.declared.Reader.{Reader}
 use Rattle.reader.specs.declared.Step.{Step}
-use Rattle.mnemonics.specs.Table.{IN, DF, EP, IP, SC, IW, RO, SP, PM, CI, EA, ER, cellOf, knownInPolygon, changesSettings}
+use Rattle.mnemonics.specs.Table.{IN, DF, EP, IP, SC, IW, RO, SP, PM, CI, EA, ER, AA, AR, cellOf, knownInPolygon, changesSettings}
 use Rattle.reader.specs.Sizes.{isCause, Caused}
 use Rattle.reader.specs.CauseLaws.{step-caused}
 use Rattle.reader.specs.Reader.{goOnOf, quietOf, labelEnd}
@@ -35,8 +35,9 @@ use Rattle.hpgl.specs.Numbers.{unknown, outOfRange, tooFar, polygonFull,
 use Rattle.hpgl.specs.Place.{rounded, location, inRange, absolutePosition, relativePosition}
 use Rattle.hpgl.specs.Ends as ends
 use Rattle.hpgl.specs.Ends.{Works, by-end}
+use Rattle.hpgl.specs.ArcCases.{by-arc}
 use Rattle.hpgl.specs.Change.{withWork}
-use Rattle.hpgl.specs.Rules.{done, refuse, nameRule, inRule, dfRule, goodCorners, setCorners, ipRule, scRule, setTurn, roRule, setWindow, iwRule, setPen, spRule, moveTo, pointCost, storePoint, aimed, goTo, pairRule, pm0, closes, ended, pm1In, pm1, leave, pm2In, pm2, pmRule, epRule, rectangleTo, firstTwo, eaRule, erRule, circleFits, circleWith, chordAngle, ciRule, endRule, actOn}
+use Rattle.hpgl.specs.Rules.{done, refuse, nameRule, inRule, dfRule, goodCorners, setCorners, ipRule, scRule, setTurn, roRule, setWindow, iwRule, setPen, spRule, moveTo, pointCost, storePoint, aimed, goTo, pairRule, pm0, closes, ended, pm1In, pm1, leave, pm2In, pm2, pmRule, epRule, rectangleTo, firstTwo, eaRule, erRule, circleFits, circleWith, chordAngle, ciRule, follow, arcAbout, aaRule, arRule, endRule, actOn}
 use Rattle.hpgl.specs.Machine.{waiting, stored, queued, readerAfter, applied, acted, takeState, takeNumber}
 
 -- ---- what is claimed of an event
@@ -203,8 +204,12 @@ module _ (c : Core) (e : Event) where
     pin-ci =
         pick (Pinned c e) ((pos leastAngle ≤? chordAngle n) && (chordAngle n ≤? pos mostAngle)) (pick (Pinned c e) (circleFits c (n .first)) (carries c _ refl) (refuses far)) (refuses range)
 
+    pin-arc : (q : Position) → Pinned c e (arcAbout c q n)
+    unfolding follow
+    pin-arc q = by-arc c q n (Pinned c e) (λ p. carries _ _ refl) (refuses far) (refuses range)
+
   pin-each : (n : Numbers) {op : ℕ} → Works op → e ≡ Ended op n → Pinned c e (endRule c op n)
-  unfolding endRule changesSettings cellOf epRule eaRule erRule
+  unfolding endRule changesSettings cellOf epRule eaRule erRule aaRule arRule
   pin-each n ends.IN is = pin-in IN n is refl
   pin-each n ends.DF is = pin-df DF n is refl
   pin-each n ends.EP is = pin-ep EP n is
@@ -217,6 +222,8 @@ module _ (c : Core) (e : Event) where
   pin-each n ends.CI is = pin-ci CI n is
   pin-each n ends.EA is = pin-rectangle EA n is (absolutePosition (c .settings) (firstTwo n))
   pin-each n ends.ER is = pin-rectangle ER n is (relativePosition (c .carriage .position) (firstTwo n))
+  pin-each n ends.AA is = pin-arc AA n is (absolutePosition (c .settings) (firstTwo n))
+  pin-each n ends.AR is = pin-arc AR n is (relativePosition (c .carriage .position) (firstTwo n))
 
   pin-end : (op : ℕ) (n : Numbers) → e ≡ Ended op n → Pinned c e (endRule c op n)
   pin-end op n = by-end c n (λ (op : ℕ) (t : Acted). e ≡ Ended op n → Pinned c e t) (λ o i. pin-each n i) (λ op r is. carries c Keep refl) op

@@ -39,11 +39,11 @@ pub record Vertex (c : Core) (r : ℤ) (angle : ℕ) (e : Exact) : Type 0 where
   pub y : Moves (standing c .y) (e .y) (r *ℤ sineOf (pos angle)) (spanOf (c .settings .scale .on) (c .settings .p1 .y) (c .settings .p2 .y))
       (widthOf (c .settings .scale .on) (c .settings .scale .y) *ℤ pos 100000)
 
--- "A circle's chords join its exact vertices": chord i leads from v i to v (i + 1), turned to the page, and is owed paint
-pub data Joins (c : Core) (v : ℕ → Exact) : ℕ → List ExactSegment → Type 0 where
-  none : {i : ℕ} → Joins c v i []
-  more : {i : ℕ} {g : ExactSegment} {gs : List ExactSegment} → g .from ≡ turnedExact (v i) (c .settings .turn) → g .to ≡ turnedExact (v (i + 1)) (c .settings .turn) →
-      g .owed ≡ true → Joins c v (i + 1) gs → Joins c v i (g ∷ gs)
+-- "A circle's chords join its exact vertices": chord i leads from v i to v (i + 1), turned to the page by the turn t, and is owed paint
+pub data Joins (t : ℕ) (v : ℕ → Exact) : ℕ → List ExactSegment → Type 0 where
+  none : {i : ℕ} → Joins t v i []
+  more : {i : ℕ} {g : ExactSegment} {gs : List ExactSegment} → g .from ≡ turnedExact (v i) t → g .to ≡ turnedExact (v (i + 1)) t → g .owed ≡ true → Joins t v (i + 1) gs →
+      Joins t v i (g ∷ gs)
 
 -- "Chords: 3600 over it, rounded up. Vertices zero, one, two .. stand at whole multiples of the angle; the last is the first again."
 pub record Ring (c : Core) (r : ℤ) (a : ℕ) (v : ℕ → Exact) (gs : List ExactSegment) : Type 0 where
@@ -51,7 +51,7 @@ pub record Ring (c : Core) (r : ℤ) (a : ℕ) (v : ℕ → Exact) (gs : List Ex
   pub fewest : a * length gs < 3600 + a
   pub multiples : (i : ℕ) → i < length gs → (i * a < 3600) × Vertex c r (i * a) (v i)
   pub again : v (length gs) ≡ v 0
-  pub joins : Joins c v 0 gs
+  pub joins : Joins (c .settings .turn) v 0 gs
 
 -- ---- one axis
 
@@ -82,11 +82,24 @@ vertexed B O D t (negsuc w) z =
     subst (λ (k : ℕ). Moves (based B O D (negsuc w)) (based B (O *ℤ pos 100000 +ℤ t) D (negℤ (pos k))) t D (negℤ (pos k))) e
     (record { by = vertex-minus B O D t (pos 100000) (pos (suc w)) _ (ap pos e) })
 
-axis-vertex : (on : Bool) (p1 p2 : ℤ) (r : Range) (p : ExactPosition) (t : ℤ) → (axisOf on p1 p2 (r .min) (r .max) .width ≡ pos 0 → ⊥) →
+pub axis-vertex : (on : Bool) (p1 p2 : ℤ) (r : Range) (p : ExactPosition) (t : ℤ) → (axisOf on p1 p2 (r .min) (r .max) .width ≡ pos 0 → ⊥) →
     let a = axisOf on p1 p2 (r .min) (r .max) in Moves (exactOf a p) (exactVertex a p t) t (spanOf on p1 p2) (widthOf on r *ℤ pos 100000)
 unfolding axisOf
 axis-vertex true p1 p2 r p t z = vertexed (p .base) (p .offset) _ t _ z
 axis-vertex false p1 p2 r p t z = vertexed (p .base) (p .offset) _ t _ z
+
+-- ---- the path over the vertices
+
+module _ (c : Core) (v : ℕ → Exact) where
+  pub count : (i n : ℕ) → length (path c v i n) ≡ n
+  unfolding path
+  count i zero = refl
+  count i (suc n) = ap suc (count (i + 1) n)
+
+  pub joined : (i n : ℕ) → Joins (c .settings .turn) v i (path c v i n)
+  unfolding path exactSegment
+  joined i zero = none
+  joined i (suc n) = more refl refl refl (joined (i + 1) n)
 
 -- ---- the vertices
 
@@ -126,20 +139,10 @@ module _ (c : Core) (r : ℤ) (w : Sound (c .settings)) where
   at-start : (a : ℕ) → 0 < chordsOf a → angleOf a 0 ≡ pos 0
   at-start a l = at-multiple a 0 l ∙ ap pos (omega arith)
 
-  count : (v : ℕ → Exact) (i n : ℕ) → length (path c v i n) ≡ n
-  unfolding path
-  count v i zero = refl
-  count v i (suc n) = ap suc (count v (i + 1) n)
-
-  joined : (v : ℕ → Exact) (i n : ℕ) → Joins c v i (path c v i n)
-  unfolding path exactSegment
-  joined v i zero = none
-  joined v i (suc n) = more refl refl refl (joined v (i + 1) n)
-
   circle-ring : (a : ℕ) → 0 < a → Ring c r a (vertexAt c r a) (path c (vertexAt c r a) 0 (chordsOf a))
   circle-ring a h =
       let n : ℕ = chordsOf a in
-      let e : length (path c (vertexAt c r a) 0 n) ≡ n = count (vertexAt c r a) 0 n in
+      let e : length (path c (vertexAt c r a) 0 n) ≡ n = count c (vertexAt c r a) 0 n in
       let l : (3600 ≤ a * n) × (a * n < 3600 + a) = chords-law a h in
       let some : 0 < n = not-none n (l .0) in
       record {
@@ -147,7 +150,7 @@ module _ (c : Core) (r : ℤ) (w : Sound (c .settings)) where
         fewest = rw e (l .1);
         multiples = λ i k. let m : i < n = rw e at k in (angle-law a i h m, subst (Vertex c r (i * a)) (sym (at-angle a i _ (at-multiple a i m))) (vertex-around (i * a)));
         again = ap (vertexAt c r a) e ∙ at-angle a n (pos 0) (at-end a) ∙ sym (at-angle a 0 (pos 0) (at-start a some));
-        joins = joined (vertexAt c r a) 0 n;
+        joins = joined c (vertexAt c r a) 0 n;
       }
     where
       not-none : (n : ℕ) → 3600 ≤ a * n → 0 < n

@@ -16,7 +16,7 @@ use Rattle.reader.specs.declared.Coordinates.{Coordinates}
 use Rattle.reader.specs.declared.Numbers.{Numbers}
 use Rattle.reader.specs.declared.Event.{Event}
 use Rattle.reader.specs.declared.Event.the-variants.{Nothing, Named, Pair, Ended, Refused}
-use Rattle.mnemonics.specs.Table.{IN, DF, EP, IP, SC, IW, RO, SP, PM, CI, EA, ER, PU, PD, PA, PR, knownInPolygon}
+use Rattle.mnemonics.specs.Table.{IN, DF, EP, IP, SC, IW, RO, SP, PM, CI, EA, ER, PU, PD, PA, PR, AA, AR, knownInPolygon}
 use Rattle.plane.specs.Bounds.{mostAngle}
 use Rattle.hpgl.specs.Cases.{never, pick, choose, cond-true}
 use Rattle.hpgl.specs.declared.Position.{Position}
@@ -25,13 +25,14 @@ use Rattle.hpgl.specs.declared.Polygon.{Polygon}
 use Rattle.hpgl.specs.declared.Carriage.{Carriage}
 use Rattle.hpgl.specs.declared.Core.{Core}
 use Rattle.hpgl.specs.declared.Action.{Action}
+use Rattle.hpgl.specs.ArcCases.{by-arc}
 use Rattle.hpgl.specs.declared.Action.the-variants.{Keep}
 use Rattle.hpgl.specs.declared.Acted.{Acted}
 use Rattle.hpgl.specs.Numbers.{outOfRange, polygonFull, polygonBytes, modeBytes, pointBytes, penBytes, mostPen, quarterAngle, leastAngle}
 use Rattle.hpgl.specs.Place.{rounded, location, inRange}
 use Rattle.hpgl.specs.Ends as ends
 use Rattle.hpgl.specs.Ends.{Works, Rests, other, by-end}
-use Rattle.hpgl.specs.Rules.{done, refuse, noPolygon, freshCarriage, freshCore, letters, nameRule, rebased, inRule, dfRule, goodCorners, setCorners, ipRule, scRule, setTurn, roRule, setWindow, iwRule, setPen, spRule, moveTo, pointCost, longer, storePoint, aimed, goTo, pairRule, begun, pm0, closes, endedWith, ended, pm1In, pm1, leave, pm2In, pm2, pmRule, epRule, rectangular, rectangleTo, eaRule, erRule, circleFits, circleWith, chordAngle, ciRule, endRule, actOn}
+use Rattle.hpgl.specs.Rules.{done, refuse, noPolygon, freshCarriage, freshCore, letters, nameRule, rebased, inRule, dfRule, goodCorners, setCorners, ipRule, scRule, setTurn, roRule, setWindow, iwRule, setPen, spRule, moveTo, pointCost, longer, storePoint, aimed, goTo, pairRule, begun, pm0, closes, endedWith, ended, pm1In, pm1, leave, pm2In, pm2, pmRule, epRule, rectangular, rectangleTo, eaRule, erRule, circleFits, circleWith, chordAngle, ciRule, follow, arcAbout, aaRule, arRule, endRule, actOn}
 use Rattle.hpgl.specs.PinsPosition.{after}
 
 abbrev pub bytesOf : Core → ℕ
@@ -300,8 +301,12 @@ module _ (c : Core) (h : List Stored) (is : bytesOf c ≡ costs h) (fits : bytes
   counts-ci n =
       pick (Counts h) ((pos leastAngle ≤? chordAngle n) && (chordAngle n ≤? pos mostAngle)) (pick (Counts h) (circleFits c (n .first)) (keeps c _ refl) (refuses h _ _ refl)) (refuses h _ _ refl)
 
+  counts-arc : (q : Position) (n : Numbers) → Counts h (arcAbout c q n)
+  unfolding follow
+  counts-arc q n = by-arc c q n (Counts h) (λ p. keeps _ _ refl) (refuses h _ _ refl) (refuses h _ _ refl)
+
   counts-each : (n : Numbers) {op : ℕ} → Works op → Counts (storedBy c (Ended op n) h) (endRule c op n)
-  unfolding endRule storedBy dfRule rebased epRule eaRule erRule
+  unfolding endRule storedBy dfRule rebased epRule eaRule erRule aaRule arRule
   counts-each n ends.IN = counts-in
   counts-each n ends.DF = keeps _ _ refl
   counts-each n ends.EP = keeps _ _ refl
@@ -314,6 +319,8 @@ module _ (c : Core) (h : List Stored) (is : bytesOf c ≡ costs h) (fits : bytes
   counts-each n ends.CI = counts-ci n
   counts-each n ends.EA = counts-rectangle _
   counts-each n ends.ER = counts-rectangle _
+  counts-each n ends.AA = counts-arc _ n
+  counts-each n ends.AR = counts-arc _ n
 
   counts-rest : (n : Numbers) (op : ℕ) → Rests op → Counts (storedBy c (Ended op n) h) (done c Keep)
   unfolding storedBy

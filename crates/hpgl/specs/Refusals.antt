@@ -1,22 +1,25 @@
--- When each event is carried out, and with which number it is refused if not (document 01, "Causes and numbers", and the sentences that say what must be so). A line is the
+-- When each event is carried out, and with which number it is refused if not (document 01, "Causes and numbers", and the sentences of 01 and 02 that say what must be so). A line is the
 -- list of what an event needs, in 01's order for one byte, each with the number that it gives where it is not met; where all is met the number is 0.
 -- Nothing here calls a rule; RefusalsProof.antt proves that the rules answer just these numbers.
 use mathlib.Core.Path.{_≡_}
 use mathlib.Core.Logic.{_⊎_}
 use mathlib.Core.Bool.{Bool, true, false}
 use Prim.Native.Nat.{ℕ, _+_, _≤_, _<_}
-use lib.IntN.{ℤ, pos, negℤ, _+ℤ_, _-ℤ_, _*ℤ_}
+use lib.IntN.{ℤ, pos, negℤ, natAbs, _+ℤ_, _-ℤ_, _*ℤ_}
 use Rattle.exact.specs.Whole.{_≤ᶻ_, _<ᶻ_}
 use Rattle.clip.specs.declared.Point.{Point}
 use Rattle.clip.specs.declared.Rect.{Rect}
 use Rattle.reader.specs.declared.Numbers.{Numbers}
 use Rattle.reader.specs.declared.Event.{Event}
 use Rattle.mnemonics.specs.Table as code
+use Rattle.plane.specs.declared.circle.Way.{Way}
 use Rattle.plane.specs.Circle.{vertexPointOf}
+use Rattle.plane.specs.Arc.{exactWay, partsOf, bendOf}
+use Rattle.hpgl.specs.declared.Position.{Position}
 use Rattle.hpgl.specs.declared.Core.{Core}
 use Rattle.hpgl.specs.Place.{axisX, axisY, location, absolutePosition, relativePosition}
-use Rattle.hpgl.specs.Instruction.{Instruction, IN, DF, EP, IP, SC, IW, RO, SP, PM, CI, EA, ER, PU, PD, PA, PR}
-use Rattle.hpgl.specs.Effects.{target, newP1, newP2, firstCorner, secondCorner, pairBytes, closingBytes, bytes, Happens, nothing, name, pair, end, refusal}
+use Rattle.hpgl.specs.Instruction.{Instruction, IN, DF, EP, IP, SC, IW, RO, SP, PM, CI, EA, ER, AA, AR, PU, PD, PA, PR}
+use Rattle.hpgl.specs.Effects.{target, newP1, newP2, firstCorner, secondCorner, centreAA, centreAR, pairBytes, closingBytes, bytes, Happens, nothing, name, pair, end, refusal}
 
 -- where P is met, what follows is so; where it is not, the number t is k
 pub record Needs (P : Type 0) (k t : ℕ) (rest : Type 0) : Type 0 where
@@ -48,10 +51,10 @@ pub record Asked (n : Numbers) (k : ℤ) : Type 0 where
   pub none : n .count ≡ 0 → k ≡ pos 0
   pub some : (n .count ≡ 0 → ⊥) → IsNearest (n .first) 10000 k
 
--- CI's chord angle: "in tenths of a degree, rounded, .. default 50"
-pub record Angle (n : Numbers) (a : ℤ) : Type 0 where
-  pub default : n .count ≡ 1 → a ≡ pos 50
-  pub some : (n .count ≡ 1 → ⊥) → IsNearest (n .second) 1000 a
+-- a chord angle: "in tenths of a degree, rounded, .. default 50". It is the number z, if there are more than k
+pub record Angle (n : Numbers) (k : ℕ) (z a : ℤ) : Type 0 where
+  pub default : n .count ≡ k → a ≡ pos 50
+  pub some : (n .count ≡ k → ⊥) → IsNearest z 1000 a
 
 -- ---- what instructions need
 
@@ -97,6 +100,29 @@ pointAt c r angle = vertexPointOf (axisX (c .settings)) (axisY (c .settings)) (c
 abbrev pub FourPoints : Core → ℤ → Type 0
 FourPoints c r = InRange (pointAt c r 0) × InRange (pointAt c r 900) × InRange (pointAt c r 1800) × InRange (pointAt c r 2700)
 
+-- "The way from centre to current point .. per axis in current units, rounded to ten-thousandths": from the centre q
+pub record WayFrom (c : Core) (q : Position) (w : Way) : Type 0 where
+  pub u : let z = exactWay (axisX (c .settings)) (c .carriage .position .x) (q .x) in IsNearest (z .num) (z .den) (w .u)
+  pub v : let z = exactWay (axisY (c .settings)) (c .carriage .position .y) (q .y) in IsNearest (z .num) (z .den) (w .v)
+
+-- "more than 32768 units either way"
+abbrev pub Near : Way → Type 0
+Near w = Between (negℤ (pos 327680000)) (w .u) (pos 327680000) × Between (negℤ (pos 327680000)) (w .v) (pos 327680000)
+
+-- "Each later vertex is the centre plus that way turned, by whole chord angles and at the last by the swept angle itself", and is in range
+abbrev pub Vertices : Core → Position → Way → ℤ → ℕ → Type 0
+Vertices c q w s a = (i : ℕ) → 1 ≤ i → i ≤ partsOf s a → InRange (vertexPointOf (axisX (c .settings)) (axisY (c .settings)) (q .x) (q .y) w (bendOf s a i))
+
+-- AA and AR, about q: "−3600 to 3600 without 0, else 3", the chord angle "as for CI"
+abbrev pub Arc : Core → Position → Numbers → ℕ → Type 0
+Arc c q n t =
+    (s : ℤ) → IsNearest (n .third) 1000 s → (a : ℤ) → Angle n 3 (n .fourth) a → (w : Way) → WayFrom c q w →
+    Needs (Between (negℤ (pos 3600)) s (pos 3600) × (s ≡ pos 0 → ⊥)) 3 t
+    (Needs (Between (pos 5) a (pos 1200)) 3 t
+    (Needs (Near w) 3 t
+    (Needs (Vertices c q w s (natAbs a)) 6 t
+    (t ≡ 0))))
+
 -- ---- the numbers of an instruction that ends
 
 abbrev pub Judged : {op : ℕ} → Instruction op → Core → Numbers → ℕ → Type 0
@@ -109,9 +135,11 @@ Judged IW c n t = Needs ((n .count ≡ 0 → ⊥) → InRange (firstCorner c n) 
 Judged RO c n t = (k : ℤ) → Asked n k → Needs ((k ≡ pos 0) ⊎ (k ≡ pos 90)) 3 t (t ≡ 0)
 Judged SP c n t = (k : ℤ) → Asked n k → Needs (Between (pos 0) k (pos 8)) 3 t (t ≡ 0)
 Judged PM c n t = (k : ℤ) → Asked n k → Needs (Allows (c .carriage .polygon .mode) k) 3 t (Needs (Fits c k) 7 t (t ≡ 0))
-Judged CI c n t = (a : ℤ) → Angle n a → Needs (Between (pos 5) a (pos 1200)) 3 t (Needs (FourPoints c (n .first)) 6 t (t ≡ 0))
+Judged CI c n t = (a : ℤ) → Angle n 1 (n .second) a → Needs (Between (pos 5) a (pos 1200)) 3 t (Needs (FourPoints c (n .first)) 6 t (t ≡ 0))
 Judged EA c n t = Needs (InRange (location (c .settings) (absolutePosition (c .settings) (record { x = n .first; y = n .second })))) 6 t (t ≡ 0)
 Judged ER c n t = Needs (InRange (location (c .settings) (relativePosition (c .carriage .position) (record { x = n .first; y = n .second })))) 6 t (t ≡ 0)
+Judged AA c n t = Arc c (centreAA c n) n t
+Judged AR c n t = Arc c (centreAR c n) n t
 Judged PU c n t = t ≡ 0
 Judged PD c n t = t ≡ 0
 Judged PA c n t = t ≡ 0

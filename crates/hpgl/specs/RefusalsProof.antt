@@ -8,10 +8,12 @@ use borrow.Author.Tests.{eqb-true, eqb-false, leb-true, leb-false}
 use lib.Dec.{leb, eqb}
 use lib.IntN.{ℤ, pos, negℤ, natAbs, _+ℤ_, _-ℤ_, _*ℤ_}
 use Rattle.exact.specs.Whole.{_≤ᶻ_, _<ᶻ_, is, Z, ord, _<?_, _≤?_, _≡?_, <?-true, <?-false, ≤?-true, ≤?-false, ≡?-true, ≡?-false}
+use Rattle.exact.specs.Fit.{Bd, abs}
 use Rattle.exact.specs.Divide.{nearestDiv}
 use Rattle.exact.specs.Nearest.{nearest-law, nearest-only}
 use Rattle.clip.specs.declared.Point.{Point}
 use Rattle.clip.specs.declared.Rect.{Rect}
+use Rattle.clip.specs.Reach.{reach, SmallPoint}
 use Rattle.reader.specs.declared.Coordinates.{Coordinates}
 use Rattle.reader.specs.declared.Numbers.{Numbers}
 use Rattle.reader.specs.declared.Event.{Event}
@@ -22,7 +24,13 @@ use Rattle.mnemonics.specs.Said.{known-said}
 use Rattle.plane.specs.declared.position.ExactPosition.{ExactPosition}
 use Rattle.plane.specs.Position.{relativeOf, locationOf, inRangeOf}
 use Rattle.plane.specs.declared.position.Axis.{Axis}
-use Rattle.plane.specs.CircleLaws.{point-0, point-90, point-180, point-270}
+use Rattle.plane.specs.declared.circle.Way.{Way}
+use Rattle.plane.specs.declared.circle.Centre.{Centre}
+use Rattle.plane.specs.Bounds.{mostNumber}
+use Rattle.plane.specs.Circle.{vertexPointOf, centreOf, pointFromCentre}
+use Rattle.plane.specs.CircleLaws.{point-0, point-90, point-180, point-270, vertex-point-split}
+use Rattle.plane.specs.Arc.{exactWay, wayOf, wayFits, partsOf, bendOf, arcFits}
+use Rattle.plane.specs.ArcLaws.{way-nearest, way-bounds, way-fits, each-small, each-fits}
 use Rattle.hpgl.specs.Cases.{whether}
 use Rattle.hpgl.specs.declared.Position.{Position}
 use Rattle.hpgl.specs.declared.Core.{Core}
@@ -31,13 +39,13 @@ use Rattle.hpgl.specs.declared.Acted.{Acted}
 use Rattle.hpgl.specs.Numbers.{badLimits, outOfRange, polygonFull}
 use Rattle.hpgl.specs.Place.{point, rounded, axisX, axisY, location, inRange, relativePosition}
 use Rattle.hpgl.specs.Change.{withPolygon, withCarriage}
-use Rattle.hpgl.specs.Rules.{done, refuse, freshSettings, carried, nameRule, inRule, dfRule, int16, goodCorners, setCorners, ipRule, scRule, setTurn, roRule, setWindow, iwRule, setPen, spRule, chordAngle, moveTo, pointCost, storePoint, aimed, goTo, pairRule, begun, edgeTo, pm0, differ, closes, ended, leave, pm1In, pm1, pm2In, pm2, pmRule, epRule, rectangleTo, eaRule, erRule, circleFits, circleWith, ciRule, endRule, actOn}
+use Rattle.hpgl.specs.Rules.{done, refuse, freshSettings, carried, nameRule, inRule, dfRule, int16, goodCorners, setCorners, ipRule, scRule, setTurn, roRule, setWindow, iwRule, setPen, spRule, chordAngle, moveTo, pointCost, storePoint, aimed, goTo, pairRule, begun, edgeTo, pm0, differ, closes, ended, leave, pm1In, pm1, pm2In, pm2, pmRule, epRule, rectangleTo, eaRule, erRule, circleFits, goodAngle, angleOr, circleWith, ciRule, goodSweep, sweptAngle, arcAngle, wayFrom, arc, follow, arcBy, arcAbout, aaRule, arRule, endRule, actOn}
 use Rattle.hpgl.specs.Machine.{rect, goodLimits, hardLimits, freshNumber}
-use Rattle.hpgl.specs.Related.{Sound}
-use Rattle.hpgl.specs.Instruction.{Instruction, IN, DF, EP, IP, SC, IW, RO, SP, PM, CI, EA, ER, PU, PD, PA, PR}
+use Rattle.hpgl.specs.Related.{Sound, Spanned}
+use Rattle.hpgl.specs.Instruction.{Instruction, IN, DF, EP, IP, SC, IW, RO, SP, PM, CI, EA, ER, AA, AR, PU, PD, PA, PR}
 use Rattle.hpgl.specs.Effects.{asked, newP1, newP2, firstCorner, secondCorner, target, pairBytes, closingBytes, bytes, Happens, nothing, name, pair, end, refusal}
 use Rattle.hpgl.specs.Refusals as asked-of
-use Rattle.hpgl.specs.Refusals.{Needs, Between, InRange, IsNearest, Asked, Angle, Known, PolygonMode, GoodCorners, Allows, begins, ends, leaves, Closing, Fits, pointAt, FourPoints, Judged, Numbered, GoodLimits}
+use Rattle.hpgl.specs.Refusals.{Needs, Between, InRange, IsNearest, Asked, Angle, Known, PolygonMode, GoodCorners, Allows, begins, ends, leaves, Closing, Fits, pointAt, FourPoints, WayFrom, Near, Vertices, Arc, Judged, Numbered, GoodLimits}
 
 -- ---- tests
 
@@ -148,22 +156,55 @@ asked-one n k h = go (eqb (n .count) 0) (count-tells (n .count) 0)
     go true w = h .none (w .yes refl)
     go false w = nearest-one (n .first) 10000 k (omega arith) (h .some (w .no refl))
 
--- CI's chord angle
-pub angle-is : (n : Numbers) → Angle n (chordAngle n)
-unfolding chordAngle
-angle-is n = go (eqb (n .count) 1) (count-tells (n .count) 1)
-  where
-    go : (b : Bool) → Tells b (n .count ≡ 1) → Angle n (cond b (pos 50) (nearestDiv (n .second) (pos 1000)))
-    go true w = record { default = λ e. refl; some = λ u. absurd (u (w .yes refl)) }
-    go false w = record { default = λ e. absurd (w .no refl e); some = λ u. nearest-is (n .second) 1000 (omega arith) }
+-- a chord angle
+module _ (n : Numbers) (k : ℕ) (z : ℤ) where
+  given : Angle n k z (angleOr (eqb (n .count) k) z)
+  given = go (eqb (n .count) k) (count-tells (n .count) k)
+    where
+      go : (b : Bool) → Tells b (n .count ≡ k) → Angle n k z (cond b (pos 50) (nearestDiv z (pos 1000)))
+      go true w = record { default = λ e. refl; some = λ u. absurd (u (w .yes refl)) }
+      go false w = record { default = λ e. absurd (w .no refl e); some = λ u. nearest-is z 1000 (omega arith) }
 
-angle-one : (n : Numbers) (a : ℤ) → Angle n a → a ≡ chordAngle n
+  given-one : (a : ℤ) → Angle n k z a → a ≡ angleOr (eqb (n .count) k) z
+  given-one a h = go (eqb (n .count) k) (count-tells (n .count) k)
+    where
+      go : (b : Bool) → Tells b (n .count ≡ k) → a ≡ cond b (pos 50) (nearestDiv z (pos 1000))
+      go true w = h .default (w .yes refl)
+      go false w = nearest-one z 1000 a (omega arith) (h .some (w .no refl))
+
+-- CI's, and that of AA and AR
+pub angle-is : (n : Numbers) → Angle n 1 (n .second) (chordAngle n)
 unfolding chordAngle
-angle-one n a h = go (eqb (n .count) 1) (count-tells (n .count) 1)
-  where
-    go : (b : Bool) → Tells b (n .count ≡ 1) → a ≡ cond b (pos 50) (nearestDiv (n .second) (pos 1000))
-    go true w = h .default (w .yes refl)
-    go false w = nearest-one (n .second) 1000 a (omega arith) (h .some (w .no refl))
+angle-is n = given n 1 (n .second)
+
+angle-one : (n : Numbers) (a : ℤ) → Angle n 1 (n .second) a → a ≡ chordAngle n
+unfolding chordAngle
+angle-one n a h = given-one n 1 (n .second) a h
+
+pub arc-angle-is : (n : Numbers) → Angle n 3 (n .fourth) (arcAngle n)
+unfolding arcAngle
+arc-angle-is n = given n 3 (n .fourth)
+
+pub arc-angle-one : (n : Numbers) (a : ℤ) → Angle n 3 (n .fourth) a → a ≡ arcAngle n
+unfolding arcAngle
+arc-angle-one n a h = given-one n 3 (n .fourth) a h
+
+-- their swept angle
+pub sweep-is : (n : Numbers) → IsNearest (n .third) 1000 (sweptAngle n)
+unfolding sweptAngle
+sweep-is n = nearest-is (n .third) 1000 (omega arith)
+
+pub sweep-one : (n : Numbers) (s : ℤ) → IsNearest (n .third) 1000 s → s ≡ sweptAngle n
+unfolding sweptAngle
+sweep-one n s h = nearest-one (n .third) 1000 s (omega arith) h
+
+-- and their way
+module _ (a : Axis) (p q : ExactPosition) (z : a .span ≡ pos 0 → ⊥) where
+  way-is : let f = exactWay a p q in IsNearest (f .num) (f .den) (wayOf a p q)
+  way-is = let f = exactWay a p q in subst (IsNearest (f .num) (f .den)) (sym (way-nearest a p q z)) (nearest-is (f .num) (f .den) (f .above))
+
+  way-one : (k : ℤ) → (let f = exactWay a p q in IsNearest (f .num) (f .den) k) → k ≡ wayOf a p q
+  way-one k h = let f = exactWay a p q in nearest-one (f .num) (f .den) k (f .above) h ∙ sym (way-nearest a p q z)
 
 apart : (i j : ℕ) → (i ≡ j → ⊥) → pos i ≡ pos j → ⊥
 apart i j f e = f (ap natAbs e)
@@ -409,7 +450,88 @@ module _ (c : Core) where
   unfolding rectangleTo done refuse
   judged-rectangle p = needs (inRange (location (c .settings) p)) 6 _ _ (λ (t : ℕ). t ≡ 0) (range-tells _) refl (λ e. refl)
 
-  module _ (w : Sound (c .settings)) where
+  -- ---- arcs
+
+  sweep-tells : (s : ℤ) → Tells (goodSweep s) (Between (negℤ (pos 3600)) s (pos 3600) × (s ≡ pos 0 → ⊥))
+  unfolding goodSweep
+  sweep-tells s = both (between-tells (negℤ (pos 3600)) s (pos 3600)) (opposite (same-tells s (pos 0)))
+
+  way-tells : (w : Way) → Tells (wayFits w) (Near w)
+  way-tells w = record {
+    yes = λ e. let b = way-bounds w e in (between (b .u), between (b .v));
+    no = λ e h. true≢false (sym (way-fits w (record { u = size (h .0); v = size (h .1) })) ∙ e);
+  }
+    where
+      between : {z : ℤ} → Bd z mostNumber → Between (negℤ (pos mostNumber)) z (pos mostNumber)
+      between {z} b = (omega (arith, ord, abs z, b .bd), omega (arith, ord, abs z, b .bd))
+
+      size : {z : ℤ} → Between (negℤ (pos mostNumber)) z (pos mostNumber) → Bd z mostNumber
+      size {z} h = record { bd = omega (arith, ord, abs z, h .0, h .1) }
+
+  small-range : (p : Point) → SmallPoint p → InRange p
+  small-range p h = (near (h .x), near (h .y))
+    where
+      near : {z : ℤ} → Bd z reach → Between (negℤ (pos 1000000)) z (pos 1000000)
+      near {z} b = (omega (arith, ord, abs z, b .bd), omega (arith, ord, abs z, b .bd))
+
+  range-small : (p : Point) → InRange p → SmallPoint p
+  range-small p h = record { x = near (h .0); y = near (h .1) }
+    where
+      near : {z : ℤ} → Between (negℤ (pos 1000000)) z (pos 1000000) → Bd z reach
+      near {z} b = record { bd = omega (arith, ord, abs z, b .0, b .1) }
+
+  module _ (sound : Sound (c .settings)) (q : Position) (w : Way) (s : ℤ) (a : ℕ) where
+    abbrev cx : Centre
+    cx = centreOf (axisX (c .settings)) (q .x)
+
+    abbrev cy : Centre
+    cy = centreOf (axisY (c .settings)) (q .y)
+
+    -- vertex i, as the code finds it and as it is meant
+    split : (i : ℕ) → pointFromCentre cx cy w (bendOf s a i) ≡ vertexPointOf (axisX (c .settings)) (axisY (c .settings)) (q .x) (q .y) w (bendOf s a i)
+    split i = vertex-point-split (axisX (c .settings)) (axisY (c .settings)) (q .x) (q .y) w (bendOf s a i) (sound .x) (sound .y)
+
+    vertices-tell : Tells (arcFits cx cy w s a) (Vertices c q w s a)
+    unfolding arcFits
+    vertices-tell = record {
+      yes = λ e i l u. subst InRange (split i) (small-range _ (each-small cx cy w s a 1 (partsOf s a) e i l (omega arith)));
+      no = λ e h. true≢false (sym (each-fits cx cy w s a 1 (partsOf s a) (λ i l u. range-small _ (subst InRange (sym (split i)) (h i l (omega (arith, u)))))) ∙ e);
+    }
+
+  module _ (sound : Sound (c .settings)) (spans : Spanned (c .settings)) where
+    pub way-from-one : (q : Position) (w : Way) → WayFrom c q w → w ≡ wayFrom c q
+    unfolding wayFrom
+    way-from-one q w h =
+        let p = c .carriage .position in
+        let x = way-one (axisX (c .settings)) (p .x) (q .x) (spans .x) (w .u) (h .u) in
+        let y = way-one (axisY (c .settings)) (p .y) (q .y) (spans .y) (w .v) (h .v) in
+        λ i. record { u = x i; v = y i }
+
+    abbrev Needed : Position → ℤ → ℤ → Way → ℕ → Type 0
+    Needed q s a w t =
+        Needs (Between (negℤ (pos 3600)) s (pos 3600) × (s ≡ pos 0 → ⊥)) 3 t
+        (Needs (Between (pos 5) a (pos 1200)) 3 t (Needs (Near w) 3 t (Needs (Vertices c q w s (natAbs a)) 6 t (t ≡ 0))))
+
+    needs-arc : (q : Position) (n : Numbers) → Needed q (sweptAngle n) (arcAngle n) (wayFrom c q) (arcAbout c q n .number)
+    unfolding arcAbout arcBy arc follow done refuse
+    needs-arc q n =
+        let s = sweptAngle n in
+        let a = arcAngle n in
+        let w = wayFrom c q in
+        needs (goodSweep s) 3 _ _ (λ (t : ℕ). Needs (Between (pos 5) a (pos 1200)) 3 t (Needs (Near w) 3 t (Needs (Vertices c q w s (natAbs a)) 6 t (t ≡ 0)))) (sweep-tells s) refl
+        (λ e. needs (goodAngle a) 3 _ _ (λ (t : ℕ). Needs (Near w) 3 t (Needs (Vertices c q w s (natAbs a)) 6 t (t ≡ 0))) (between-tells (pos 5) a (pos 1200)) refl
+        (λ e. needs (wayFits w) 3 _ _ (λ (t : ℕ). Needs (Vertices c q w s (natAbs a)) 6 t (t ≡ 0)) (way-tells w) refl
+        (λ e. needs (arcFits _ _ w s (natAbs a)) 6 _ _ (λ (t : ℕ). t ≡ 0) (vertices-tell sound q w s (natAbs a)) refl (λ e. refl))))
+
+    judged-arc : (q : Position) (n : Numbers) → Arc c q n (arcAbout c q n .number)
+    judged-arc q n s hs a ha w hw =
+        let t = arcAbout c q n .number in
+        let x : s ≡ sweptAngle n = sweep-one n s hs in
+        let y : a ≡ arcAngle n = arc-angle-one n a ha in
+        let z : w ≡ wayFrom c q = way-from-one q w hw in
+        subst (λ (s : ℤ). Needed q s a w t) (sym x) (subst (λ (a : ℤ). Needed q (sweptAngle n) a w t) (sym y) (subst (λ (w : Way). Needed q (sweptAngle n) (arcAngle n) w t) (sym z) (needs-arc q n)))
+
+  module _ (w : Sound (c .settings)) (spans : Spanned (c .settings)) where
     -- the positions that the rule asks for are the points at these angles
     still : (p : ExactPosition) → relativeOf p (pos 0) ≡ p
     unfolding relativeOf
@@ -459,7 +581,7 @@ module _ (c : Core) where
         (λ e. needs (circleFits c (n .first)) 6 _ _ (λ (t : ℕ). t ≡ 0) (four-tell (n .first)) refl (λ e. refl)))
 
     judged-end : {op : ℕ} (i : Instruction op) (n : Numbers) → Judged i c n (endRule c op n .number)
-    unfolding endRule inRule dfRule epRule eaRule erRule done
+    unfolding endRule inRule dfRule epRule eaRule erRule aaRule arRule done
     judged-end IN n = refl
     judged-end DF n = refl
     judged-end EP n = refl
@@ -472,19 +594,21 @@ module _ (c : Core) where
     judged-end CI n = judged-ci n
     judged-end EA n = judged-rectangle _
     judged-end ER n = judged-rectangle _
+    judged-end AA n = judged-arc w spans _ n
+    judged-end AR n = judged-arc w spans _ n
     judged-end PU n = refl
     judged-end PD n = refl
     judged-end PA n = refl
     judged-end PR n = refl
 
 -- the number of every event
-pub judged : (c : Core) {e : Event} (k : Happens e) → Sound (c .settings) → Numbered k c (actOn c e .number)
+pub judged : (c : Core) {e : Event} (k : Happens e) → Sound (c .settings) → Spanned (c .settings) → Numbered k c (actOn c e .number)
 unfolding actOn done refuse
-judged c nothing w = refl
-judged c (name i) w = judged-name c i
-judged c (pair n) w = judged-pair c n
-judged c (end i n) w = judged-end c w i n
-judged c (refusal k) w = refl
+judged c nothing w v = refl
+judged c (name i) w v = judged-name c i
+judged c (pair n) w v = judged-pair c n
+judged c (end i n) w v = judged-end c w v i n
+judged c (refusal k) w v = refl
 
 -- the number of fresh
 limits-tell : (r : Rect) → Tells (goodLimits r) (GoodLimits r)

@@ -35,6 +35,11 @@ pub record Sound (s : Settings) : Type 0 where
   pub y : axisY s .width ≡ pos 0 → ⊥
   pub turn : s .turn < turnCount
 
+-- and no span is: P1 and P2 differ
+pub record Spanned (s : Settings) : Type 0 where
+  pub x : axisX s .span ≡ pos 0 → ⊥
+  pub y : axisY s .span ≡ pos 0 → ⊥
+
 -- and in polygon mode the bytes leave the store room for an edge more
 pub record Fit (s : Settings) (k : Polygon) : Type 0 where
   pub sound : Sound s

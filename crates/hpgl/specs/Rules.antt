@@ -1,4 +1,4 @@
--- What each instruction does: the new core, the action, 01's number. One definition for each rule of document 01, in its order.
+-- What each instruction does: the new core, the action, 01's number. One definition for each rule of document 01, in its order, and then of document 02.
 -- Nothing here looks at the store or at the waiting work, and a refusal leaves the core as it is.
 use Prim.Native.Nat.{ℕ, _+_}
 use mathlib.Core.Bool.{Bool, true, false, cond, not, _&&_, _||_}
@@ -13,11 +13,13 @@ use Rattle.reader.specs.declared.Coordinates.{Coordinates}
 use Rattle.reader.specs.declared.Numbers.{Numbers}
 use Rattle.reader.specs.declared.Event.{Event}
 use Rattle.reader.specs.declared.Event.the-variants.{Nothing, Named, Pair, Ended, Refused}
-use Rattle.mnemonics.specs.Table.{IN, DF, EP, IP, SC, IW, RO, SP, PM, CI, EA, ER, PU, PD, PA, PR, knownInPolygon}
+use Rattle.mnemonics.specs.Table.{IN, DF, EP, IP, SC, IW, RO, SP, PM, CI, EA, ER, PU, PD, PA, PR, AA, AR, knownInPolygon}
 use Rattle.plane.specs.declared.position.ExactPosition.{ExactPosition}
 use Rattle.plane.specs.Turn.{upright, quarter, turnedBackOf, orderedOf}
 use Rattle.plane.specs.Bounds.{mostAngle}
-use Rattle.plane.specs.Circle.{centreOf}
+use Rattle.plane.specs.Circle.{centreOf, pointFromCentre}
+use Rattle.plane.specs.Arc.{wayOf, wayFits, arcFits}
+use Rattle.plane.specs.declared.circle.Way.{Way}
 use Rattle.hpgl.specs.declared.Position.{Position}
 use Rattle.hpgl.specs.declared.Range.{Range}
 use Rattle.hpgl.specs.declared.Scale.{Scale}
@@ -385,19 +387,85 @@ circle c r a = record {
   sweep = pos wholeTurn;
 }
 
--- "the angle in tenths of a degree, rounded, 5 to 1200"; "It is drawn also when the pen is up; position and pen stay."
+-- "the angle in tenths of a degree, rounded, 5 to 1200, default 50": z is what was given for it, if anything was
+abbrev pub goodAngle : ℤ → Bool
+goodAngle a = (pos leastAngle ≤? a) && (a ≤? pos mostAngle)
+
+abbrev pub angleOr : Bool → ℤ → ℤ
+angleOr absent z = cond absent (pos defaultAngle) (nearestDiv z (pos tenth))
+
+-- "It is drawn also when the pen is up; position and pen stay."
 unfoldable pub circleWith : Core → ℤ → ℤ → Acted
 circleWith c r a =
-    cond ((pos leastAngle ≤? a) && (a ≤? pos mostAngle))
+    cond (goodAngle a)
     (cond (circleFits c r) (done c (cond (inked c) (Chords (circle c r (natAbs a))) Keep)) (refuse c tooFar))
     (refuse c outOfRange)
 
--- "default 50"
 unfoldable pub chordAngle : Numbers → ℤ
-chordAngle n = cond (eqb (n .count) 1) (pos defaultAngle) (nearestDiv (n .second) (pos tenth))
+chordAngle n = angleOr (eqb (n .count) 1) (n .second)
 
 unfoldable pub ciRule : Core → Numbers → Acted
 ciRule c n = circleWith c (n .first) (chordAngle n)
+
+-- ---- Arcs: document 02, "Arcs for the goal creases"
+
+-- "The swept angle is rounded to tenths of a degree"
+unfoldable pub sweptAngle : Numbers → ℤ
+sweptAngle n = nearestDiv (n .third) (pos tenth)
+
+-- "−3600 to 3600 without 0, else 3"
+unfoldable pub goodSweep : ℤ → Bool
+goodSweep s = (negℤ (pos wholeTurn) ≤? s) && (s ≤? pos wholeTurn) && not (s ≡? pos 0)
+
+-- "optional chord angle, as for CI; three or four numbers"
+unfoldable pub arcAngle : Numbers → ℤ
+arcAngle n = angleOr (eqb (n .count) 3) (n .fourth)
+
+-- "The way from centre to current point is taken per axis in current units, rounded to ten-thousandths": from the centre q
+unfoldable pub wayFrom : Core → Position → Way
+wayFrom c q = record {
+  u = wayOf (axisX (c .settings)) (c .carriage .position .x) (q .x);
+  v = wayOf (axisY (c .settings)) (c .carriage .position .y) (q .y);
+}
+
+-- "The arc starts at the current exact position. Each later vertex is the centre plus that way turned": about q, through the sweep s, by the chord angle a
+unfoldable pub arc : Core → Position → ℤ → ℕ → Circle
+arc c q s a = record {
+  x = centreOf (axisX (c .settings)) (q .x);
+  y = centreOf (axisY (c .settings)) (q .y);
+  radius = wayFrom c q;
+  angle = a;
+  start = location (c .settings) (c .carriage .position);
+  sweep = s;
+}
+
+-- "at the last by the swept angle itself"
+unfoldable pub lastVertex : Circle → Point
+lastVertex o = pointFromCentre (o .x) (o .y) (o .radius) (o .sweep)
+
+-- "The pen stays as it is. The position afterwards is the last vertex, kept as its location with offset 0"; "each chord .. being a move": with pen down and pen not 0
+unfoldable pub follow : Core → Circle → Acted
+follow c o =
+    done (withCarriage c (withPosition (c .carriage) (restAt (lastVertex o))))
+    (cond (c .carriage .pen .down && inked c) (Chords o) Keep)
+
+-- "more than 32768 units either way is 3"; "A vertex out of range refuses the arc with 6 before drawing"
+unfoldable pub arcBy : Core → Circle → Acted
+arcBy c o =
+    cond (wayFits (o .radius)) (cond (arcFits (o .x) (o .y) (o .radius) (o .sweep) (o .angle)) (follow c o) (refuse c tooFar))
+    (refuse c outOfRange)
+
+unfoldable pub arcAbout : Core → Position → Numbers → Acted
+arcAbout c q n =
+    cond (goodSweep (sweptAngle n)) (cond (goodAngle (arcAngle n)) (arcBy c (arc c q (sweptAngle n) (natAbs (arcAngle n)))) (refuse c outOfRange))
+    (refuse c outOfRange)
+
+-- "centre (absolute or relative)"
+unfoldable pub aaRule : Core → Numbers → Acted
+aaRule c n = arcAbout c (absolutePosition (c .settings) (firstTwo n)) n
+
+unfoldable pub arRule : Core → Numbers → Acted
+arRule c n = arcAbout c (relativePosition (c .carriage .position) (firstTwo n)) n
 
 -- ---- every event
 
@@ -416,7 +484,9 @@ endRule c op n =
     (cond (eqb op CI) (ciRule c n)
     (cond (eqb op EA) (eaRule c n)
     (cond (eqb op ER) (erRule c n)
-    (done c Keep))))))))))))
+    (cond (eqb op AA) (aaRule c n)
+    (cond (eqb op AR) (arRule c n)
+    (done c Keep))))))))))))))
 
 unfoldable pub actOn : Core → Event → Acted
 actOn c Nothing = done c Keep

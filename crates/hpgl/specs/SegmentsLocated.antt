@@ -8,14 +8,16 @@ use lib.Dec.{eqb}
 use borrow.Author.Tests.{eqb-false}
 use Rattle.clip.specs.Line.{Exact, nearest}
 use Rattle.clip.specs.Nearness.{nearest-rounds}
+use Rattle.reader.specs.declared.Numbers.{Numbers}
 use Rattle.reader.specs.declared.Event.{Event}
 use Rattle.reader.specs.declared.Event.the-variants.{Nothing, Named, Pair, Ended, Refused}
-use Rattle.mnemonics.specs.Table.{EP, CI, EA, ER}
+use Rattle.mnemonics.specs.Table.{EP, CI, EA, ER, AA, AR}
 use Rattle.plane.specs.Turn.{turnCount}
 use Rattle.plane.specs.BoxLaws.{turned-rounds}
 use Rattle.hpgl.specs.Cases.{pick}
+use Rattle.hpgl.specs.declared.Position.{Position}
 use Rattle.hpgl.specs.declared.Core.{Core}
-use Rattle.hpgl.specs.ExactModel.{PolygonPoint, Subpolygon, ExactPolygon, ExactSegment, exactSegment, sidesFrom, sides, allSides, outline, path, inkedOnly, move, instructed, added}
+use Rattle.hpgl.specs.ExactModel.{PolygonPoint, Subpolygon, ExactPolygon, ExactSegment, exactSegment, sidesFrom, sides, allSides, outline, path, inkedOnly, move, arcMoves, instructed, added}
 use Rattle.hpgl.specs.Related.{Located, AllLocated, none, more}
 use Rattle.hpgl.specs.Steps.{addedBy}
 
@@ -70,6 +72,10 @@ module _ (d : Core) (t : d .settings .turn < turnCount) where
       go true e = none
       go false e = h (eqb-false (d .carriage .pen .number) 0 e)
 
+  located-arc : (c : Core) (q : Position) (n : Numbers) → All (arcMoves c d q n)
+  unfolding arcMoves
+  located-arc c q n = pick All (d .carriage .pen .down) (located-inked (λ i. located-path i _ 0 _)) none
+
   located-added : (c : Core) (e : Event) (g : ExactPolygon) → All (added c d e g)
   unfolding added move instructed
   located-added c Nothing g = none
@@ -78,7 +84,7 @@ module _ (d : Core) (t : d .settings .turn < turnCount) where
       pick All (d .carriage .polygon .mode) none (pick All (d .carriage .pen .down) (located-inked (λ i. more (located-segment i _ _ true) none)) none)
   located-added c (Ended op n) g =
       pick All (eqb op EP || eqb op EA || eqb op ER) (located-inked (λ i. located-outline i g))
-      (pick All (eqb op CI) (located-inked (λ i. located-path i _ 0 _)) none)
+      (pick All (eqb op CI) (located-inked (λ i. located-path i _ 0 _)) (pick All (eqb op AA) (located-arc c _ n) (pick All (eqb op AR) (located-arc c _ n) none)))
   located-added c (Refused k) g = none
 
   pub located-by : (c : Core) (e : Event) (n : ℕ) (g : ExactPolygon) → All (addedBy c d e n g)

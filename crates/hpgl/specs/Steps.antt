@@ -16,16 +16,16 @@ use Rattle.reader.specs.declared.Coordinates.{Coordinates}
 use Rattle.reader.specs.declared.Numbers.{Numbers}
 use Rattle.reader.specs.declared.Event.{Event}
 use Rattle.reader.specs.declared.Event.the-variants.{Nothing, Named, Pair, Ended, Refused}
-use Rattle.mnemonics.specs.Table.{IN, DF, EP, IP, SC, IW, RO, SP, PM, CI, EA, ER, PU, PD, PA, PR, cellOf, knownInPolygon}
+use Rattle.mnemonics.specs.Table.{IN, DF, EP, IP, SC, IW, RO, SP, PM, CI, EA, ER, PU, PD, PA, PR, AA, AR, cellOf, knownInPolygon}
 use Rattle.plane.specs.Bounds.{mostAngle}
-use Rattle.plane.specs.Position.{axisOf, relativeOf, locationOf}
+use Rattle.plane.specs.Position.{axisOf, exactOf, relativeOf, locationOf}
 use Rattle.plane.specs.Turn.{turnCount, turnedOf, orderedOf}
 use Rattle.plane.specs.declared.circle.Way.{Way}
 use Rattle.plane.specs.declared.circle.Centre.{Centre}
 use Rattle.plane.specs.Circle.{chordsOf, angleOf, rotatedOf, vertexPointOf, centreOf, pointFromCentre}
-use Rattle.plane.specs.Arc.{partsOf, arcPoint}
+use Rattle.plane.specs.Arc.{partsOf, bendOf, exactArc, arcOf, arcPoint}
 use Rattle.plane.specs.CircleLaws.{vertex-nearest, vertex-point-split, point-0}
-use Rattle.plane.specs.ArcLaws.{circle-arc}
+use Rattle.plane.specs.ArcLaws.{circle-arc, arc-nearest, arc-split}
 use Rattle.hpgl.specs.Cases.{never, pick, cond-true, cond-false}
 use Rattle.hpgl.specs.declared.Position.{Position}
 use Rattle.hpgl.specs.declared.Window.{Window}
@@ -44,10 +44,11 @@ use Rattle.hpgl.specs.Place.{point, rounded, axisX, axisY, exactPosition
 use Rattle.hpgl.specs.Change.{withPosition, withPen, withPolygon, withSettings, withCarriage, withCorners, withScale, withTurn, withWindow}
 use Rattle.hpgl.specs.Ends as ends
 use Rattle.hpgl.specs.Ends.{Works, Rests, other, by-end}
-use Rattle.hpgl.specs.Rules.{done, refuse, unscaled, noWindow, freshSettings, noPolygon, freshCarriage, letters, nameRule, rebased, inRule, dfRule, goodCorners, setCorners, ipRule, scRule, setTurn, roRule, setWindow, iwRule, setPen, spRule, inked, spent, moveTo, pointCost, longer, edgeTo, storePoint, aimed, goTo, pairRule, begun, pm0, differ, closes, endedWith, ended, pm1In, pm1, leave, pm2In, pm2, pmRule, epRule, rectangular, rectangleTo, firstTwo, eaRule, erRule, circleFits, circle, circleWith, chordAngle, ciRule, endRule, actOn}
+use Rattle.hpgl.specs.Rules.{done, refuse, unscaled, noWindow, freshSettings, noPolygon, freshCarriage, letters, nameRule, rebased, inRule, dfRule, goodCorners, setCorners, ipRule, scRule, setTurn, roRule, setWindow, iwRule, setPen, spRule, inked, spent, moveTo, pointCost, longer, edgeTo, storePoint, aimed, goTo, pairRule, begun, pm0, differ, closes, endedWith, ended, pm1In, pm1, leave, pm2In, pm2, pmRule, epRule, rectangular, rectangleTo, firstTwo, eaRule, erRule, circleFits, circle, circleWith, chordAngle, ciRule, sweptAngle, arcAngle, wayFrom, arc, follow, arcAbout, aaRule, arRule, endRule, actOn}
 use Rattle.hpgl.specs.Machine.{vertexIn, vertex, rectangleEdges, stored, queued}
-use Rattle.hpgl.specs.ExactModel.{ExactPolygon, ExactSegment, exactSegment, outline, vertexAt, path, lastOf, rectangle, polygonMode, afterEnd, polygonAfter, inkedOnly, move, instructed, added}
+use Rattle.hpgl.specs.ExactModel.{ExactPolygon, ExactSegment, exactSegment, outline, vertexAt, arcVertex, path, lastOf, rectangle, polygonMode, afterEnd, polygonAfter, inkedOnly, move, arcMoves, instructed, added}
 use Rattle.hpgl.specs.Related.{Sound, Fit, edgesFrom, edgesOf, edgesAfter, allEdges, polygonEdges, some, Linked, turnedEdges, chordsFrom, view, onPage}
+use Rattle.hpgl.specs.ArcCases.{by-arc}
 use Rattle.hpgl.specs.PolygonLinked.{location-nearest, grown, ended-closed, ended-open, rectangle-linked, turned-outline}
 
 -- ---- the model after an event with a number
@@ -504,6 +505,46 @@ module _ (c : Core) (es : List Edge) (g : ExactPolygon) (f : Fit (c .settings) (
       (refused (Ended CI n) 5))
       (refused (Ended CI n) 2)
 
+  -- ---- arcs
+
+  same-bend : (q : Position) (s : ℤ) (a i : ℕ) → vertex (c .settings) (arc c q s a) i ≡ turnedOf (nearest (arcVertex c q s a i)) (c .settings .turn)
+  unfolding vertex vertexIn arc arcVertex location
+  same-bend q s a i =
+      let k : Settings = c .settings in
+      let p : Position = c .carriage .position in
+      let w : Way = rotatedOf (wayFrom c q) (bendOf s a i) in
+      ap (λ (x : Point). turnedOf x (k .turn))
+      (arc-split (axisX k) (axisY k) (p .x) (p .y) (q .x) (q .y) (wayFrom c q) s a i (f .sound .x) (f .sound .y)
+      ∙ (λ j. point (arc-nearest (axisX k) (p .x) (q .x) (w .u) i (f .sound .x) j) (arc-nearest (axisY k) (p .y) (q .y) (w .v) i (f .sound .y) j)))
+
+  -- the core after it has another carriage
+  same-bends : (k : Carriage) (q : Position) (s : ℤ) (a i n : ℕ) → chordsFrom (c .settings) (arc c q s a) i n ≡ onPage (path (withCarriage c k) (arcVertex c q s a) i n)
+  unfolding chordsFrom path onPage exactSegment
+  same-bends k q s a i zero = refl
+  same-bends k q s a i (suc n) = λ j. record { start = same-bend q s a i j; end = same-bend q s a (i + 1) j; shown = true } ∷ same-bends k q s a (i + 1) n j
+
+  keeps-arc : (e : Event) (q : Position) (n : Numbers) → c .carriage .polygon .mode ≡ false → ((d : Core) → polygonAfter c d e g ≡ g) →
+      ((d : Core) (x : ExactPolygon) → added c d e x ≡ arcMoves c d q n) → Keeps c es g e (arcAbout c q n)
+  unfolding follow arc done inked polygonBy addedBy arcMoves inkedOnly stored queued view onPage
+  keeps-arc e q n o a b =
+      by-arc c q n (Keeps c es g e) (λ p. carried) (refused e 5) (refused e 2)
+    where
+      k : ℕ
+      k = natAbs (arcAngle n)
+
+      d : Core
+      d = follow c (arc c q (sweptAngle n) k) .core
+
+      carried : Keeps c es g e (follow c (arc c q (sweptAngle n) k))
+      carried =
+          let x = free d o refl (f .sound) in
+          record {
+            kept = recast (a d) (b d _)
+                (by-pen (λ (t : Action) (gs : List ExactSegment). Matched c d t es g gs) (c .carriage .pen .down) (eqb (c .carriage .pen .number) 0) refl
+                (record { fit = x .0; linked = x .1; queue = same-bends _ q (sweptAngle n) k 0 (partsOf (sweptAngle n) k) })
+                (record { fit = x .0; linked = x .1; queue = refl }));
+          }
+
   -- ---- every event
 
   -- an instruction that is not known in polygon mode does not end there
@@ -518,7 +559,7 @@ module _ (c : Core) (es : List Edge) (g : ExactPolygon) (f : Fit (c .settings) (
   Ends n op t = (c .carriage .polygon .mode ≡ true → knownInPolygon op ≡ true) → Keeps c es g (Ended op n) t
 
   keeps-each : (n : Numbers) {op : ℕ} → Works op → Ends n op (endRule c op n)
-  unfolding Ends endRule knownInPolygon cellOf polygonAfter afterEnd added instructed
+  unfolding Ends endRule aaRule arRule knownInPolygon cellOf polygonAfter afterEnd added instructed
   keeps-each n ends.IN known = keeps-in n
   keeps-each n ends.DF known = keeps-df n (outside known)
   keeps-each n ends.EP known = keeps-ep n
@@ -531,12 +572,14 @@ module _ (c : Core) (es : List Edge) (g : ExactPolygon) (f : Fit (c .settings) (
   keeps-each n ends.CI known = keeps-ci n
   keeps-each n ends.EA known = keeps-ea n
   keeps-each n ends.ER known = keeps-er n
+  keeps-each n ends.AA known = keeps-arc (Ended AA n) _ n (outside known) (λ d. refl) (λ d x. refl)
+  keeps-each n ends.AR known = keeps-arc (Ended AR n) _ n (outside known) (λ d. refl) (λ d x. refl)
 
   keeps-rest : (n : Numbers) (op : ℕ) → Rests op → Ends n op (done c Keep)
   unfolding Ends polygonAfter afterEnd added instructed
   keeps-rest n op r known =
       calm (Ended op n) c (rw (other r IN refl, other r PM refl, other r EA refl, other r ER refl) refl)
-      (rw (other r EP refl, other r EA refl, other r ER refl, other r CI refl) refl) f l
+      (rw (other r EP refl, other r EA refl, other r ER refl, other r CI refl, other r AA refl, other r AR refl) refl) f l
 
   pub keeps : (e : Event) → ((op : ℕ) (n : Numbers) → e ≡ Ended op n → c .carriage .polygon .mode ≡ true → knownInPolygon op ≡ true) → Keeps c es g e (actOn c e)
   unfolding actOn done refuse polygonAfter added Ends

@@ -1,14 +1,14 @@
 -- What follows of valid settings, positions and cores: the facts that the code needs where one function calls another, and that the files ..Kept.antt
 -- build on. Why: each is a law of the crate plane, or a bound of a sum, put over the settings.
 use mathlib.Core.Path.{_≡_, refl, sym, _∙_, subst}
-use mathlib.Core.Bool.{Bool, true, false, cond, _&&_}
+use mathlib.Core.Bool.{Bool, true, false, cond, not, _&&_}
 use mathlib.Core.List.{List}
 use Prim.Native.Nat.{ℕ, zero, suc, _+_, _*_, _-_, _/_, _≤_, _<_}
 use native.Mathlib.Omega.{arith}
 use lib.IntN.{ℤ, pos, negℤ, natAbs, _+ℤ_, _*ℤ_}
 use lib.Dec.{eqb·suc-zero}
 use lib.ListN.{getD}
-use Rattle.exact.specs.Whole.{_≤?_, _≤ᶻ_, _<ᶻ_, ord, ≤?-true, up-mul, dn-mul, add-parts}
+use Rattle.exact.specs.Whole.{_≤?_, _≤ᶻ_, _<ᶻ_, _≡?_, ord, ≤?-true, ≡?-false, up-mul, dn-mul, add-parts}
 use Rattle.exact.specs.Fit.{Bd, abs, bd-le, bd-lit, ne-lit, _⊞_, _⊟_}
 use Rattle.exact.specs.Nearest.{nearest-law}
 use Rattle.clip.specs.declared.Point.{Point}
@@ -17,13 +17,13 @@ use Rattle.reader.specs.declared.Coordinates.{Coordinates}
 use Rattle.reader.specs.Sizes.{SmallPair}
 use Rattle.plane.specs.Turn.{turnCount, turnedBackOf, rebasedOf}
 use Rattle.plane.specs.Position.{axisOf, inRangeOf}
-use Rattle.plane.specs.Bounds.{mostNumber, mostPoint, mostProduct, mostAngle, AxisBounds}
-use Rattle.plane.specs.Circle.{centreOf}
-use Rattle.plane.specs.Arc.{partsOf, arcPoint}
+use Rattle.plane.specs.Bounds.{mostNumber, mostPoint, mostProduct, mostAngle, mostSweep, AxisBounds}
+use Rattle.plane.specs.Circle.{centreOf, pointFromCentre}
+use Rattle.plane.specs.Arc.{partsOf, wayFits, arcFits, arcPoint}
 use Rattle.plane.specs.TurnLaws.{turned-small, rebased-small}
 use Rattle.plane.specs.PositionLaws as axis
 use Rattle.plane.specs.CircleLaws as round
-use Rattle.plane.specs.ArcLaws as arc
+use Rattle.plane.specs.ArcLaws as curve
 use Rattle.plane.specs.LimitsLaws as box
 use Rattle.hpgl.specs.declared.Position.{Position}
 use Rattle.hpgl.specs.declared.Range.{Range}
@@ -36,7 +36,7 @@ use Rattle.hpgl.specs.declared.Circle.{Circle}
 use Rattle.hpgl.specs.Numbers.{polygonBytes, pointBytes, penBytes, leastAngle, wholeTurn, mostEdges}
 use Rattle.hpgl.specs.Place.{rounded, axisX, axisY, location, inRange, absolutePosition, relativePosition, restAt, pagePoint, limits}
 use Rattle.hpgl.specs.Change.{withRelative, withCarriage}
-use Rattle.hpgl.specs.Rules.{origin, carried, aimed, pointCost, circleFits, circle}
+use Rattle.hpgl.specs.Rules.{origin, carried, aimed, pointCost, circleFits, circle, goodSweep, wayFrom, arc, lastVertex}
 use Rattle.hpgl.specs.Machine.{noEdge, vertexIn}
 use Rattle.hpgl.specs.Valid.{mostChords, ShortPoint, ValidRange, ValidSettings, LocatablePosition, Placed, KeptPosition, ValidPolygon, ValidCore, SmallEdge, ValidCircle, Every, none, more}
 
@@ -242,7 +242,7 @@ circle-valid {c} {r} {a} w h l u e =
       start = in-range-small (north .0);
       sweep = bd-lit tt;
       some = ne-lit tt;
-      fits = arc.ends-fits (centreOf (axisX s) (p .x)) (centreOf (axisY s) (p .y)) (record { u = r; v = pos 0 }) (pos wholeTurn) a refl
+      fits = curve.ends-fits (centreOf (axisX s) (p .x)) (centreOf (axisY s) (p .y)) (record { u = r; v = pos 0 }) (pos wholeTurn) a refl
           (round.centre-bounds (axisX s) (p .x) bx (k .x) .some) (round.centre-bounds (axisY s) (p .y) by (k .y) .some)
           (round.end-range (axisX s) (p .x) r reach (bx .some) (in-range-small (north .0) .x))
           (round.end-range (axisX s) (p .x) (negℤ r) reach (bx .some) (in-range-small (west .1) .x))
@@ -250,15 +250,57 @@ circle-valid {c} {r} {a} w h l u e =
           (round.end-range (axisY s) (p .y) (negℤ r) reach (by .some) (in-range-small (south .1) .y));
     }
 
+-- "−3600 to 3600"
+pub sweep-size : (s : ℤ) → goodSweep s ≡ true → Bd s mostSweep
+unfolding goodSweep
+sweep-size s g =
+    let most = and-both (negℤ (pos wholeTurn) ≤? s) (s ≤? pos wholeTurn) (and-both ((negℤ (pos wholeTurn) ≤? s) && (s ≤? pos wholeTurn)) _ g .0) in
+    record { bd = omega (arith, ord, abs s, ≤?-true (negℤ (pos wholeTurn)) s (most .0), ≤?-true s (pos wholeTurn) (most .1)) }
+
+-- "without 0"
+pub sweep-some : (s : ℤ) → goodSweep s ≡ true → s ≡ pos 0 → ⊥
+unfolding goodSweep
+sweep-some s g = ≡?-false s (pos 0) (off (s ≡? pos 0) (and-both ((negℤ (pos wholeTurn) ≤? s) && (s ≤? pos wholeTurn)) (not (s ≡? pos 0)) g .1))
+  where
+    off : (b : Bool) → not b ≡ true → b ≡ false
+    off true e = sym e
+    off false e = refl
+
+-- "A vertex out of range refuses the arc": one that is not refused may be drawn, about a centre that may be located
+pub arc-valid : {c : Core} {q : Position} {a : ℕ} (s : ℤ) → ValidCore c → LocatablePosition (c .settings) q → goodSweep s ≡ true → leastAngle ≤ a → a ≤ mostAngle →
+    wayFits (wayFrom c q) ≡ true → (let o = arc c q s a in arcFits (o .x) (o .y) (o .radius) (o .sweep) (o .angle) ≡ true) → ValidCircle (arc c q s a)
+unfolding arc
+arc-valid {c} {q} {a} s w k g l u f e =
+    record {
+      x = round.centre-bounds (axisX (c .settings)) (q .x) (axis-bounds-x (w .settings)) (k .x);
+      y = round.centre-bounds (axisY (c .settings)) (q .y) (axis-bounds-y (w .settings)) (k .y);
+      radius = curve.way-bounds (wayFrom c q) f;
+      least = l;
+      most = u;
+      start = w .position .near;
+      sweep = sweep-size s g;
+      some = sweep-some s g;
+      fits = e;
+    }
+
+-- and its last vertex is in range
+pub last-small : {o : Circle} → ValidCircle o → SmallPoint (lastVertex o)
+unfolding lastVertex
+last-small {o} w =
+    let n = partsOf (o .sweep) (o .angle) in
+    let h : 0 < o .angle = omega (arith, w .least) in
+    subst (λ (t : ℤ). SmallPoint (pointFromCentre (o .x) (o .y) (o .radius) t)) (curve.bend-last (o .sweep) (o .angle) n (omega arith))
+    (curve.arc-small (o .x) (o .y) (o .radius) (o .sweep) (o .angle) h (w .some) (w .fits) n (curve.parts-some (o .sweep) (o .angle) h (w .some)))
+
 -- every vertex of such a circle is in range
 pub vertices : {o : Circle} → ValidCircle o → (i : ℕ) → SmallPoint (vertexIn o i)
 unfolding vertexIn arcPoint
 vertices w zero = w .start
-vertices {o} w (suc i) = rw (eqb·suc-zero i) (arc.arc-small (o .x) (o .y) (o .radius) (o .sweep) (o .angle) (omega (arith, w .least)) (w .some) (w .fits) (suc i) (omega arith))
+vertices {o} w (suc i) = rw (eqb·suc-zero i) (curve.arc-small (o .x) (o .y) (o .radius) (o .sweep) (o .angle) (omega (arith, w .least)) (w .some) (w .fits) (suc i) (omega arith))
 
 -- how many chords
 pub chords-most : {o : Circle} → ValidCircle o → partsOf (o .sweep) (o .angle) ≤ mostChords
-chords-most {o} w = arc.parts-most (o .sweep) (o .angle) (w .sweep .bd) (w .least)
+chords-most {o} w = curve.parts-most (o .sweep) (o .angle) (w .sweep .bd) (w .least)
 
 -- ---- the store
 

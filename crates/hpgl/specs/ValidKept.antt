@@ -14,7 +14,7 @@ use Rattle.clip.specs.Reach.{SmallPoint}
 use Rattle.reader.specs.declared.Numbers.{Numbers}
 use Rattle.reader.specs.declared.Event.{Event}
 use Rattle.reader.specs.declared.Event.the-variants.{Nothing, Named, Pair, Ended, Refused}
-use Rattle.mnemonics.specs.Table.{IN, DF, EP, IP, SC, IW, RO, SP, PM, CI, EA, ER, cellOf, knownInPolygon}
+use Rattle.mnemonics.specs.Table.{IN, DF, EP, IP, SC, IW, RO, SP, PM, CI, EA, ER, AA, AR, cellOf, knownInPolygon}
 use Rattle.reader.specs.Step.{stepOf}
 use Rattle.reader.specs.Laws.{fresh-law}
 use Rattle.hpgl.specs.declared.Core.{Core}
@@ -39,7 +39,7 @@ use Rattle.hpgl.specs.KeptCases.{valid-core, refuses, keeps}
 use Rattle.hpgl.specs.SettingsKept.{valid-name, int16-short, fresh-settings, no-polygon, valid-in, valid-df, valid-ip, valid-sc, valid-ro, valid-iw, valid-sp}
 use Rattle.hpgl.specs.PositionKept.{valid-pair}
 use Rattle.hpgl.specs.PolygonKept.{valid-pm, valid-ep, valid-ea, valid-er}
-use Rattle.hpgl.specs.VerticesKept.{valid-ci}
+use Rattle.hpgl.specs.VerticesKept.{valid-ci, valid-aa, valid-ar}
 use Rattle.hpgl.specs.ReaderKept.{step-event, known-after, readable-after}
 
 -- ---- every event
@@ -62,6 +62,8 @@ valid-each {c} {n} w ends.PM h = valid-pm n w
 valid-each {c} {n} w ends.CI h = valid-ci w (h .0 .numbers)
 valid-each {c} {n} w ends.EA h = valid-ea w (h .0 .numbers)
 valid-each {c} {n} w ends.ER h = valid-er w (h .0 .numbers)
+valid-each {c} {n} w ends.AA h = valid-aa w (h .0 .numbers)
+valid-each {c} {n} w ends.AR h = valid-ar w (h .0 .numbers)
 
 pub valid-end : {c : Core} {op : ℕ} {n : Numbers} → ValidCore c → ValidEvent c (Ended op n) → ValidActed c (endRule c op n)
 valid-end {c} {op} {n} w h = by-end c n (λ (op : ℕ) (t : Acted). ValidEvent c (Ended op n) → ValidActed c t) (λ o i. valid-each w i) (λ o r h. keeps c c w) op h

@@ -1,5 +1,5 @@
 -- The calls fresh, take and look, pinned by document 01's numbers and words: for every usable machine, and so for each that the calls make, and every byte, take answers the number of Refusals.antt
--- and changes what Effects.antt names, and nothing else. Why: a byte that is taken means an event of the sixteen, and of events it is proved rule by rule.
+-- and changes what Effects.antt names, and nothing else. Why: a byte that is taken means an event of the instructions, and of events it is proved rule by rule.
 use mathlib.Core.Path.{_≡_, refl, ap}
 use mathlib.Core.Bool.{Bool, false, cond}
 use Prim.Native.Nat.{ℕ}
@@ -19,7 +19,7 @@ use Rattle.hpgl.specs.Machine.{rect, freshState, freshNumber, waiting, r
 use Rattle.hpgl.specs.Valid.{ValidEvent, ValidSettings, Usable}
 use Rattle.hpgl.specs.ValidFacts.{axis-bounds-x, axis-bounds-y}
 use Rattle.hpgl.specs.ReaderKept.{step-event}
-use Rattle.hpgl.specs.Related.{Sound}
+use Rattle.hpgl.specs.Related.{Sound, Spanned}
 use Rattle.hpgl.specs.Instruction.{instruction}
 use Rattle.hpgl.specs.Effects.{Happens, nothing, name, pair, end, refusal, changedBy}
 use Rattle.hpgl.specs.EffectsProof.{obeyed}
@@ -38,16 +38,19 @@ pub record Does (m : State) (b : ℕ) : Type 0 where
   pub reader : waiting (m .work) ≡ 0 → takeState m b .reader ≡ cond (eqb (takeNumber m b) 0) (stepOf (m .reader) b .reader) (passedOver (stepOf (m .reader) b .reader))
   pub core : waiting (m .work) ≡ 0 → let d = takeState m b .core in d ≡ changedBy event (m .core) (takeNumber m b) (d .carriage .polygon)
 
--- an event that the reader gives is one of the sixteen's
-of-sixteen : (c : Core) (e : Event) → ValidEvent c e → Happens e
-of-sixteen c Nothing h = nothing
-of-sixteen c (Named op) h = name (instruction op h)
-of-sixteen c (Pair n) h = pair n
-of-sixteen c (Ended op n) h = end (instruction op (h .0 .listed)) n
-of-sixteen c (Refused k) h = refusal k
+-- an event that the reader gives is one of the instructions'
+of-table : (c : Core) (e : Event) → ValidEvent c e → Happens e
+of-table c Nothing h = nothing
+of-table c (Named op) h = name (instruction op h)
+of-table c (Pair n) h = pair n
+of-table c (Ended op n) h = end (instruction op (h .0 .listed)) n
+of-table c (Refused k) h = refusal k
 
-sound : {s : Settings} → ValidSettings s → Sound s
+pub sound : {s : Settings} → ValidSettings s → Sound s
 sound w = record { x = axis-bounds-x w .some; y = axis-bounds-y w .some; turn = w .turn }
+
+pub spanned : {s : Settings} → ValidSettings s → Spanned s
+spanned w = record { x = axis-bounds-x w .moves; y = axis-bounds-y w .moves }
 
 pub take-does : (m : State) → Usable m → (b : ℕ) → Does m b
 unfolding takeNumber takeState applied acted readerAfter
@@ -55,16 +58,19 @@ take-does m h b = record {
   busy = λ w. let e = ne-eqb (waiting (m .work)) 0 w in
       (ap (λ (t : Bool). cond t (acted m b .number) 20) e, ap (λ (t : Bool). cond t (applied m (stepOf (m .reader) b .reader) (acted m b)) m) e);
   event = event;
-  number = λ w. rw (eq-eqb (waiting (m .work)) 0 w) (judged (m .core) event valid);
+  number = λ w. rw (eq-eqb (waiting (m .work)) 0 w) (judged (m .core) event valid spans);
   reader = λ w. rw (eq-eqb (waiting (m .work)) 0 w) refl;
-  core = λ w. rw (eq-eqb (waiting (m .work)) 0 w) (obeyed (m .core) event (valid .turn));
+  core = λ w. rw (eq-eqb (waiting (m .work)) 0 w) (obeyed (m .core) event valid);
 }
   where
     event : Happens (stepOf (m .reader) b .event)
-    event = of-sixteen (m .core) _ (step-event b (h .valid))
+    event = of-table (m .core) _ (step-event b (h .valid))
 
     valid : Sound (m .core .settings)
     valid = sound (h .valid .core .settings)
+
+    spans : Spanned (m .core .settings)
+    spans = spanned (h .valid .core .settings)
 
 -- ---- Fresh
 

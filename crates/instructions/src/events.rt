@@ -6,6 +6,8 @@ ghost use Rattle.hpgl.specs.Valid.{ValidCore};
 use hpgl::Acted;
 use hpgl::Action;
 use hpgl::Core;
+use mnemonics::AA;
+use mnemonics::AR;
 use mnemonics::CI;
 use mnemonics::DF;
 use mnemonics::EA;
@@ -27,6 +29,8 @@ use settings::iw_rule;
 use settings::ro_rule;
 use settings::sc_rule;
 use settings::sp_rule;
+use shapes::arcs::aa_rule;
+use shapes::arcs::ar_rule;
 use shapes::circles::ci_rule;
 use shapes::polygons::ea_rule;
 use shapes::polygons::ep_rule;
@@ -51,6 +55,8 @@ pub fn end_rule(c: Core, op: usize, n: Numbers) -> Acted
         CI => ci_rule(c, n),
         EA => ea_rule(c, n),
         ER => er_rule(c, n),
+        AA => aa_rule(c, n),
+        AR => ar_rule(c, n),
         _ => done(c, Action::Keep),
     }
 }

@@ -1,4 +1,4 @@
--- Document 01's own sentences on the instructions, written out a second time beside the table: what is looked up in it is what they say, for every
+-- The documents' own sentences on the instructions, written out a second time beside the table: what is looked up in it is what they say, for every
 -- instruction and every count that a byte holds, by computation.
 use mathlib.Core.Path.{_≡_, refl, sym}
 use mathlib.Core.Bool.{Bool, true, false, cond, _&&_, _||_}
@@ -9,14 +9,14 @@ use Prim.Native.String.{String, charAt}
 use lib.Dec.{T, ltb, eqb}
 use Rattle.mnemonics.specs.declared.Found.{Found}
 use Rattle.mnemonics.specs.declared.Found.the-variants.{At, Nowhere}
-use Rattle.mnemonics.specs.Table.{IN, DF, EP, IP, SC, IW, RO, SP, PM, CI, EA, ER, PU, PD, PA, PR, rows, most, polygon, settings, any, cellOf, namedOf, findFrom, findOf, isLabel, countFits, hasRoom, takesPairs, knownInPolygon, changesSettings}
+use Rattle.mnemonics.specs.Table.{IN, DF, EP, IP, SC, IW, RO, SP, PM, CI, EA, ER, PU, PD, PA, PR, AA, AR, rows, most, polygon, settings, any, cellOf, namedOf, findFrom, findOf, isLabel, countFits, hasRoom, takesPairs, knownInPolygon, changesSettings}
 use borrow.Author.Tests.{ltb-true, ltb-false}
 use Rattle.mnemonics.specs.Every.{every, every-at, same, same-equal}
 use Rattle.mnemonics.specs.Among.{among, below, beyond}
 
--- ---- what 01 says
+-- ---- what 01 says, and 02
 
--- "IN, DF, EP 0; IP 0, 2 or 4; SC, IW 0 or 4; RO, SP, PM 0 or 1; CI 1 or 2; EA, ER 2; PU, PD, PA, PR any even count"
+-- "IN, DF, EP 0; IP 0, 2 or 4; SC, IW 0 or 4; RO, SP, PM 0 or 1; CI 1 or 2; EA, ER 2; PU, PD, PA, PR any even count"; AA and AR "three or four numbers"
 abbrev pub allowed : ℕ → ℕ → Bool
 allowed op n =
     among op (IN ∷ DF ∷ EP ∷ []) && eqb n 0
@@ -25,6 +25,7 @@ allowed op n =
     || among op (RO ∷ SP ∷ PM ∷ []) && among n (0 ∷ 1 ∷ [])
     || eqb op CI && among n (1 ∷ 2 ∷ [])
     || among op (EA ∷ ER ∷ []) && eqb n 2
+    || among op (AA ∷ AR ∷ []) && among n (3 ∷ 4 ∷ [])
     || among op (PU ∷ PD ∷ PA ∷ PR ∷ []) && eqb (n % 2) 0
 
 -- "too many": after n numbers one more is not. Pairs have no most; their count is a byte, and of a pair no number is kept
@@ -32,7 +33,7 @@ abbrev pub room : ℕ → ℕ → Bool
 room op n =
     among op (RO ∷ SP ∷ PM ∷ []) && ltb n 1
     || among op (CI ∷ EA ∷ ER ∷ []) && ltb n 2
-    || among op (IP ∷ SC ∷ IW ∷ []) && ltb n 4
+    || among op (IP ∷ SC ∷ IW ∷ AA ∷ AR ∷ []) && ltb n 4
     || among op (PU ∷ PD ∷ PA ∷ PR ∷ []) && ltb n 255
 
 -- "A pair of the last four", of 01's list: PU, PD, PA, PR
@@ -86,7 +87,7 @@ pub sets-said : (op : ℕ) → changesSettings op ≡ among op sets
 unfolding same changesSettings cellOf
 sets-said = agree-one (λ op. eqb (cellOf op settings) 1) sets tt tt
 
--- ---- names: each is found at its code, and of all pairs of capitals no more than sixteen name an instruction; LB alone is a label
+-- ---- names: each is found at its code, and of all pairs of capitals no more than eighteen name an instruction; LB alone is a label
 
 abbrev find : String → Found
 find s = findOf (code (charAt s 0)) (code (charAt s 1))
@@ -109,9 +110,9 @@ all f = sum (λ a. sum (f a) 26) 26
 
 pub record Names : Type 0 where
   pub found :
-      find "IN" ∷ find "DF" ∷ find "EP" ∷ find "IP" ∷ find "SC" ∷ find "IW" ∷ find "RO" ∷ find "SP" ∷ find "PM" ∷ find "CI" ∷ find "EA" ∷ find "ER" ∷ find "PU" ∷ find "PD" ∷ find "PA" ∷ find "PR" ∷ []
-      ≡ At IN ∷ At DF ∷ At EP ∷ At IP ∷ At SC ∷ At IW ∷ At RO ∷ At SP ∷ At PM ∷ At CI ∷ At EA ∷ At ER ∷ At PU ∷ At PD ∷ At PA ∷ At PR ∷ []
-  pub no-more : all (λ a b. one (findOf a b)) ≡ 16
+      find "IN" ∷ find "DF" ∷ find "EP" ∷ find "IP" ∷ find "SC" ∷ find "IW" ∷ find "RO" ∷ find "SP" ∷ find "PM" ∷ find "CI" ∷ find "EA" ∷ find "ER" ∷ find "PU" ∷ find "PD" ∷ find "PA" ∷ find "PR" ∷ find "AA" ∷ find "AR" ∷ []
+      ≡ At IN ∷ At DF ∷ At EP ∷ At IP ∷ At SC ∷ At IW ∷ At RO ∷ At SP ∷ At PM ∷ At CI ∷ At EA ∷ At ER ∷ At PU ∷ At PD ∷ At PA ∷ At PR ∷ At AA ∷ At AR ∷ []
+  pub no-more : all (λ a b. one (findOf a b)) ≡ 18
   pub label-found : isLabel (code "L") (code "B") ≡ true
   pub no-more-labels : all (λ a b. label (isLabel a b)) ≡ 1
 

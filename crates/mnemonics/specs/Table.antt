@@ -1,4 +1,4 @@
--- The table of sixteen instructions, row by row as in the source, and what is looked up in it.
+-- The table of instructions, row by row as in the source, and what is looked up in it.
 use Prim.Native.Nat.{ℕ, zero, suc, _+_, _-_, _%_}
 use Prim.Native.Char.{Char, code}
 use mathlib.Core.Bool.{Bool, true, false, cond}
@@ -57,8 +57,14 @@ EA = 14
 abbrev pub ER : ℕ
 ER = 15
 
+abbrev pub AA : ℕ
+AA = 16
+
+abbrev pub AR : ℕ
+AR = 17
+
 abbrev pub rows : ℕ
-rows = 16
+rows = 18
 
 -- The columns.
 abbrev pub firstLetter : ℕ
@@ -109,6 +115,8 @@ table =
     ∷ row "C" "I" 1 2 1 0 0
     ∷ row "E" "A" 2 2 1 0 0
     ∷ row "E" "R" 2 2 1 0 0
+    ∷ row "A" "A" 3 4 1 0 0
+    ∷ row "A" "R" 3 4 1 0 0
     ∷ []
 
 -- The row of an instruction, and what stands in its column.

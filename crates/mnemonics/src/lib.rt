@@ -1,4 +1,4 @@
-// The table of sixteen instructions, and what is looked up in it.
+// The table of instructions, and what is looked up in it.
 ghost use mathlib.Core.Path.{_≡_};
 ghost use Prim.Native.Nat.{_+_, _*_, _<_};
 ghost use Rattle.mnemonics.specs.Table.{rows, rowOf, namesOf, findOf, beginsName, isLabel, countFits, takesPairs, hasRoom, knownInPolygon, changesSettings};
@@ -36,7 +36,11 @@ pub const EA: usize = 14;
 
 pub const ER: usize = 15;
 
-const ROWS: usize = 16;
+pub const AA: usize = 16;
+
+pub const AR: usize = 17;
+
+pub const ROWS: usize = 18;
 
 // The columns: two letters, least and most numbers, what the count goes up by, and whether the instruction is known in
 // polygon mode and changes settings.
@@ -76,6 +80,8 @@ const TABLE: [[u8; COLUMNS]; ROWS] = [
     [b'C', b'I', 1, 2, 1, 0, 0],
     [b'E', b'A', 2, 2, 1, 0, 0],
     [b'E', b'R', 2, 2, 1, 0, 0],
+    [b'A', b'A', 3, 4, 1, 0, 0],
+    [b'A', b'R', 3, 4, 1, 0, 0],
 ];
 
 pub enum Found {
@@ -105,8 +111,8 @@ fn names(row: [u8; COLUMNS], first: u8, second: u8) -> bool
     both(row[FIRST], row[SECOND]) == both(first, second)
 }
 
-// The letters that names begin with, C, D, E, I, P, R and S, as bits from that of A on.
-const BEGINNINGS: u32 = 0x6811c;
+// The letters that names begin with, A, C, D, E, I, P, R and S, as bits from that of A on.
+const BEGINNINGS: u32 = 0x6811d;
 
 // Whether an instruction's name begins with a letter. Most other names are told by it at once, without a search and without a branch for each letter.
 fn begins_name(first: u8) -> bool

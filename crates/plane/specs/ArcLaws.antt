@@ -27,9 +27,9 @@ use Rattle.plane.specs.declared.circle.Way.{Way}
 use Rattle.plane.specs.declared.circle.Centre.{Centre}
 use Rattle.plane.specs.Bounds.{mostNumber, WayBounds}
 use Rattle.plane.specs.Position.{relativeOf, exactOf, locationOf, inRangeOf}
-use Rattle.plane.specs.PositionLaws.{location-rounds, rebased-location, in-range, in-range-of}
+use Rattle.plane.specs.PositionLaws.{location-nearest, rebased-location, in-range, in-range-of}
 use Rattle.plane.specs.Circle.{chordsOf, angleOf, rotatedOf, vertexPointOf, centreOf, fromCentre, pointFromCentre}
-use Rattle.plane.specs.CircleLaws.{vertex-rounds, vertex-point-split, centre-range, ends-small}
+use Rattle.plane.specs.CircleLaws.{vertex-nearest, vertex-point-split, centre-range, ends-small}
 use Rattle.plane.specs.Arc.{exactWay, wayOf, wayFits, partsOf, towards, bendOf, exactArc, arcOf, arcPoint, bothInRange, fitsFrom, arcFits, endsFit, roundFits}
 
 -- ---- the way
@@ -43,55 +43,57 @@ pub way-rounds : (a : Axis) (p q : ExactPosition) → (a .span ≡ pos 0 → ⊥
 way-rounds a p q z = subst (Rounds (exactWay a p q)) (sym (way-nearest a p q z)) (rounds (exactWay a p q))
 
 -- "in current units": the exact position is the exact centre and the exact way × D / W, multiplied out
-difference : (B O b o D W : ℤ) → (D ≡ pos 0 → ⊥) → (W ≡ pos 0 → ⊥) →
-    let way = based (O -ℤ o) (B -ℤ b) W D in
-    (based B O D W .num -ℤ based b o D W .num) *ℤ (W *ℤ pos (way .den)) ≡ way .num *ℤ (D *ℤ pos (based B O D W .den))
-difference B O b o D W y z = go D W y z
-  where
-    less : (x : ℤ) → negℤ x ≡ pos 0 -ℤ x
-    less x = rw (is x) (simp Z (omega arith))
+module _ (B O b o : ℤ) where
+  less : (x : ℤ) → negℤ x ≡ pos 0 -ℤ x
+  less x = rw (is x) (simp Z (omega arith))
 
-    -- d and w are the sizes of D and W
-    both : (d w : ℤ) → (B *ℤ w +ℤ O *ℤ d -ℤ (b *ℤ w +ℤ o *ℤ d)) *ℤ (w *ℤ d) ≡ ((O -ℤ o) *ℤ d +ℤ (B -ℤ b) *ℤ w) *ℤ (d *ℤ w)
-    both d w =
-        ring (B ∷ O ∷ b ∷ o ∷ d ∷ w ∷ [])
-        ((# 0 :* # 5 :+ # 1 :* # 4 :- (# 2 :* # 5 :+ # 3 :* # 4)) :* (# 5 :* # 4))
-        (((# 1 :- # 3) :* # 4 :+ (# 0 :- # 2) :* # 5) :* (# 4 :* # 5)) tt
+  -- d and w are the sizes of D and W
+  neither-below : (d w : ℤ) → ((B *ℤ w +ℤ O *ℤ d) *ℤ w -ℤ (b *ℤ w +ℤ o *ℤ d) *ℤ w) *ℤ (w *ℤ d) ≡ ((O -ℤ o) *ℤ d +ℤ (B -ℤ b) *ℤ w) *ℤ d *ℤ (w *ℤ w)
+  neither-below d w =
+      ring (B ∷ O ∷ b ∷ o ∷ d ∷ w ∷ [])
+      (((# 0 :* # 5 :+ # 1 :* # 4) :* # 5 :- (# 2 :* # 5 :+ # 3 :* # 4) :* # 5) :* (# 5 :* # 4))
+      (((# 1 :- # 3) :* # 4 :+ (# 0 :- # 2) :* # 5) :* # 4 :* (# 5 :* # 5)) tt
 
-    width : (d w : ℤ) → (B *ℤ w -ℤ O *ℤ d -ℤ (b *ℤ w -ℤ o *ℤ d)) *ℤ (negℤ w *ℤ d) ≡ ((O -ℤ o) *ℤ d +ℤ (B -ℤ b) *ℤ negℤ w) *ℤ (d *ℤ w)
-    width d w =
-        rw (less w)
-        (ring (B ∷ O ∷ b ∷ o ∷ d ∷ w ∷ [])
-        ((# 0 :* # 5 :- # 1 :* # 4 :- (# 2 :* # 5 :- # 3 :* # 4)) :* ((con (pos 0) :- # 5) :* # 4))
-        (((# 1 :- # 3) :* # 4 :+ (# 0 :- # 2) :* (con (pos 0) :- # 5)) :* (# 4 :* # 5)) tt)
+  width-below : (d w : ℤ) → ((B *ℤ w -ℤ O *ℤ d) *ℤ w -ℤ (b *ℤ w -ℤ o *ℤ d) *ℤ w) *ℤ (negℤ w *ℤ d) ≡ ((O -ℤ o) *ℤ d +ℤ (B -ℤ b) *ℤ negℤ w) *ℤ d *ℤ (w *ℤ w)
+  width-below d w =
+      rw (less w)
+      (ring (B ∷ O ∷ b ∷ o ∷ d ∷ w ∷ [])
+      (((# 0 :* # 5 :- # 1 :* # 4) :* # 5 :- (# 2 :* # 5 :- # 3 :* # 4) :* # 5) :* ((con (pos 0) :- # 5) :* # 4))
+      (((# 1 :- # 3) :* # 4 :+ (# 0 :- # 2) :* (con (pos 0) :- # 5)) :* # 4 :* (# 5 :* # 5)) tt)
 
-    span : (d w : ℤ) → (B *ℤ w +ℤ O *ℤ negℤ d -ℤ (b *ℤ w +ℤ o *ℤ negℤ d)) *ℤ (w *ℤ d) ≡ ((O -ℤ o) *ℤ d -ℤ (B -ℤ b) *ℤ w) *ℤ (negℤ d *ℤ w)
-    span d w =
-        rw (less d)
-        (ring (B ∷ O ∷ b ∷ o ∷ d ∷ w ∷ [])
-        ((# 0 :* # 5 :+ # 1 :* (con (pos 0) :- # 4) :- (# 2 :* # 5 :+ # 3 :* (con (pos 0) :- # 4))) :* (# 5 :* # 4))
-        (((# 1 :- # 3) :* # 4 :- (# 0 :- # 2) :* # 5) :* ((con (pos 0) :- # 4) :* # 5)) tt)
+  span-below : (d w : ℤ) → ((B *ℤ w +ℤ O *ℤ negℤ d) *ℤ w -ℤ (b *ℤ w +ℤ o *ℤ negℤ d) *ℤ w) *ℤ (w *ℤ d) ≡ ((O -ℤ o) *ℤ d -ℤ (B -ℤ b) *ℤ w) *ℤ negℤ d *ℤ (w *ℤ w)
+  span-below d w =
+      rw (less d)
+      (ring (B ∷ O ∷ b ∷ o ∷ d ∷ w ∷ [])
+      (((# 0 :* # 5 :+ # 1 :* (con (pos 0) :- # 4)) :* # 5 :- (# 2 :* # 5 :+ # 3 :* (con (pos 0) :- # 4)) :* # 5) :* (# 5 :* # 4))
+      (((# 1 :- # 3) :* # 4 :- (# 0 :- # 2) :* # 5) :* (con (pos 0) :- # 4) :* (# 5 :* # 5)) tt)
 
-    neither : (d w : ℤ) → (B *ℤ w -ℤ O *ℤ negℤ d -ℤ (b *ℤ w -ℤ o *ℤ negℤ d)) *ℤ (negℤ w *ℤ d) ≡ ((O -ℤ o) *ℤ d -ℤ (B -ℤ b) *ℤ negℤ w) *ℤ (negℤ d *ℤ w)
-    neither d w =
-        rw (less d, less w)
-        (ring (B ∷ O ∷ b ∷ o ∷ d ∷ w ∷ [])
-        ((# 0 :* # 5 :- # 1 :* (con (pos 0) :- # 4) :- (# 2 :* # 5 :- # 3 :* (con (pos 0) :- # 4))) :* ((con (pos 0) :- # 5) :* # 4))
-        (((# 1 :- # 3) :* # 4 :- (# 0 :- # 2) :* (con (pos 0) :- # 5)) :* ((con (pos 0) :- # 4) :* # 5)) tt)
+  both-below : (d w : ℤ) →
+      ((B *ℤ w -ℤ O *ℤ negℤ d) *ℤ w -ℤ (b *ℤ w -ℤ o *ℤ negℤ d) *ℤ w) *ℤ (negℤ w *ℤ d) ≡ ((O -ℤ o) *ℤ d -ℤ (B -ℤ b) *ℤ negℤ w) *ℤ negℤ d *ℤ (w *ℤ w)
+  both-below d w =
+      rw (less d, less w)
+      (ring (B ∷ O ∷ b ∷ o ∷ d ∷ w ∷ [])
+      (((# 0 :* # 5 :- # 1 :* (con (pos 0) :- # 4)) :* # 5 :- (# 2 :* # 5 :- # 3 :* (con (pos 0) :- # 4)) :* # 5) :* ((con (pos 0) :- # 5) :* # 4))
+      (((# 1 :- # 3) :* # 4 :- (# 0 :- # 2) :* (con (pos 0) :- # 5)) :* (con (pos 0) :- # 4) :* (# 5 :* # 5)) tt)
 
-    go : (D W : ℤ) → (D ≡ pos 0 → ⊥) → (W ≡ pos 0 → ⊥) →
-        let way = based (O -ℤ o) (B -ℤ b) W D in
-        (based B O D W .num -ℤ based b o D W .num) *ℤ (W *ℤ pos (way .den)) ≡ way .num *ℤ (D *ℤ pos (based B O D W .den))
-    go (pos zero) W y z = absurd (y refl)
-    go (pos (suc d)) (pos zero) y z = absurd (z refl)
-    go (pos (suc d)) (pos (suc w)) y z = both (pos (suc d)) (pos (suc w))
-    go (pos (suc d)) (negsuc w) y z = width (pos (suc d)) (pos (suc w))
-    go (negsuc d) (pos zero) y z = absurd (z refl)
-    go (negsuc d) (pos (suc w)) y z = span (pos (suc d)) (pos (suc w))
-    go (negsuc d) (negsuc w) y z = neither (pos (suc d)) (pos (suc w))
+  difference : (D W : ℤ) → (D ≡ pos 0 → ⊥) → (W ≡ pos 0 → ⊥) →
+      let f = based b o D W in
+      let g = based B O D W in
+      let way = based (O -ℤ o) (B -ℤ b) W D in
+      (g .num *ℤ pos (f .den) -ℤ f .num *ℤ pos (g .den)) *ℤ (W *ℤ pos (way .den)) ≡ way .num *ℤ D *ℤ (pos (f .den) *ℤ pos (g .den))
+  difference (pos zero) W y z = absurd (y refl)
+  difference (pos (suc d)) (pos zero) y z = absurd (z refl)
+  difference (pos (suc d)) (pos (suc w)) y z = neither-below (pos (suc d)) (pos (suc w))
+  difference (pos (suc d)) (negsuc w) y z = width-below (pos (suc d)) (pos (suc w))
+  difference (negsuc d) (pos zero) y z = absurd (z refl)
+  difference (negsuc d) (pos (suc w)) y z = span-below (pos (suc d)) (pos (suc w))
+  difference (negsuc d) (negsuc w) y z = both-below (pos (suc d)) (pos (suc w))
 
 pub way-exact : (a : Axis) (p q : ExactPosition) → (a .span ≡ pos 0 → ⊥) → (a .width ≡ pos 0 → ⊥) →
-    (exactOf a p .num -ℤ exactOf a q .num) *ℤ (a .width *ℤ pos (exactWay a p q .den)) ≡ exactWay a p q .num *ℤ (a .span *ℤ pos (exactOf a p .den))
+    let f = exactOf a q in
+    let g = exactOf a p in
+    let way = exactWay a p q in
+    (g .num *ℤ pos (f .den) -ℤ f .num *ℤ pos (g .den)) *ℤ (a .width *ℤ pos (way .den)) ≡ way .num *ℤ a .span *ℤ (pos (f .den) *ℤ pos (g .den))
 way-exact a p q y z = difference (p .base) (p .offset) (q .base) (q .offset) (a .span) (a .width) y z
 
 -- the way from a centre that is n further is minus n, whatever the scale: AR's
@@ -217,10 +219,13 @@ bend-size sweep a i h = go (ltb i (partsOf sweep a)) refl
     go false e = record { bd = omega arith }
 
 -- ---- the location of a vertex rounds it: at the first the position, then about the centre
-pub arc-rounds : (a : Axis) (p q : ExactPosition) (t : ℤ) (i : ℕ) → (a .width ≡ pos 0 → ⊥) → Rounds (exactArc a p q t i) (arcOf a p q t i)
+pub arc-nearest : (a : Axis) (p q : ExactPosition) (t : ℤ) (i : ℕ) → (a .width ≡ pos 0 → ⊥) → arcOf a p q t i ≡ nearestWhole (exactArc a p q t i)
 unfolding exactArc arcOf
-arc-rounds a p q t zero z = location-rounds a p z
-arc-rounds a p q t (suc i) z = vertex-rounds a q t z
+arc-nearest a p q t zero z = location-nearest a p z
+arc-nearest a p q t (suc i) z = vertex-nearest a q t z
+
+pub arc-rounds : (a : Axis) (p q : ExactPosition) (t : ℤ) (i : ℕ) → (a .width ≡ pos 0 → ⊥) → Rounds (exactArc a p q t i) (arcOf a p q t i)
+arc-rounds a p q t i z = subst (Rounds (exactArc a p q t i)) (sym (arc-nearest a p q t i z)) (rounds (exactArc a p q t i))
 
 -- and is what the code finds
 pub arc-split : (ax ay : Axis) (px py qx qy : ExactPosition) (w : Way) (sweep : ℤ) (a i : ℕ) → (ax .width ≡ pos 0 → ⊥) → (ay .width ≡ pos 0 → ⊥) →

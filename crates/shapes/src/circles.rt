@@ -1,5 +1,7 @@
 // CI: its chord angle, the range of its four points, and the circle whose chords are drawn.
 ghost use mathlib.Core.Path.{_≡_};
+ghost use mathlib.Core.Bool.{_&&_};
+ghost use Rattle.exact.specs.Whole.{_≤?_};
 ghost use Rattle.exact.specs.Fit.{Bd};
 ghost use Rattle.reader.specs.Sizes.{Small, SmallPair};
 ghost use Rattle.plane.specs.Bounds.{mostNumber};
@@ -31,6 +33,16 @@ use rulekit::places::axis_y;
 use rulekit::places::located;
 use rulekit::places::reachable;
 use rulekit::places::relative_position;
+
+// Whether a number lies between two others, or is one of them.
+pub fn from_to(least: i64, n: i64, most: i64) -> bool
+    ensures { λ r. ⌜ r ≡ ((least ≤? n) && (n ≤? most)) ⌝ }
+{
+    if least <= n {
+        return n <= most;
+    }
+    false
+}
 
 // The location of the point a way from the position.
 fn point_at(c: Core, way: Coordinates) -> Point
@@ -96,29 +108,34 @@ fn circle_with(c: Core, radius: i64, angle: i64) -> Acted
     requires { ⌜ ValidCore c × Bd radius mostNumber ⌝ }
     ensures { λ r. ⌜ r ≡ R.circleWith c radius angle ⌝ }
 {
-    if angle < LEAST_ANGLE {
-        return refuse(c, OUT_OF_RANGE);
-    }
-    if MOST_ANGLE < angle {
-        return refuse(c, OUT_OF_RANGE);
-    }
-    if circle_fits(c, radius) {
-        if inked(c) {
-            return done(c, Action::Chords(circle_of(c, radius, angle as u16)));
+    if from_to(LEAST_ANGLE, angle, MOST_ANGLE) {
+        if circle_fits(c, radius) {
+            if inked(c) {
+                return done(c, Action::Chords(circle_of(c, radius, angle as u16)));
+            }
+            return done(c, Action::Keep);
         }
-        return done(c, Action::Keep);
+        return refuse(c, TOO_FAR);
     }
-    refuse(c, TOO_FAR)
+    refuse(c, OUT_OF_RANGE)
+}
+
+// A chord angle in tenths of a degree: what is given for it, if anything is.
+pub fn angle_or(absent: bool, given: i64) -> i64
+    requires { ⌜ Bd given mostNumber ⌝ }
+    ensures { λ r. ⌜ r ≡ R.angleOr absent given ⌝ }
+{
+    if absent {
+        return DEFAULT_ANGLE;
+    }
+    nearest_div(given, TENTH)
 }
 
 fn chord_angle(n: Numbers) -> i64
     requires { ⌜ Small n ⌝ }
     ensures { λ r. ⌜ r ≡ R.chordAngle n ⌝ }
 {
-    if n.count == 1 {
-        return DEFAULT_ANGLE;
-    }
-    nearest_div(n.second, TENTH)
+    angle_or(n.count == 1, n.second)
 }
 
 pub fn ci_rule(c: Core, n: Numbers) -> Acted

@@ -1,4 +1,5 @@
-// What moves the carriage and leaves something to draw: moves, circles, rectangles and polygons.
+// What moves the carriage and leaves something to draw: moves, circles, arcs, rectangles and polygons.
+pub mod arcs;
 pub mod circles;
 pub mod moves;
 pub mod polygons;

@@ -2,9 +2,13 @@
 ghost use mathlib.Core.Path.{_≡_};
 ghost use Rattle.wellformed.specs.Sound as S;
 use super::tests::between;
+use mnemonics::ROWS;
 use mnemonics::known_in_polygon;
 use rows::Row;
 use rows::byte_of;
+
+// The last instruction of the table.
+const LAST: i64 = ROWS as i64 - 1;
 
 fn place_sound(r: Row) -> bool
     ensures { λ t. ⌜ t ≡ S.placeSound r ⌝ }
@@ -22,7 +26,7 @@ fn place_sound(r: Row) -> bool
             Row {
                 a: 1,
                 b: 255,
-                c: 15,
+                c: LAST,
                 d: 0,
                 e: 0,
             },
@@ -40,7 +44,7 @@ fn place_sound(r: Row) -> bool
         Row {
             a: 5,
             b: 0,
-            c: 15,
+            c: LAST,
             d: 0,
             e: 0,
         },

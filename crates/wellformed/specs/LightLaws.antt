@@ -16,7 +16,7 @@ use Rattle.seal.specs.Light.{rowCount, headCount, mostAt, LightRow, Light}
 use Rattle.hpgl.specs.ValidFacts.{and-both}
 use Rattle.saved.specs.Places.{limitsPlace, cornersPlace, scalePlace, windowPlace, positionPlace, penPlace, polygonPlace, firstPlace, savedPlace, workPlace, acrossPlace, alongPlace, startPlace, edgesPlace}
 use Rattle.saved.specs.Saved.{stateNumbers, positionOf, circleOf, settingsAt}
-use Rattle.wellformed.specs.Sound.{betweenOf, fourLow, fourHigh, fiveOf, blankSound, placeSound, numbersSound, numberSound, readerSound, limitsSound, cornersSound, scaleSound, boxSound, settingsSound, placedOf, positionLow, positionHigh, positionSound, penSound, polygonSound, keptSound, positionsSound, partsSound, carriageSound, knownSound, roundOf, centreLow, centreHigh, startLow, startHigh, startSound, ringSound, chordsSound, blanksSound, lineSound, outlineSound, workSound, inkedSound, edgesSound, soundOf}
+use Rattle.wellformed.specs.Sound.{betweenOf, fourLow, fourHigh, fiveOf, blankSound, last, placeSound, numbersSound, numberSound, readerSound, limitsSound, cornersSound, scaleSound, boxSound, settingsSound, placedOf, positionLow, positionHigh, positionSound, penSound, polygonSound, keptSound, positionsSound, partsSound, carriageSound, knownSound, roundOf, centreLow, centreHigh, startLow, startHigh, startSound, ringSound, chordsSound, blanksSound, lineSound, outlineSound, workSound, inkedSound, edgesSound, soundOf}
 use Rattle.wellformed.specs.RowTests.{between-true}
 
 -- the largest number of the rows before the edges
@@ -68,9 +68,9 @@ place-light : (r : Row) → placeSound r ≡ true → LightRow most r
 unfolding placeSound
 place-light r = go (r .a ≡? pos 1)
   where
-    go : (t : Bool) → cond t (betweenOf (fiveOf 1 0 0 0 0) r (fiveOf 1 255 15 0 0)) (betweenOf (fiveOf 0 0 0 0 0) r (fiveOf 5 0 15 0 0)) ≡ true → LightRow most r
-    go true e = light most (fiveOf 1 0 0 0 0) r (fiveOf 1 255 15 0 0) refl refl e
-    go false e = light most (fiveOf 0 0 0 0 0) r (fiveOf 5 0 15 0 0) refl refl e
+    go : (t : Bool) → cond t (betweenOf (fiveOf 1 0 0 0 0) r (fiveOf 1 255 last 0 0)) (betweenOf (fiveOf 0 0 0 0 0) r (fiveOf 5 0 last 0 0)) ≡ true → LightRow most r
+    go true e = light most (fiveOf 1 0 0 0 0) r (fiveOf 1 255 last 0 0) refl refl e
+    go false e = light most (fiveOf 0 0 0 0 0) r (fiveOf 5 0 last 0 0) refl refl e
 
 numbers-light : (r : Row) → numbersSound r ≡ true → LightRow most r
 unfolding numbersSound

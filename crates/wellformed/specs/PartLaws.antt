@@ -29,7 +29,7 @@ use Rattle.hpgl.specs.Valid.{ValidSettings, Placed, KeptPosition, ValidPolygon,
 use Rattle.hpgl.specs.ValidFacts.{and-both, axis-bounds-x, axis-bounds-y, placed-locatable, placed-kept, located-placed}
 use Rattle.saved.specs.SavedReader.{modeTag, modeLetter, modeOf, placeRow, numbersRow, numbersOf, numberRow, numberOf}
 use Rattle.saved.specs.Saved.{flagIn, smallIn, limitsRow, cornersRow, scaleRow, windowRow, boxOf, fromOf, toOf, rangeX, rangeY, settingsOf, positionRow, penRow, polygonRow, positionOf, penOf, pm0Of, polygonOf, carriageOf}
-use Rattle.wellformed.specs.Sound.{betweenOf, fourLow, fourHigh, fiveOf, placeSound, numbersSound, numberSound, limitsSound, cornersSound, scaleSound, boxSound, settingsSound, roomOf, locatableOf, placedOf, positionLow, positionHigh, positionSound, penSound, polygonSound, keptSound, positionsSound, partsSound, carriageSound}
+use Rattle.wellformed.specs.Sound.{betweenOf, fourLow, fourHigh, fiveOf, last, placeSound, numbersSound, numberSound, limitsSound, cornersSound, scaleSound, boxSound, settingsSound, roomOf, locatableOf, placedOf, positionLow, positionHigh, positionSound, penSound, polygonSound, keptSound, positionsSound, partsSound, carriageSound}
 use Rattle.wellformed.specs.RowTests.{both, Between, between-true, between-of, bd-of, bd-low, bd-high, Four, four-true, four-of, five-of, zero-same, flag-same, small-is, small-same, small-most, place-is, place-same, flag-bounds, flag-zero}
 
 -- ---- the reader
@@ -50,7 +50,7 @@ pub record PlaceLaw (r : Row) : Type 0 where
   pub op : smallOf mostByte (r .c) < rows
   pub same : placeRow (modeOf (smallOf mostByte (r .a)) (smallOf mostByte (r .b))) (smallOf mostByte (r .c)) ≡ r
 
-place-by : (r : Row) (n l : ℕ) → n ≤ 5 → l ≤ 255 → Between (fiveOf 0 0 0 0 0) r (fiveOf n l 15 0 0) → ((smallOf mostByte (r .a) ≡ 1 → ⊥) → l ≡ 0) → PlaceLaw r
+place-by : (r : Row) (n l : ℕ) → n ≤ 5 → l ≤ 255 → Between (fiveOf 0 0 0 0 0) r (fiveOf n l last 0 0) → ((smallOf mostByte (r .a) ≡ 1 → ⊥) → l ≡ 0) → PlaceLaw r
 unfolding placeRow
 place-by r n l hn hl b k =
     let a = small-is (r .a) mostByte (b .low .a) (b .high .a) (omega (arith, hn)) in
@@ -68,16 +68,16 @@ pub place-law : (r : Row) → placeSound r ≡ true → PlaceLaw r
 unfolding placeSound
 place-law r = go (r .a ≡? pos 1) refl
   where
-    go : (t : Bool) → (r .a ≡? pos 1) ≡ t → cond t (betweenOf (fiveOf 1 0 0 0 0) r (fiveOf 1 255 15 0 0)) (betweenOf (fiveOf 0 0 0 0 0) r (fiveOf 5 0 15 0 0)) ≡ true → PlaceLaw r
+    go : (t : Bool) → (r .a ≡? pos 1) ≡ t → cond t (betweenOf (fiveOf 1 0 0 0 0) r (fiveOf 1 255 last 0 0)) (betweenOf (fiveOf 0 0 0 0 0) r (fiveOf 5 0 last 0 0)) ≡ true → PlaceLaw r
     go true e h =
-        let b = between-true (fiveOf 1 0 0 0 0) r (fiveOf 1 255 15 0 0) h in
+        let b = between-true (fiveOf 1 0 0 0 0) r (fiveOf 1 255 last 0 0) h in
         let z : pos 0 ≤ᶻ r .a = omega (arith, ord, b .low .a) in
-        let c : Between (fiveOf 0 0 0 0 0) r (fiveOf 1 255 15 0 0) = record { low = record { a = z; b = b .low .b; c = b .low .c; d = b .low .d; e = b .low .e }; high = b .high } in
+        let c : Between (fiveOf 0 0 0 0 0) r (fiveOf 1 255 last 0 0) = record { low = record { a = z; b = b .low .b; c = b .low .c; d = b .low .d; e = b .low .e }; high = b .high } in
         place-by r 1 255 (omega arith) (omega arith) c (λ f. absurd (f (one e)))
       where
         one : (r .a ≡? pos 1) ≡ true → smallOf mostByte (r .a) ≡ 1
         one e = let q = ≡?-true (r .a) (pos 1) e in let s = small-is (r .a) {n = 1} mostByte (omega (arith, ord, q)) (omega (arith, ord, q)) (omega arith) in s .1 ∙ ap natAbs q
-    go false e h = place-by r 5 0 (omega arith) (omega arith) (between-true (fiveOf 0 0 0 0 0) r (fiveOf 5 0 15 0 0) h) (λ f. refl)
+    go false e h = place-by r 5 0 (omega arith) (omega arith) (between-true (fiveOf 0 0 0 0 0) r (fiveOf 5 0 last 0 0) h) (λ f. refl)
 
 pub place-of : (m : Mode) (op : ℕ) → SmallMode m → op < rows → placeSound (placeRow m op) ≡ true
 unfolding placeSound placeRow modeTag modeLetter _≡?_

@@ -1,12 +1,12 @@
 -- Which lists of numbers are a machine: the tests of each row, that together say that the list is what save writes of a valid state. SoundLaws.antt proves it, both ways.
 use mathlib.Core.Bool.{Bool, true, false, cond, not, _&&_}
 use mathlib.Core.List.{List}
-use Prim.Native.Nat.{ℕ, zero, suc, _+_, _*_, _/_}
+use Prim.Native.Nat.{ℕ, zero, suc, _+_, _-_, _*_, _/_}
 use lib.IntN.{ℤ, pos, negℤ, natAbs, _+ℤ_, _*ℤ_}
 use Rattle.exact.specs.Whole.{_<?_, _≤?_, _≡?_}
 use Rattle.rows.specs.declared.Row.{Row}
 use Rattle.rows.specs.Rows.{row, rowAt, smallOf, mostByte}
-use Rattle.mnemonics.specs.Table.{knownInPolygon}
+use Rattle.mnemonics.specs.Table.{rows, knownInPolygon}
 use Rattle.plane.specs.declared.position.Axis.{Axis}
 use Rattle.plane.specs.declared.position.ExactPosition.{ExactPosition}
 use Rattle.plane.specs.Bounds.{mostProduct}
@@ -51,8 +51,12 @@ blankSound r = betweenOf (fiveOf 0 0 0 0 0) r (fiveOf 0 0 0 0 0)
 
 -- ---- the reader
 
+-- the last instruction of the table
+abbrev pub last : ℕ
+last = rows - 1
+
 unfoldable pub placeSound : Row → Bool
-placeSound r = cond (r .a ≡? pos 1) (betweenOf (fiveOf 1 0 0 0 0) r (fiveOf 1 255 15 0 0)) (betweenOf (fiveOf 0 0 0 0 0) r (fiveOf 5 0 15 0 0))
+placeSound r = cond (r .a ≡? pos 1) (betweenOf (fiveOf 1 0 0 0 0) r (fiveOf 1 255 last 0 0)) (betweenOf (fiveOf 0 0 0 0 0) r (fiveOf 5 0 last 0 0))
 
 unfoldable pub numbersSound : Row → Bool
 numbersSound r =

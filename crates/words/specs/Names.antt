@@ -1,4 +1,4 @@
--- The kinds of instructions, by their names: the sixteen of document 01 (c, d, m, p), and those of the manual and of HP-GL/2 that it does not have.
+-- The kinds of instructions, by their names: the sixteen of document 01 and the two of document 02 (c, d, m, p), and those of the manual and of HP-GL/2 that the machine does not have.
 use mathlib.Core.Bool.{Bool, true, false, cond}
 use mathlib.Core.List.{List, [], _∷_, _++_}
 use Prim.Native.Char.{code}
@@ -17,18 +17,18 @@ kindIn (p ∷ q ∷ []) a b = code "x"
 kindIn (p ∷ q ∷ kind ∷ []) a b = code "x"
 kindIn (p ∷ q ∷ kind ∷ blank ∷ rest) a b = cond (sameName p q a b) kind (kindIn rest a b)
 
--- of the sixteen: settings, what is painted by itself, moves, polygon mode
+-- its own: settings, what is painted by itself, moves (an arc among them, "each chord .. being a move": the pen goes on from its end), polygon mode
 abbrev pub ownKinds : List ℕ
 ownKinds =
     bytes "DFc INc IPc IWc ROc SCc SPc "
     ++ bytes "CId EAd EPd ERd "
-    ++ bytes "PAm PDm PRm PUm "
+    ++ bytes "AAm ARm PAm PDm PRm PUm "
     ++ bytes "PMp "
 
--- arcs and curves, bytes of no name, coded lines, fills and wedges, text, questions, settings of text, line types, speed and force, width of a pen
+-- other arcs and curves, bytes of no name, coded lines, fills and wedges, text, questions, settings of text, line types, speed and force, width of a pen
 abbrev pub foreignKinds : List ℕ
 foreignKinds =
-    bytes "AAa ARa ATa BRa BZa RTa "
+    bytes "ATa BRa BZa RTa "
     ++ bytes "??b "
     ++ bytes "PEe "
     ++ bytes "ACf EWf FPf FTf RAf RFf RRf UFf WGf "
@@ -46,7 +46,7 @@ kindOf a b = kindIn (ownKinds ++ foreignKinds) a b
 unfoldable pub hasOf : ℕ → Bool
 hasOf k = cond (eqb k (code "c")) true (cond (eqb k (code "d")) true (cond (eqb k (code "m")) true (eqb k (code "p"))))
 
--- "not known in polygon mode: 1": no other instruction of the sixteen is refused with 1
+-- "not known in polygon mode: 1": for no other cause an instruction of its own is refused with 1
 unfoldable pub refusedKind : ℕ → ℕ → ℕ → ℕ
 refusedKind number a b = cond (eqb number 1) (cond (hasOf (kindOf a b)) (code "k") (kindOf a b)) (kindOf a b)
 

@@ -23,7 +23,7 @@ causeOf n =
 -- what to do about it
 unfoldable pub adviceOf : ℕ → List ℕ
 adviceOf n =
-    cond (eqb n 1) (bytes "Leave it out, or draw it with the sixteen instructions.                 ") (
+    cond (eqb n 1) (bytes "Leave it out, or draw it with the instructions that the machine has.    ") (
     cond (eqb n 2) (bytes "Look for a missing or an extra number before this place.                ") (
     cond (eqb n 3) (bytes "Keep to the range that the manual gives for this number.                ") (
     cond (eqb n 6) (bytes "Look at the scaling (IP, SC) and the relative moves (PR).               ") (
@@ -37,7 +37,7 @@ adviceOf n =
 -- what becomes of an instruction that the machine does not have, by its kind
 unfoldable pub ofForeign : ℕ → List ℕ
 ofForeign n =
-    cond (eqb n (code "a")) (bytes "arcs are not carried out: the next line starts where the arc began      ") (
+    cond (eqb n (code "a")) (bytes "of curves only CI, AA, AR are known: the next line starts where it began") (
     cond (eqb n (code "b")) (bytes "bytes that name no instruction, as of escape sequences, are passed over ") (
     cond (eqb n (code "e")) (bytes "coded lines are not known: letters of the code are read as instructions ") (
     cond (eqb n (code "f")) (bytes "fills are not painted: paint the edges alone (EA, ER, EP, CI)           ") (
@@ -53,6 +53,6 @@ unfoldable pub ofKind : ℕ → List ℕ
 ofKind n =
     cond (eqb n (code "c")) (bytes "not carried out: the setting stays as it was                            ") (
     cond (eqb n (code "d")) (bytes "not carried out: nothing of it is painted                               ") (
-    cond (eqb n (code "k")) (bytes "not known between PM0 and PM2: end the polygon before it                ") (
+    cond (eqb n (code "k")) (bytes "lost: it is not known between PM0 and PM2. End the polygon before it    ") (
     cond (eqb n (code "m")) (bytes "not carried out from there on: the next line starts where the pen was   ") (
     cond (eqb n (code "p")) (bytes "not carried out, or left open: the polygon is another than was meant    ") (ofForeign n)))))

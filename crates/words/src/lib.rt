@@ -46,7 +46,7 @@ pub fn advice(number: u8) -> [u8; 72]
     ensures { λ r. ⌜ r ≡ adviceOf number ⌝ }
 {
     if number == 1 {
-        return *b"Leave it out, or draw it with the sixteen instructions.                 ";
+        return *b"Leave it out, or draw it with the instructions that the machine has.    ";
     }
     if number == 2 {
         return *b"Look for a missing or an extra number before this place.                ";
@@ -83,7 +83,7 @@ fn of_foreign(kind: u8) -> [u8; 72]
     ensures { λ r. ⌜ r ≡ ofForeign kind ⌝ }
 {
     if kind == b'a' {
-        return *b"arcs are not carried out: the next line starts where the arc began      ";
+        return *b"of curves only CI, AA, AR are known: the next line starts where it began";
     }
     if kind == b'b' {
         return *b"bytes that name no instruction, as of escape sequences, are passed over ";
@@ -126,7 +126,7 @@ pub fn of_kind(kind: u8) -> [u8; 72]
         return *b"not carried out: nothing of it is painted                               ";
     }
     if kind == b'k' {
-        return *b"not known between PM0 and PM2: end the polygon before it                ";
+        return *b"lost: it is not known between PM0 and PM2. End the polygon before it    ";
     }
     if kind == b'm' {
         return *b"not carried out from there on: the next line starts where the pen was   ";
@@ -161,18 +161,18 @@ fn kind_in(names: &[u8], first: u8, second: u8) -> u8
     b'x'
 }
 
-// The kind of an instruction, by its name: of the sixteen (c, d, m, p), or of the manual and of HP-GL/2, which the machine does not have; ?? is for a byte of no name.
+// The kind of an instruction, by its name: of the machine's own (c, d, m, p), or of the manual and of HP-GL/2, which it does not have; ?? is for a byte of no name.
 pub fn kind(first: u8, second: u8) -> u8
     ensures { λ r. ⌜ r ≡ kindOf first second ⌝ }
 {
     kind_in(
-        b"DFc INc IPc IWc ROc SCc SPc CId EAd EPd ERd PAm PDm PRm PUm PMp AAa ARa ATa BRa BZa RTa ??b PEe ACf EWf FPf FTf RAf RFf RRf UFf WGf BLl CPl LBl PBl UCl DCo DPo IMo OAo OCo ODo OEo OFo OGo OHo OIo OLo OOo OPo OSo OTo OWo ADs CAs CSs DIs DRs DTs DVs ESs LOs SAs SDs SIs SLs SRs SSs TDs LTt ULt APv ASv FSv VAv VNv VSv PTw PWw WUw ",
+        b"DFc INc IPc IWc ROc SCc SPc CId EAd EPd ERd AAm ARm PAm PDm PRm PUm PMp ATa BRa BZa RTa ??b PEe ACf EWf FPf FTf RAf RFf RRf UFf WGf BLl CPl LBl PBl UCl DCo DPo IMo OAo OCo ODo OEo OFo OGo OHo OIo OLo OOo OPo OSo OTo OWo ADs CAs CSs DIs DRs DTs DVs ESs LOs SAs SDs SIs SLs SRs SSs TDs LTt ULt APv ASv FSv VAv VNv VSv PTw PWw WUw ",
         first,
         second,
     )
 }
 
-// Whether a kind is one of the sixteen instructions.
+// Whether a kind is one of the machine's own instructions.
 fn has(kind: u8) -> bool
     ensures { λ r. ⌜ r ≡ hasOf kind ⌝ }
 {

@@ -245,7 +245,7 @@ fn counts(name: &[u8; 2]) -> Option<&'static [usize]> {
         b"RO" | b"SP" | b"PM" => &[0, 1],
         b"CI" => &[1, 2],
         b"EA" | b"ER" => &[2],
-        b"AA" | b"AR" if cfg!(feature = "arcs") => &[3, 4],
+        b"AA" | b"AR" => &[3, 4],
         b"PU" | b"PD" | b"PA" | b"PR" => &[0],
         _ => return None,
     })

@@ -89,14 +89,11 @@ const fn slot(first: u8, second: u8) -> usize {
 const NO_NAME: u8 = 0xff;
 const LABEL: u8 = 0xfe;
 
-/// How many of [`INSTRUCTIONS`] are known: all, or those before the arcs.
-const KNOWN: usize = if cfg!(feature = "arcs") { INSTRUCTIONS.len() } else { Op::Aa as usize };
-
 /// Index into [`INSTRUCTIONS`] for each two letters.
 const NAMES: [u8; 1024] = {
     let mut names = [NO_NAME; 1024];
     let mut i = 0;
-    while i < KNOWN {
+    while i < INSTRUCTIONS.len() {
         names[slot(INSTRUCTIONS[i].name[0], INSTRUCTIONS[i].name[1])] = i as u8;
         i += 1;
     }

@@ -12,7 +12,6 @@ const MOVES: usize = 20_000_000;
 const CIRCLES: usize = 300_000;
 
 /// Bytes of arcs; each 34 of them, about, give 720 strokes.
-#[cfg(feature = "arcs")]
 const ARCS: usize = 450_000;
 
 /// A rink that Inkscape wrote.
@@ -31,7 +30,7 @@ pub struct Load {
 }
 
 /// Every load.
-pub const LOADS: [Load; if cfg!(feature = "arcs") { 8 } else { 7 }] = [
+pub const LOADS: [Load; 8] = [
     Load { name: "pd", about: "PD moves", setup: "IN;SP1;", size: MOVES, part: pen_down },
     Load { name: "pu", about: "PU moves", setup: "IN;SP1;", size: MOVES, part: pen_up },
     Load {
@@ -48,7 +47,6 @@ pub const LOADS: [Load; if cfg!(feature = "arcs") { 8 } else { 7 }] = [
         size: CIRCLES,
         part: circle,
     },
-    #[cfg(feature = "arcs")]
     Load { name: "arcs", about: "arcs of 720 chords", setup: "IN;SP1;", size: ARCS, part: arc },
     Load {
         name: "polygons",
@@ -104,7 +102,6 @@ fn circle(dice: &mut Dice) -> String {
 }
 
 /// An arc of a whole turn, with a way on both axes.
-#[cfg(feature = "arcs")]
 fn arc(dice: &mut Dice) -> String {
     let (x, y) = (dice.within(10, 3_000), dice.within(-3_000, 3_000));
     format!("PU{};PD;AR{x},{y},360,.5;", pair(dice))

@@ -1,6 +1,5 @@
 //! Wrong arcs are found: copies of the baseline with one fault each (`build.rs`) take the library's
 //! place, and each fault must be found and brought down to a short input.
-#![cfg(feature = "arcs")]
 
 use baseline::{Drawn, Fed, Look, Stroke};
 use differential::due::plot;

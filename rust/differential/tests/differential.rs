@@ -71,9 +71,7 @@ fn digits() {
 
 #[test]
 fn arcs() {
-    let numbers: &[usize] =
-        if cfg!(feature = "arcs") { &[0, 1, 2, 3, 6, 20, 21] } else { &[0, 1, 20, 21] };
-    search(Family::Arcs, numbers);
+    search(Family::Arcs, &[0, 1, 2, 3, 6, 20, 21]);
 }
 
 #[test]
@@ -98,6 +96,40 @@ fn fresh() {
     }
     // Of the nine edges five are in range: ten pairs in order on each axis.
     assert_eq!(edges.len().pow(4) - refused, 100);
+}
+
+/// Sequences of arcs with outcomes that were agreed on, or found by hand; the baseline's own tests hold
+/// it to these.
+const AGREED: [&str; 2] =
+    [include_str!("../../baseline/tests/cr01.txt"), include_str!("../../baseline/tests/arcs.txt")];
+
+/// The hard limits that stand before a sequence.
+fn limits(text: &str) -> [i64; 4] {
+    match text.strip_prefix("limits ") {
+        None => USUAL,
+        Some(four) => {
+            let values = four.trim_end_matches(": ").split(',').map(|value| value.parse());
+            values.collect::<Result<Vec<_>, _>>().expect(text).try_into().expect(text)
+        }
+    }
+}
+
+#[test]
+fn agreed_arcs() {
+    let mut dice = Dice::new(setting("SEED", SEED));
+    let (mut count, mut tally) = (0, Tally::default());
+    for row in AGREED.iter().flat_map(|text| text.lines()).filter(|row| !row.starts_with('#')) {
+        let [before, bytes, _] = row.splitn(3, '`').collect::<Vec<_>>()[..] else {
+            panic!("{row}")
+        };
+        match compare::<Machine>(row, limits(before), bytes.as_bytes(), &mut dice) {
+            Ok(seen) => tally.add(&seen),
+            Err(finding) => panic!("{finding}"),
+        }
+        count += 1;
+    }
+    println!("{count} agreed sequences of arcs, no difference: {tally}");
+    assert!(count > 90 && tally.strokes > 0, "{count} sequences");
 }
 
 /// The drawings of real writers and of the manual, whole.

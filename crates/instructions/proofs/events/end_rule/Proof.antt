@@ -42,6 +42,12 @@ ea-rule-requires c κs = search needs
 er-rule-requires : tie.Need-er-rule-requires
 er-rule-requires c κs = search needs
 
+aa-rule-requires : tie.Need-aa-rule-requires
+aa-rule-requires c κs = search needs
+
+ar-rule-requires : tie.Need-ar-rule-requires
+ar-rule-requires c κs = search needs
+
 done-requires : tie.Need-done-requires
 done-requires c κs = search needs
 
@@ -95,10 +101,20 @@ returns-12 c = simp (c .er-rule .ensures, c .before .match .keys12) refl
 
 returns-13 : tie.Need-returns-13
 unfolding endRule
-returns-13 c =
+returns-13 c = simp (c .aa-rule .ensures, c .before .match .keys13) refl
+
+returns-14 : tie.Need-returns-14
+unfolding endRule
+returns-14 c = simp (c .ar-rule .ensures, c .before .match .keys14) refl
+
+returns-15 : tie.Need-returns-15
+unfolding endRule
+returns-15 c =
     let k = c .before .match .rest in
     simp (
       c .done .ensures,
+      ne-eqb _ _ (k .0 .0 .0 .0 .0 .0 .0 .0 .0 .0 .0 .0 .0 .1),
+      ne-eqb _ _ (k .0 .0 .0 .0 .0 .0 .0 .0 .0 .0 .0 .0 .1),
       ne-eqb _ _ (k .0 .0 .0 .0 .0 .0 .0 .0 .0 .0 .0 .1),
       ne-eqb _ _ (k .0 .0 .0 .0 .0 .0 .0 .0 .0 .0 .1),
       ne-eqb _ _ (k .0 .0 .0 .0 .0 .0 .0 .0 .0 .1),
@@ -130,6 +146,8 @@ end-rule-spec =
     ci-rule-requires
     ea-rule-requires
     er-rule-requires
+    aa-rule-requires
+    ar-rule-requires
     done-requires
     returns
     returns-2
@@ -143,4 +161,6 @@ end-rule-spec =
     returns-10
     returns-11
     returns-12
-    returns-13)
+    returns-13
+    returns-14
+    returns-15)
