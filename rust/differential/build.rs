@@ -1,4 +1,5 @@
-//! Writes copies of the baseline, each with one fault in its arcs, for `tests/arc_faults.rs`.
+//! Writes copies of the baseline, each with one fault: in its arcs for `tests/arc_faults.rs`, in the
+//! rounding of numbers for `tests/decimal_faults.rs`.
 
 use std::path::Path;
 use std::{env, fs};
@@ -9,7 +10,7 @@ const PARTS: [&str; 4] = ["geometry", "reader", "machine", "feed"];
 /// A fault: its name, the part, what is there once, and what it becomes.
 type Fault = (&'static str, &'static str, &'static str, &'static str);
 
-const FAULTS: [Fault; 13] = [
+const ARCS: [Fault; 13] = [
     (
         "centre_for_start",
         "machine",
@@ -70,6 +71,54 @@ const FAULTS: [Fault; 13] = [
     ("last_not_judged", "geometry", "whole.chain([self.sweep]).all(", "whole.chain([]).all("),
 ];
 
+/// Where a decimal after the fifth is read.
+const LATER: &str = "self.beyond |= digit != 0;";
+/// Where a number is rounded, and where its range is judged.
+const ROUNDED: &str = "(self.signed(size) + 50).div_euclid(100)";
+const JUDGED: &str = "(LEAST..=MOST).contains(&value)";
+
+const DECIMALS: [Fault; 12] = [
+    ("dropped", "reader", ROUNDED, "self.signed(size / 100)"),
+    ("half_away_from_zero", "reader", ROUNDED, "self.signed((size + 50) / 100)"),
+    ("half_towards_zero", "reader", ROUNDED, "self.signed((size + 49) / 100)"),
+    ("half_to_the_smaller", "reader", ROUNDED, "(self.signed(size) + 49).div_euclid(100)"),
+    (
+        "half_to_even",
+        "reader",
+        ROUNDED,
+        "(self.signed(size) + 49 + self.signed(size).div_euclid(100).rem_euclid(2)).div_euclid(100)",
+    ),
+    ("size_rounded_up", "reader", ROUNDED, "self.signed((size + 99) / 100)"),
+    ("fifth_alone", "reader", LATER, "self.beyond = false;"),
+    ("later_zero_makes_a_half", "reader", LATER, "self.beyond = digit != 0;"),
+    (
+        "tail_begun_anew",
+        "reader",
+        LATER,
+        "self.decimals += digit - self.decimals % 10;",
+    ),
+    (
+        "tail_of_the_number_before",
+        "reader",
+        "self.decimals = 0;\n        self.beyond = false;",
+        "self.decimals = 0;",
+    ),
+    (
+        "range_of_the_kept_digits",
+        "reader",
+        JUDGED,
+        "(LEAST..=MOST).contains(&if self.places < 5 { value } else { self.signed(\
+         i64::from(self.whole) * 10_000 + i64::from(self.decimals / 10)) })",
+    ),
+    (
+        "range_of_the_exact",
+        "reader",
+        JUDGED,
+        "(LEAST..=MOST).contains(&value) && !(value == LEAST && self.places == 5 \
+         && (self.decimals > 0 || self.beyond) && self.whole == 32_768)",
+    ),
+];
+
 /// The text of a part with the fault in it, if it is the one.
 fn part(source: &Path, part: &str, (name, at, right, wrong): Fault) -> String {
     let file = source.join(part).with_extension("rs");
@@ -95,6 +144,8 @@ fn main() {
     println!("cargo:rerun-if-changed=build.rs");
     println!("cargo:rerun-if-changed={}", source.display());
     let out = env::var_os("OUT_DIR").expect("cargo says where to write");
-    let copies = FAULTS.map(|fault| copy(&source, fault)).concat();
-    fs::write(Path::new(&out).join("wrong.rs"), copies).expect("the folder of the build");
+    for (file, faults) in [("wrong_arcs.rs", &ARCS[..]), ("wrong_decimals.rs", &DECIMALS[..])] {
+        let copies: String = faults.iter().map(|&fault| copy(&source, fault)).collect();
+        fs::write(Path::new(&out).join(file), copies).expect("the folder of the build");
+    }
 }

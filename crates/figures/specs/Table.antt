@@ -161,15 +161,15 @@ names =
     []
 
 -- "A number is an optional sign, then digits with at most one point, at least one digit. It ends at a blank, semicolon or letter. It is kept in
--- ten-thousandths; decimals past the fourth are dropped. .. A sign or point that cannot continue the number is refused with 3 there; one with no digit, or
+-- ten-thousandths .. A sign or point that cannot continue the number is refused with 3 there; one with no digit, or
 -- out of range, with 3 where it ends." Here a unit is a ten-thousandth. The ends of the range are figure (m)
 abbrev numbers : List Row
 numbers =
     ends "IP0,0,10000,10000;SC0,1,0,1;PA.1234,.0001;" (up 1234 1 0 0) ∷
-    ends "IP0,0,10000,10000;SC0,1,0,1;PA1.23459,0.00019;" (up 12345 1 0 0) ∷
+    ends "IP0,0,10000,10000;SC0,1,0,1;PA1.23459,0.00019;" (up 12346 2 0 0) ∷
     ends "IP0,0,10000,10000;SC0,1,0,1;PA.5,.05;" (up 5000 500 0 0) ∷
     ends "IP0,0,10000,10000;SC0,1,0,1;PA.005,12.;" (up 50 120000 0 0) ∷
-    ends "IP0,0,10000,10000;SC0,1,0,1;PA-.5,-1.00009;" (seen (minus 5000) (minus 10000) 0 false 0) ∷
+    ends "IP0,0,10000,10000;SC0,1,0,1;PA-.5,-1.00009;" (seen (minus 5000) (minus 10001) 0 false 0) ∷
     ends "IP0,0,10000,10000;SC0,1,0,1;PA+.5,007.50;" (up 5000 75000 0 0) ∷
     ends "PA1 2;" (up 1 2 0 0) ∷
     stops "PA1-2;" 3 4 (up 0 0 0 0) ∷
@@ -867,6 +867,32 @@ arcRanges =
     stops "IP0,0,10000,10000;SC0,1,0,1;PA99,0;SP1;PD;AR0,2,180,30;" 6 55 (down 990000 0 1 0) ∷
     []
 
+-- ---- Document 02, CR 2: the fifth decimal
+
+-- "A number shall be the nearest ten-thousandth, a half going to the larger number. So 32767.99999 is now out of range, and −0.00005 is 0." Here too a unit is a ten-thousandth;
+-- the whole tail counts, the range is judged after rounding, and numbers that are rounded again start from the ten-thousandths
+abbrev fifthDecimal : List Row
+fifthDecimal =
+    ends "IP0,0,10000,10000;SC0,1,0,1;PA.00005,-.00005;" (up 1 0 0 0) ∷
+    ends "IP0,0,10000,10000;SC0,1,0,1;PA.00004999,-.000051;" (seen (pos 0) (minus 1) 0 false 0) ∷
+    ends "IP0,0,10000,10000;SC0,1,0,1;PA.00015,-.00015;" (seen (pos 2) (minus 1) 0 false 0) ∷
+    ends "IP0,0,10000,10000;SC0,1,0,1;PA.00025,-.00025;" (seen (pos 3) (minus 2) 0 false 0) ∷
+    ends "IP0,0,10000,10000;SC0,1,0,1;PA-.00005000000000001,.0000499999999999;" (seen (minus 1) (pos 0) 0 false 0) ∷
+    ends "IP0,0,10000,10000;SC0,1,0,1;PA.123456,-.123456;" (seen (pos 1235) (minus 1235) 0 false 0) ∷
+    ends "IP0,0,10000,10000;SC0,1,0,1;PA.000061,.000059;" (up 1 1 0 0) ∷
+    ends "IP0,0,10000,10000;SC0,1,0,1;PA.00006005,.00005050;" (up 1 1 0 0) ∷
+    ends "PA9.99995,-9.99995;" (seen (pos 10) (minus 10) 0 false 0) ∷
+    stops "PA32767.99999,0;" 3 14 (up 0 0 0 0) ∷
+    stops "PA32767.99995,0;" 3 14 (up 0 0 0 0) ∷
+    ends "PA32767.99994999,0;" (up 32768 0 0 0) ∷
+    ends "PA-32768.00005,0;" (seen (minus 32768) (pos 0) 0 false 0) ∷
+    stops "PA-32768.000050001,0;" 3 19 (up 0 0 0 0) ∷
+    stops "SP8.49995;" 3 10 (up 0 0 0 0) ∷
+    ends "SP8.499949;" (up 0 0 8 0) ∷
+    stops "SC0,.000049,0,1;" 3 16 (up 0 0 0 0) ∷
+    ends "IP0,0,10000,10000;SC0,1,0,1;PR.00005,0,.00005,0;" (up 2 0 0 0) ∷
+    []
+
 -- ---- the table, heading by heading
 
 abbrev pub table : List Row
@@ -881,3 +907,4 @@ table =
     ++ orders
     ++ checked
     ++ arcForms ++ arcSweeps ++ arcWays ++ arcVertices ++ arcEnds ++ arcChords ++ arcRanges
+    ++ fifthDecimal

@@ -7,9 +7,23 @@ use Rattle.numerals.specs.declared.number.Number.{Number}
 use Rattle.numerals.specs.declared.number.Value.{Value}
 use Rattle.numerals.specs.declared.number.Value.the-variants.{Good, Bad}
 
--- "Decimals past the fourth are dropped."
+-- "It is kept in ten-thousandths": four decimals are kept.
 abbrev pub places : ℕ
 places = 4
+
+-- Of those past the fourth it is kept where they stand against a half of it, in the count of decimals: they are below a half, a half so far, or above.
+abbrev pub below : ℕ
+below = 5
+
+abbrev pub half : ℕ
+half = 6
+
+abbrev pub above : ℕ
+above = 7
+
+-- with one digit more past the fourth
+unfoldable pub pastOf : ℕ → ℕ → ℕ
+pastOf k d = cond (eqb k places) (cond (ltb d 5) below (cond (eqb d 5) half above)) (cond (eqb k half) (cond (eqb d 0) half above) k)
 
 -- "Range −32768.0000 to 32767.9999": the largest magnitudes above and below zero. `in-range` (NumeralLaws.antt) ties them to the numbers of 16 bits.
 abbrev pub top : ℕ
@@ -35,7 +49,7 @@ countedOf n k m =
 -- With one digit more. The magnitude is that of the digits without the point; once it is out of range it stays.
 unfoldable pub digitOf : Number → ℕ → Number
 digitOf n d =
-    cond (leb places (n .decimals)) (countedOf n (n .decimals) (n .magnitude))
+    cond (leb places (n .decimals)) (countedOf n (pastOf (n .decimals) d) (n .magnitude))
     (cond (ltb bottom (n .magnitude)) (countedOf n (n .decimals) (n .magnitude))
     (cond (n .pointed) (countedOf n (n .decimals + 1) (n .magnitude * 10 + d))
     (countedOf n (n .decimals) (n .magnitude * 10 + d))))
@@ -53,9 +67,16 @@ signedOf negative m = cond negative (negℤ (pos m)) (pos m)
 unfoldable pub largestOf : Bool → ℕ
 largestOf negative = cond negative bottom top
 
+-- "the nearest ten-thousandth, a half going to the larger number": one more of the magnitude above a half, and for a half itself where more is the larger number
+unfoldable pub carryOf : Bool → ℕ → ℕ
+carryOf negative k = cond (eqb k above) 1 (cond (eqb k half) (cond negative 0 1) 0)
+
+unfoldable pub nearestOf : Number → ℕ
+nearestOf n = tenThousandths n + carryOf (n .negative) (n .decimals)
+
 -- Its value where it ends, in ten-thousandths: "at least one digit", and in the range.
 unfoldable pub finishOf : Number → Value
 finishOf n =
     cond (n .filled)
-    (cond (leb (tenThousandths n) (largestOf (n .negative))) (Good (signedOf (n .negative) (tenThousandths n))) Bad)
+    (cond (leb (nearestOf n) (largestOf (n .negative))) (Good (signedOf (n .negative) (nearestOf n))) Bad)
     Bad

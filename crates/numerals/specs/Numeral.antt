@@ -5,7 +5,9 @@ use Prim.Native.Char.{code}
 use mathlib.Core.Bool.{Bool, true, false, cond, _&&_}
 use mathlib.Core.List.{List, [], _∷_, _++_}
 use lib.IntN.{ℤ, pos, negℤ, _+ℤ_, _*ℤ_}
+use lib.ListN.{length}
 use lib.Signed.{leZ}
+use Rattle.exact.specs.Divide.{nearestDiv}
 use Rattle.exact.specs.Int16.{least16, most16}
 use Rattle.numerals.specs.declared.number.Value.{Value}
 use Rattle.numerals.specs.declared.number.Value.the-variants.{Good, Bad}
@@ -57,16 +59,6 @@ abbrev pub decimals : Fraction → List ℕ
 decimals none = []
 decimals (point ds) = ds
 
--- Exactly k digits: "decimals past the fourth are dropped", and places that are not written hold zeros.
-abbrev pub exactly : ℕ → List ℕ → List ℕ
-exactly zero ds = []
-exactly (suc k) [] = 0 ∷ exactly k []
-exactly (suc k) (d ∷ ds) = d ∷ exactly k ds
-
--- "It is kept in ten-thousandths."
-abbrev pub magnitude : Numeral → ℕ
-magnitude n = worth (n .whole) * 10000 + worth (exactly 4 (decimals (n .fraction)))
-
 abbrev pub signed : Sign → ℕ → ℤ
 signed bare m = pos m
 signed plus m = pos m
@@ -81,8 +73,19 @@ some (d ∷ ds) = true
 abbrev pub inRange : ℤ → Bool
 inRange v = leZ (least16 *ℤ pos 10000) v && leZ v (most16 *ℤ pos 10000 +ℤ pos 9999)
 
+-- 10^k
+abbrev pub ten : ℕ → ℕ
+ten zero = 1
+ten (suc k) = 10 * ten k
+
+-- "A number shall be the nearest ten-thousandth, a half going to the larger number" (document 02, CR 2): of all its digits × 10,000, over 10^decimals.
+abbrev pub nearest : Numeral → ℤ
+nearest n =
+    let ds : List ℕ = decimals (n .fraction) in
+    nearestDiv (signed (n .sign) (worth (n .whole ++ ds) * 10000)) (pos (ten (length ds)))
+
 unfoldable pub valueOf : Numeral → Value
 valueOf n =
     cond (some (n .whole ++ decimals (n .fraction)))
-    (cond (inRange (signed (n .sign) (magnitude n))) (Good (signed (n .sign) (magnitude n))) Bad)
+    (cond (inRange (nearest n)) (Good (nearest n)) Bad)
     Bad

@@ -1,4 +1,3 @@
--- Groundwork for document 02, CR 2 ("A number shall be the nearest ten-thousandth"): nothing uses it yet, and decimals past the fourth are dropped (Number.antt).
 -- Decimals past the fourth, however many: where they stand against a half of the fourth, one digit after the other, and that rounding by it gives the nearest
 -- ten-thousandth of the whole text, "a half going to the larger number".
 -- Why: with v what they are worth and 10^k, a digit more makes them 10 v + d and 10^(k+1), and of 2 v against 10^k only a half so far can still change.
@@ -16,42 +15,40 @@ use Rattle.exact.specs.Whole.{Z, ord}
 use Rattle.exact.specs.Laws.{neg-*ℤ}
 use Rattle.exact.specs.Divide.{nearestDiv}
 use Rattle.exact.specs.Nearest.{nearest-only, nearest-times}
-use Rattle.numerals.specs.Number.{signedOf}
-use Rattle.numerals.specs.Numeral.{Digits, worth, worthFrom, exactly}
+use Rattle.numerals.specs.Number.{places, pastOf, signedOf, carryOf}
+use Rattle.numerals.specs.Numeral.{Digits, worth, worthFrom, ten}
 
--- 10^k
-abbrev pub ten : ℕ → ℕ
-ten zero = 1
-ten (suc k) = 10 * ten k
+-- Exactly k digits: places that are not written hold zeros.
+abbrev pub exactly : ℕ → List ℕ → List ℕ
+exactly zero ds = []
+exactly (suc k) [] = 0 ∷ exactly k []
+exactly (suc k) (d ∷ ds) = d ∷ exactly k ds
 
--- ---- the tail: 0 none yet, 1 below a half, 2 a half so far, 3 above
-
-unfoldable pub tailOf : ℕ → ℕ → ℕ
-tailOf t d = cond (eqb t 0) (cond (ltb d 5) 1 (cond (eqb d 5) 2 3)) (cond (eqb t 2) (cond (eqb d 0) 2 3) t)
+-- ---- where the decimals past the fourth stand
 
 unfoldable pub tailFrom : ℕ → List ℕ → ℕ
 tailFrom t [] = t
-tailFrom t (d ∷ ds) = tailFrom (tailOf t d) ds
+tailFrom t (d ∷ ds) = tailFrom (pastOf t d) ds
 
 -- v / 10^k against a half
 pub data Stands (v k : ℕ) : ℕ → Type 0 where
-  none : v ≡ 0 → k ≡ 0 → Stands v k 0
-  below : 2 * v + 2 ≤ ten k → Stands v k 1
-  equal : 2 * v ≡ ten k → Stands v k 2
-  above : ten k < 2 * v → Stands v k 3
+  none : v ≡ 0 → k ≡ 0 → Stands v k 4
+  below : 2 * v + 2 ≤ ten k → Stands v k 5
+  equal : 2 * v ≡ ten k → Stands v k 6
+  above : ten k < 2 * v → Stands v k 7
 
-step : (v k t d : ℕ) → d < 10 → Stands v k t → Stands (v * 10 + d) (suc k) (tailOf t d)
-unfolding tailOf
+step : (v k t d : ℕ) → d < 10 → Stands v k t → Stands (v * 10 + d) (suc k) (pastOf t d)
+unfolding pastOf
 step v k t d h (none e f) = go (ltb d 5) (eqb d 5) refl refl
   where
-    go : (a b : Bool) → ltb d 5 ≡ a → eqb d 5 ≡ b → Stands (v * 10 + d) (suc k) (cond a 1 (cond b 2 3))
+    go : (a b : Bool) → ltb d 5 ≡ a → eqb d 5 ≡ b → Stands (v * 10 + d) (suc k) (cond a 5 (cond b 6 7))
     go true b p q = let l = ltb-true d 5 p in let z = ap ten f in below (omega (arith, l, e, z))
     go false true p q = let l = eqb-true d 5 q in let z = ap ten f in equal (omega (arith, l, e, z))
     go false false p q = let l = ltb-false d 5 p in let n = eqb-false d 5 q in let z = ap ten f in above (omega (arith, l, n, e, z))
 step v k t d h (below l) = below (omega (arith, l, h))
 step v k t d h (equal e) = go (eqb d 0) refl
   where
-    go : (a : Bool) → eqb d 0 ≡ a → Stands (v * 10 + d) (suc k) (cond a 2 3)
+    go : (a : Bool) → eqb d 0 ≡ a → Stands (v * 10 + d) (suc k) (cond a 6 7)
     go true p = let z = eqb-true d 0 p in equal (omega (arith, z, e))
     go false p = let z = eqb-false d 0 p in above (omega (arith, z, e))
 step v k t d h (above l) = above (omega (arith, l))
@@ -62,13 +59,9 @@ unfolding tailFrom
 tail-stands v k t [] h s = let e : k ≡ k + 0 = omega arith in subst (λ (j : ℕ). Stands v j t) e s
 tail-stands v k t (d ∷ ds) h s =
     let e : suc k + length ds ≡ k + suc (length ds) = omega arith in
-    subst (λ (j : ℕ). Stands (worthFrom (v * 10 + d) ds) j (tailFrom (tailOf t d) ds)) e (tail-stands (v * 10 + d) (suc k) (tailOf t d) ds (h .1) (step v k t d (h .0) s))
+    subst (λ (j : ℕ). Stands (worthFrom (v * 10 + d) ds) j (tailFrom (pastOf t d) ds)) e (tail-stands (v * 10 + d) (suc k) (pastOf t d) ds (h .1) (step v k t d (h .0) s))
 
 -- ---- rounding by the tail
-
--- one ten-thousandth more of the magnitude: above a half; and for a half itself, where more is the larger number
-unfoldable pub carryOf : Bool → ℕ → ℕ
-carryOf negative t = cond (eqb t 3) 1 (cond (eqb t 2) (cond negative 0 1) 0)
 
 ten-pos : (k : ℕ) → 1 ≤ ten k
 ten-pos zero = omega arith
@@ -138,7 +131,7 @@ module _ (negative : Bool) (w : ℕ) where
   short m ds e = sharp negative m (ten (length ds)) (ten-pos (length ds)) ∙ ap (λ (n : ℕ). nearestDiv (signedOf negative n) (pos (ten (length ds)))) (sym e)
 
   long : (a b c d : ℕ) (ds : List ℕ) → Digits ds →
-      Nearest ((((w * 10 + a) * 10 + b) * 10 + c) * 10 + d + carryOf negative (tailFrom 0 ds)) (a ∷ b ∷ c ∷ d ∷ ds)
+      Nearest ((((w * 10 + a) * 10 + b) * 10 + c) * 10 + d + carryOf negative (tailFrom places ds)) (a ∷ b ∷ c ∷ d ∷ ds)
   long a b c d ds h =
       let m = (((w * 10 + a) * 10 + b) * 10 + c) * 10 + d in
       let p = ten (length ds) in
@@ -146,13 +139,13 @@ module _ (negative : Bool) (w : ℕ) where
       let n : (m * p + v) * 10000 ≡ worthFrom m ds * 10000 = omega (arith, spread m ds) in
       let q : p * 10000 ≡ 10 * (10 * (10 * (10 * p))) = omega arith in
       let k : 0 + length ds ≡ length ds = omega arith in
-      let t : Stands v (length ds) (tailFrom 0 ds) = subst (λ (j : ℕ). Stands v j (tailFrom 0 ds)) k (tail-stands 0 0 0 ds h (none refl refl)) in
-      tail-nearest negative m v (length ds) (tailFrom 0 ds) (worth-small ds h) t
+      let t : Stands v (length ds) (tailFrom places ds) = subst (λ (j : ℕ). Stands v j (tailFrom places ds)) k (tail-stands 0 0 places ds h (none refl refl)) in
+      tail-nearest negative m v (length ds) (tailFrom places ds) (worth-small ds h) t
       ∙ nearest-times (signedOf negative (m * p + v)) (pos p) (pos 10000) (λ e. omega (arith, ord, ten-pos (length ds), e)) (omega (arith, ord))
       ∙ (λ i. nearestDiv ((signed-times negative (m * p + v) 10000 ∙ ap (signedOf negative) n) i) (pos (q i)))
 
   -- for texts of any length: four places, and one more or not by the tail
-  pub text-nearest : (ds : List ℕ) → Digits ds → Nearest (w * 10000 + worth (exactly 4 ds) + carryOf negative (tailFrom 0 (drop 4 ds))) ds
+  pub text-nearest : (ds : List ℕ) → Digits ds → Nearest (w * 10000 + worth (exactly 4 ds) + carryOf negative (tailFrom places (drop 4 ds))) ds
   unfolding carryOf tailFrom
   text-nearest [] h = short _ [] (omega arith)
   text-nearest (a ∷ []) h = short _ (a ∷ []) (omega arith)
@@ -160,4 +153,4 @@ module _ (negative : Bool) (w : ℕ) where
   text-nearest (a ∷ b ∷ c ∷ []) h = short _ (a ∷ b ∷ c ∷ []) (omega arith)
   text-nearest (a ∷ b ∷ c ∷ d ∷ ds) h =
       let e : w * 10000 + ((((0 + a) * 10 + b) * 10 + c) * 10 + d) ≡ (((w * 10 + a) * 10 + b) * 10 + c) * 10 + d = omega arith in
-      ap (λ (n : ℕ). signedOf negative (n + carryOf negative (tailFrom 0 ds))) e ∙ long a b c d ds (h .1 .1 .1 .1)
+      ap (λ (n : ℕ). signedOf negative (n + carryOf negative (tailFrom places ds))) e ∙ long a b c d ds (h .1 .1 .1 .1)

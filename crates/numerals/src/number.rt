@@ -4,13 +4,19 @@ ghost use mathlib.Core.Bool.{true};
 ghost use Prim.Native.Nat.{_≤_, _<_};
 ghost use lib.ListN.{length, drop, getD};
 ghost use Rattle.numerals.specs.Bytes.{isDigit};
-ghost use Rattle.numerals.specs.Number.{bottom, startOf, pointOf, countedOf, digitOf, unitOf, tenThousandths, signedOf, largestOf, finishOf};
+ghost use Rattle.numerals.specs.Number.{bottom, pastOf, startOf, pointOf, countedOf, digitOf, unitOf, tenThousandths, signedOf, largestOf, carryOf, nearestOf, finishOf};
 ghost use Rattle.numerals.specs.Run.{runOf, countsWhole, scannedOf, minusLength, wholeAt, digitsFrom, numberAt};
 use super::bytes::is_at;
 use super::bytes::is_digit;
 
-// Decimals that are kept.
+// Decimals that are kept, and where those past them stand against a half of the last: below, a half so far, above.
 const PLACES: u8 = 4;
+
+const BELOW: u8 = 5;
+
+const HALF: u8 = 6;
+
+const ABOVE: u8 = 7;
 
 // The largest magnitudes, in ten-thousandths: 32767.9999, and 32768 below zero.
 const TOP: u64 = 327_679_999;
@@ -25,7 +31,7 @@ pub struct Number {
     // Whether it has a digit, and a point.
     pub filled: bool,
     pub pointed: bool,
-    // How many of its digits stand after the point, at most four.
+    // How many of its digits stand after the point, at most four; past them 5, 6 or 7, for what follows is below a half of the fourth, a half so far, or above.
     pub decimals: u8,
     // Its digits as one whole number, without the point. It stays once it is out of range.
     pub magnitude: u32,
@@ -65,6 +71,44 @@ fn unit(decimals: u8) -> u64
         return 10;
     }
     1
+}
+
+// One digit more past the fourth decimal.
+fn past(decimals: u8, digit: u8) -> u8
+    ensures { λ r. ⌜ r ≡ pastOf decimals digit ⌝ }
+{
+    if decimals == PLACES {
+        if digit < 5 {
+            return BELOW;
+        }
+        if digit == 5 {
+            return HALF;
+        }
+        return ABOVE;
+    }
+    if decimals == HALF {
+        if digit == 0 {
+            return HALF;
+        }
+        return ABOVE;
+    }
+    decimals
+}
+
+// What the decimals past the fourth add to the magnitude: a half goes to the larger number.
+fn carry(negative: bool, decimals: u8) -> u64
+    ensures { λ r. ⌜ r ≡ carryOf negative decimals ⌝ }
+{
+    if decimals == ABOVE {
+        return 1;
+    }
+    if decimals == HALF {
+        if negative {
+            return 0;
+        }
+        return 1;
+    }
+    0
 }
 
 // The largest magnitude on either side of zero.
@@ -235,7 +279,7 @@ impl Number {
         }
     }
 
-    // The number with one digit more. A decimal past the fourth is dropped.
+    // The number with one digit more.
     pub fn with_digit(self, digit: u8) -> Number
         ensures { λ r. ⌜ r ≡ digitOf self digit ⌝ }
     {
@@ -243,7 +287,7 @@ impl Number {
         let magnitude = self.magnitude;
         let pointed = self.pointed;
         if PLACES <= decimals {
-            return self.counted(decimals, magnitude);
+            return self.counted(past(decimals, digit), magnitude);
         }
         if PAST < magnitude {
             return self.counted(decimals, magnitude);
@@ -293,6 +337,15 @@ impl Number {
         (self.magnitude as u64) * unit(decimals)
     }
 
+    // The nearest to it, in ten-thousandths.
+    fn nearest(self) -> u64
+        ensures { λ r. ⌜ r ≡ nearestOf self ⌝ }
+    {
+        let negative = self.negative;
+        let decimals = self.decimals;
+        self.ten_thousandths() + carry(negative, decimals)
+    }
+
     // The value of a number that has ended; bad if it has no digit or is out of range.
     pub fn finish(self) -> Value
         ensures { λ r. ⌜ r ≡ finishOf self ⌝ }
@@ -300,7 +353,7 @@ impl Number {
         let negative = self.negative;
         let filled = self.filled;
         if filled {
-            let magnitude = self.ten_thousandths();
+            let magnitude = self.nearest();
             if magnitude <= largest(negative) {
                 return Value::Good(signed(negative, magnitude));
             }

@@ -8,7 +8,7 @@ use Rattle.reader.specs.declared.Event.{Event}
 use Rattle.reader.specs.declared.Event.the-variants.{Named, Pair, Ended, Refused}
 use Rattle.numerals.specs.Bytes.{lowClassOf, classOf}
 use Rattle.mnemonics.specs.Table.{IN, SC, SP, PU, PD, PA, PR, cellOf, namedOf, findFrom, findOf, countFits, takesPairs, hasRoom, isLabel}
-use Rattle.numerals.specs.Number.{startOf, pointOf, countedOf, digitOf, unitOf, tenThousandths, signedOf, largestOf, finishOf}
+use Rattle.numerals.specs.Number.{startOf, pointOf, countedOf, pastOf, digitOf, unitOf, tenThousandths, signedOf, largestOf, carryOf, nearestOf, finishOf}
 use Rattle.reader.specs.Reader.{noneOf, storedOf, pairOf, freshReader, goOnOf, quietOf, refuseOf, beginOf, openOf, withNumbers}
 use Rattle.reader.specs.Step.{foundOf, nameOf, keptOf, judgedOf, closedOf, endOf, completeOf, passedMode, endingOf, afterNumberOf, closeWith, closeOf, idleOf, firstOf, parametersOf, inNumberOf, passOverOf, labelOf, byMode, stepOf}
 use Rattle.reader.specs.Inside.{inside}
@@ -64,7 +64,9 @@ numbers =
     ∷ ("PA1..,0;" gives (Named PA at 2 ∷ Refused 3 at 5 ∷ []))
     ∷ ("PA000000000001,0;" gives (Named PA at 2 ∷ pair (pos 10000) (pos 0) at 17 ∷ []))
     ∷ ("PA999999999999,0;" gives (Named PA at 2 ∷ Refused 3 at 15 ∷ []))
-    ∷ ("PA-32768.00009,0;" gives (Named PA at 2 ∷ pair (negℤ (pos 327680000)) (pos 0) at 17 ∷ []))
+    ∷ ("PA-32768.00005,0;" gives (Named PA at 2 ∷ pair (negℤ (pos 327680000)) (pos 0) at 17 ∷ []))
+    ∷ ("PA-32768.000050001,0;" gives (Named PA at 2 ∷ Refused 3 at 19 ∷ []))
+    ∷ ("PA.00025,-.00005;" gives (Named PA at 2 ∷ pair (pos 3) (pos 0) at 17 ∷ []))
     ∷ ("PA32767.9999,-32768;" gives (Named PA at 2 ∷ pair (pos 327679999) (negℤ (pos 327680000)) at 20 ∷ []))
     ∷ ("PA32768,0;" gives (Named PA at 2 ∷ Refused 3 at 8 ∷ []))
     ∷ ("PR-32768.0001,0;" gives (Named PR at 2 ∷ Refused 3 at 14 ∷ []))
@@ -107,5 +109,5 @@ abbrev pub table : List Row
 table = names ++ numbers ++ counts ++ program
 
 pub examples : told table ≡ said table
-unfolding lowClassOf classOf cellOf namedOf findFrom findOf countFits takesPairs hasRoom startOf pointOf countedOf digitOf unitOf tenThousandths signedOf largestOf finishOf noneOf storedOf pairOf freshReader goOnOf quietOf refuseOf beginOf openOf withNumbers isLabel foundOf nameOf keptOf judgedOf closedOf endOf completeOf inside passedMode endingOf afterNumberOf closeWith closeOf idleOf firstOf parametersOf inNumberOf passOverOf labelOf byMode stepOf bytes tell tells reads
+unfolding lowClassOf classOf cellOf namedOf findFrom findOf countFits takesPairs hasRoom startOf pointOf countedOf pastOf digitOf unitOf tenThousandths signedOf largestOf carryOf nearestOf finishOf noneOf storedOf pairOf freshReader goOnOf quietOf refuseOf beginOf openOf withNumbers isLabel foundOf nameOf keptOf judgedOf closedOf endOf completeOf inside passedMode endingOf afterNumberOf closeWith closeOf idleOf firstOf parametersOf inNumberOf passOverOf labelOf byMode stepOf bytes tell tells reads
 examples = refl

@@ -42,7 +42,7 @@ module _ (op : ℕ) where
 
     kept : closedOf opened ≡ judgedOf opened (Good (l .value))
     unfolding closedOf
-    kept = rw (numeral-value (l .numeral), l .good) refl
+    kept = rw (numeral-value (l .numeral) (l .fraction), l .good) refl
 
     at-comma : stepOf opened (code ",") ≡ reader op (storedOf ns (l .value)) Parameters (readNumeral (l .numeral)) telling Nothing
     unfolding stepOf byMode classOf lowClassOf inNumberOf closeOf closeWith endingOf afterNumberOf inside judgedOf keptOf quietOf goOnOf withNumbers
@@ -109,11 +109,11 @@ module _ (op : ℕ) (listed : op < rows) (double : takesPairs op ≡ true) (fits
 
     x-kept : closedOf (reader op noneOf InNumber (readNumeral (p .x .numeral))) ≡ Kept half
     unfolding closedOf judgedOf keptOf noneOf
-    x-kept = rw (numeral-value (p .x .numeral), p .x .good) (simp (space 0 (lit< tt), double))
+    x-kept = rw (numeral-value (p .x .numeral) (p .x .fraction), p .x .good) (simp (space 0 (lit< tt), double))
 
     y-complete : closedOf (reader op half InNumber (readNumeral (p .y .numeral))) ≡ Complete (coordinates p)
     unfolding closedOf judgedOf keptOf noneOf storedOf pairOf
-    y-complete = rw (numeral-value (p .y .numeral), p .y .good) (simp (space 1 (lit< tt), double))
+    y-complete = rw (numeral-value (p .y .numeral) (p .y .fraction), p .y .good) (simp (space 1 (lit< tt), double))
 
     x-comma : stepOf (reader op noneOf InNumber (readNumeral (p .x .numeral))) (code ",") ≡ reader op half Parameters (readNumeral (p .x .numeral)) telling Nothing
     unfolding stepOf byMode classOf lowClassOf inNumberOf closeOf closeWith endingOf afterNumberOf inside quietOf goOnOf withNumbers

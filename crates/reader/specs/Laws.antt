@@ -27,7 +27,7 @@ use Rattle.reader.specs.CauseLaws.{step-caused}
 use Rattle.reader.specs.SizeLaws.{fresh-readable, step-sized, passed-over-readable}
 
 -- A number's text of any length, mark by mark, comes to the value that a person reads in it.
-pub number-law : (t : Numeral) → finishOf (readNumeral t) ≡ valueOf t
+pub number-law : (t : Numeral) → Digits (decimals (t .fraction)) → finishOf (readNumeral t) ≡ valueOf t
 number-law = numeral-value
 
 -- In an instruction with no number open, the bytes of a number's text open that number, and mean nothing yet.

@@ -25,10 +25,10 @@ use Rattle.reader.specs.declared.Mode.the-variants.{Idle, First, Paramet
 use Rattle.reader.specs.declared.Reader.{Reader}
 use Rattle.numerals.specs.Bytes.{case, lowClassOf, classOf}
 use Rattle.reader.specs.Inside.{inside}
-use Rattle.numerals.specs.Number.{places, bottom, startOf, pointOf, countedOf, digitOf, tenThousandths, signedOf, largestOf, finishOf}
+use Rattle.numerals.specs.Number.{places, pastOf, bottom, startOf, pointOf, countedOf, digitOf, signedOf, largestOf, nearestOf, finishOf}
 use Rattle.mnemonics.specs.Table.{rows, namedOf, findFrom, findOf, countFits, takesPairs, hasRoom, isLabel}
 use Rattle.reader.specs.Sizes.{Small, SmallMode, SmallNumber, Readable, SmallPair, SizedStep}
-use Rattle.numerals.specs.NumeralLaws.{largest-le}
+use Rattle.numerals.specs.NumeralLaws.{past-most, largest-le}
 use Rattle.reader.specs.Reader.{noneOf, storedOf, pairOf, freshReader, goOnOf, quietOf, refuseOf, beginOf, openOf, withNumbers}
 use Rattle.reader.specs.Step.{foundOf, nameOf, keptOf, judgedOf, closedOf, endOf, completeOf, passedMode, endingOf, afterNumberOf, closeWith, closeOf, idleOf, firstOf, parametersOf, inNumberOf, passOverOf, labelOf, byMode, stepOf, passedOver}
 
@@ -45,10 +45,10 @@ SmallValue Bad = Unit {0}
 
 finish-small : (n : Number) → SmallValue (finishOf n)
 unfolding finishOf SmallValue
-finish-small n = go (n .filled) (leb (tenThousandths n) (largestOf (n .negative))) refl
+finish-small n = go (n .filled) (leb (nearestOf n) (largestOf (n .negative))) refl
   where
-    go : (f t : Bool) → leb (tenThousandths n) (largestOf (n .negative)) ≡ t → SmallValue (cond f (cond t (Good (signedOf (n .negative) (tenThousandths n))) Bad) Bad)
-    go true true e = signed-small (n .negative) (tenThousandths n) (omega (arith, leb-true (tenThousandths n) (largestOf (n .negative)) e, largest-le (n .negative)))
+    go : (f t : Bool) → leb (nearestOf n) (largestOf (n .negative)) ≡ t → SmallValue (cond f (cond t (Good (signedOf (n .negative) (nearestOf n))) Bad) Bad)
+    go true true e = signed-small (n .negative) (nearestOf n) (omega (arith, leb-true (nearestOf n) (largestOf (n .negative)) e, largest-le (n .negative)))
     go true false e = tt
     go false t e = tt
 
@@ -227,8 +227,8 @@ digit-small n d h k = go (leb places (n .decimals)) (ltb bottom (n .magnitude)) 
     as-it-was = record { decimals = h .decimals; magnitude = h .magnitude }
 
     go : (s t u : Bool) → leb places (n .decimals) ≡ s → ltb bottom (n .magnitude) ≡ t →
-        SmallNumber (cond s (countedOf n (n .decimals) (n .magnitude)) (cond t (countedOf n (n .decimals) (n .magnitude)) (cond u (countedOf n (n .decimals + 1) (n .magnitude * 10 + d)) (countedOf n (n .decimals) (n .magnitude * 10 + d)))))
-    go true t u e f = as-it-was
+        SmallNumber (cond s (countedOf n (pastOf (n .decimals) d) (n .magnitude)) (cond t (countedOf n (n .decimals) (n .magnitude)) (cond u (countedOf n (n .decimals + 1) (n .magnitude * 10 + d)) (countedOf n (n .decimals) (n .magnitude * 10 + d)))))
+    go true t u e f = record { decimals = past-most (n .decimals) d (h .decimals); magnitude = h .magnitude }
     go false true u e f = as-it-was
     go false false true e f = record { decimals = omega (arith, leb-false places (n .decimals) e); magnitude = omega (arith, ltb-false bottom (n .magnitude) f) }
     go false false false e f = record { decimals = h .decimals; magnitude = omega (arith, ltb-false bottom (n .magnitude) f) }

@@ -13,7 +13,7 @@ use Rattle.reader.specs.declared.Mode.the-variants.{Idle, First, Paramet
 use Rattle.numerals.specs.declared.number.Number.{Number}
 use Rattle.reader.specs.declared.Reader.{Reader}
 use Rattle.reader.specs.declared.Step.{Step}
-use Rattle.numerals.specs.Number.{places, bottom}
+use Rattle.numerals.specs.Number.{above, bottom}
 use Rattle.reader.specs.Reader.{unknown, outOfRange}
 use Rattle.mnemonics.specs.Table.{rows, countFits}
 
@@ -47,7 +47,7 @@ SmallMode Label = Unit {0}
 
 -- A number as it is read: all its digits but the last are in range.
 pub record SmallNumber (n : Number) : Type 0 where
-  pub decimals : n .decimals ≤ places
+  pub decimals : n .decimals ≤ above
   pub magnitude : n .magnitude ≤ bottom * 10 + 9
 
 -- A reader as its calls leave it.

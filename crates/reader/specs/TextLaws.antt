@@ -16,7 +16,7 @@ use Rattle.reader.specs.declared.Mode.{Mode}
 use Rattle.reader.specs.declared.Mode.the-variants.{Idle, Parameters, InNumber, Label}
 use Rattle.reader.specs.declared.Reader.{Reader}
 use Rattle.numerals.specs.Bytes.{classOf, lowClassOf}
-use Rattle.numerals.specs.Number.{places, bottom, startOf, pointOf, countedOf, digitOf}
+use Rattle.numerals.specs.Number.{places, pastOf, bottom, startOf, pointOf, countedOf, digitOf}
 use Rattle.mnemonics.specs.Table.{isLabel}
 use Rattle.reader.specs.Reader.{unknown, labelEnd, goOnOf, quietOf, refuseOf, openOf}
 use Rattle.reader.specs.Step.{nameOf, idleOf, firstOf, parametersOf, inNumberOf, labelOf, byMode, stepOf}
@@ -43,7 +43,7 @@ pointed-digit : (n : Number) (d : ℕ) → digitOf n d .pointed ≡ n .pointed
 unfolding digitOf countedOf
 pointed-digit n d = go (leb places (n .decimals)) (ltb bottom (n .magnitude)) (n .pointed)
   where
-    go : (a b c : Bool) → cond a (countedOf n (n .decimals) (n .magnitude)) (cond b (countedOf n (n .decimals) (n .magnitude)) (cond c (countedOf n (n .decimals + 1) (n .magnitude * 10 + d)) (countedOf n (n .decimals) (n .magnitude * 10 + d)))) .pointed ≡ n .pointed
+    go : (a b c : Bool) → cond a (countedOf n (pastOf (n .decimals) d) (n .magnitude)) (cond b (countedOf n (n .decimals) (n .magnitude)) (cond c (countedOf n (n .decimals + 1) (n .magnitude * 10 + d)) (countedOf n (n .decimals) (n .magnitude * 10 + d)))) .pointed ≡ n .pointed
     go true b c = refl
     go false true c = refl
     go false false true = refl

@@ -89,7 +89,7 @@ fn number_sound(r: Row) -> bool
             a: 1,
             b: 1,
             c: 1,
-            d: 4,
+            d: 7,
             e: 3_276_800_009,
         },
     )

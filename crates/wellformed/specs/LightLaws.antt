@@ -78,7 +78,7 @@ numbers-light r e = light most _ r _ refl refl e
 
 number-light : (r : Row) → numberSound r ≡ true → LightRow most r
 unfolding numberSound
-number-light r e = light most (fiveOf 0 0 0 0 0) r (fiveOf 1 1 1 4 3276800009) refl refl e
+number-light r e = light most (fiveOf 0 0 0 0 0) r (fiveOf 1 1 1 7 3276800009) refl refl e
 
 limits-light : (r : Row) → limitsSound r ≡ true → LightRow most r
 unfolding limitsSound

@@ -63,7 +63,7 @@ numbersSound r =
     betweenOf (row (pos 0) (minus 327680000) (minus 327680000) (minus 327680000) (minus 327680000)) r (row (pos 4) (pos 327680000) (pos 327680000) (pos 327680000) (pos 327680000))
 
 unfoldable pub numberSound : Row → Bool
-numberSound r = betweenOf (fiveOf 0 0 0 0 0) r (fiveOf 1 1 1 4 3276800009)
+numberSound r = betweenOf (fiveOf 0 0 0 0 0) r (fiveOf 1 1 1 7 3276800009)
 
 unfoldable pub readerSound : Row → Row → Row → Bool
 readerSound place numbers number = placeSound place && (numbersSound numbers && numberSound number)

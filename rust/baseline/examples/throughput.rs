@@ -15,8 +15,8 @@ fn now(start: Instant) -> Duration {
         .map_or_else(|| start.elapsed(), Duration::from_nanos)
 }
 
-/// About `size` bytes of moves; some of them leave the limits if `reach` does.
-fn moves(size: usize, reach: i64, decimals: bool) -> Vec<u8> {
+/// About `size` bytes of moves with so many decimals; some leave the limits if `reach` does.
+fn moves(size: usize, reach: i64, decimals: usize) -> Vec<u8> {
     let mut text = b"IN;SP1;PA0,0;".to_vec();
     let mut seed = 88_172_645_463_325_252_u64;
     let mut next = || {
@@ -27,8 +27,10 @@ fn moves(size: usize, reach: i64, decimals: bool) -> Vec<u8> {
     };
     while text.len() < size {
         let (x, y) = (next() % (2 * reach + 1) - reach, next() % (2 * reach + 1) - reach);
-        if decimals {
-            text.extend(format!("PD{x}.{:02},{y}.{:02};", next() % 100, next() % 100).bytes());
+        if decimals > 0 {
+            let part = 10_i64.pow(decimals as u32);
+            let (u, v) = (next() % part, next() % part);
+            text.extend(format!("PD{x}.{u:0decimals$},{y}.{v:0decimals$};").bytes());
         } else {
             text.extend(format!("PD{x},{y};").bytes());
         }
@@ -71,9 +73,11 @@ fn feeds(machine: &mut Machine, text: &[u8]) -> (u64, i64) {
 
 fn main() {
     for (name, reach, decimals) in [
-        ("whole, inside", 6_999, false),
-        ("decimals, inside", 6_998, true),
-        ("whole, many clipped", 20_000, false),
+        ("whole, inside", 6_999, 0),
+        ("2 decimals, inside", 6_998, 2),
+        ("4 decimals, inside", 6_998, 4),
+        ("6 decimals, inside", 6_998, 6),
+        ("whole, many clipped", 20_000, 0),
     ] {
         let text = moves(20_000_000, reach, decimals);
         for (way, run) in [

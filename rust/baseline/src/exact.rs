@@ -251,7 +251,19 @@ fn counts(name: &[u8; 2]) -> Option<&'static [usize]> {
     })
 }
 
-/// The value of a number's text in ten-thousandths, if it has a digit and is in range.
+/// Whether the size of a number grows by a ten-thousandth when it becomes the nearest one: the
+/// decimals after the fourth, without zeros at their end, stand before, at or after 5 as words do
+/// in a dictionary. At 5 alone, a half, the larger number is further from zero only above it.
+fn rounds_away(tail: &[u8], negative: bool) -> bool {
+    let last = tail.iter().rposition(|&b| b != b'0').map_or(0, |at| at + 1);
+    match tail[..last].cmp(b"5") {
+        Ordering::Less => false,
+        Ordering::Equal => !negative,
+        Ordering::Greater => true,
+    }
+}
+
+/// The nearest ten-thousandth to a number's text, if it has a digit and that is in range.
 fn value(text: &[u8]) -> Option<i128> {
     let negative = text.first() == Some(&b'-');
     let unsigned: Vec<u8> = text.iter().copied().filter(|b| !matches!(b, b'+' | b'-')).collect();
@@ -265,8 +277,10 @@ fn value(text: &[u8]) -> Option<i128> {
     if whole.len() > 5 {
         return None;
     }
-    let decimals = decimals.iter().copied().chain(std::iter::repeat(b'0')).take(4);
-    let size = whole.into_iter().chain(decimals).fold(0, |sum, b| sum * 10 + i128::from(b - b'0'));
+    let (kept, tail) = decimals.split_at(decimals.len().min(4));
+    let kept = kept.iter().copied().chain(std::iter::repeat(b'0')).take(4);
+    let down = whole.into_iter().chain(kept).fold(0, |sum, b| sum * 10 + i128::from(b - b'0'));
+    let size = down + i128::from(rounds_away(tail, negative));
     let value = if negative { -size } else { size };
     (-327_680_000..=327_679_999).contains(&value).then_some(value)
 }

@@ -1,7 +1,8 @@
 //! An HP-GL machine for painting rink lines.
 //!
 //! This crate is a plain Rust implementation of document 01, the specification of the
-//! project, with the arcs of document 02 (change request 1), written from these texts alone.
+//! project, with change requests 1 (arcs) and 2 (the fifth decimal) of document 02, written from
+//! these texts alone.
 //! It serves two ends: a partner that another
 //! implementation is compared with byte by byte, and a baseline of speed.
 //!

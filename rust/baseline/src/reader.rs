@@ -181,10 +181,12 @@ pub struct Reader {
     negative: bool,
     point: bool,
     digit: bool,
-    /// Decimals kept, at most four.
+    /// Decimals kept, at most five.
     places: u8,
     whole: i32,
     decimals: i32,
+    /// A decimal after the kept ones is not 0.
+    beyond: bool,
     numbers: [i64; 4],
 }
 
@@ -208,6 +210,7 @@ impl Reader {
             places: 0,
             whole: 0,
             decimals: 0,
+            beyond: false,
             numbers: [0; 4],
         }
     }
@@ -356,6 +359,7 @@ impl Reader {
         self.places = 0;
         self.whole = i32::from(byte & 15) * i32::from(self.digit);
         self.decimals = 0;
+        self.beyond = false;
     }
 
     #[inline]
@@ -364,19 +368,45 @@ impl Reader {
         self.digit = true;
         if !self.point {
             self.whole = (self.whole * 10 + digit).min(WHOLE_CAP);
-        } else if self.places < 4 {
+        } else if self.places < 5 {
             self.decimals = self.decimals * 10 + digit;
             self.places += 1;
+        } else {
+            self.beyond |= digit != 0;
         }
     }
 
-    /// The open number in ten-thousandths, if it has a digit and is in range.
+    /// With the sign of the open number.
+    #[inline]
+    fn signed(&self, size: i64) -> i64 {
+        if self.negative {
+            -size
+        } else {
+            size
+        }
+    }
+
+    /// The nearest ten-thousandth to a number of five decimals or more, a half going to the larger
+    /// number. It is reckoned in millionths, one of which stands for all that follows the fifth
+    /// decimal: anything but zeros there moves the number off a half, and never as far as the next.
+    #[inline]
+    fn nearest(&self) -> i64 {
+        let size = i64::from(self.whole) * 1_000_000
+            + i64::from(self.decimals) * 10
+            + i64::from(self.beyond);
+        (self.signed(size) + 50).div_euclid(100)
+    }
+
+    /// The open number in ten-thousandths, if it has a digit and they are in range.
     #[inline]
     fn value(&self) -> Option<i64> {
         const TENS: [i64; 5] = [10_000, 1_000, 100, 10, 1];
-        let size = i64::from(self.whole) * 10_000
-            + i64::from(self.decimals) * TENS[usize::from(self.places)];
-        let value = if self.negative { -size } else { size };
+        let value = match TENS.get(usize::from(self.places)) {
+            Some(tens) => {
+                self.signed(i64::from(self.whole) * 10_000 + i64::from(self.decimals) * tens)
+            }
+            None => self.nearest(),
+        };
         (self.digit && (LEAST..=MOST).contains(&value)).then_some(value)
     }
 

@@ -1,64 +1,16 @@
 //! AA and AR (change request 1): the rows of `cr01.txt` and of `arcs.txt`, with the exact checker
 //! beside the machine.
-//!
-//! A row: hard limits unless they are the usual ones, the bytes, what they give, the look at the
-//! end, a note.
-//!
-//!     limits 0,0,10,10: `BYTES` -> EVENTS | loc(x,y) up|dn penN byN   (NOTE)
 
 #[allow(dead_code)]
 #[path = "../examples/outcomes.rs"]
 mod outcomes;
 mod pair;
+mod rows;
 
-use baseline::{Drawn, Look, Machine, Stroke};
-use outcomes::{events_text, Step, LIMITS};
+use baseline::{Drawn, Machine, Stroke};
+use outcomes::{Step, LIMITS};
 use pair::Pair;
-
-struct Row<'a> {
-    limits: [i64; 4],
-    bytes: &'a str,
-    events: &'a str,
-    look: &'a str,
-}
-
-fn rows(text: &str) -> Vec<Row<'_>> {
-    text.lines().filter(|line| !line.starts_with('#')).map(row).collect()
-}
-
-fn row(line: &str) -> Row<'_> {
-    let [before, bytes, after] = line.split('`').collect::<Vec<_>>()[..] else { panic!("{line}") };
-    let (outcome, _note) = after.split_once("   (").expect(line);
-    let (events, look) = outcome.trim_start_matches(" -> ").split_once('|').expect(line);
-    Row { limits: limits(before), bytes, events: events.trim(), look: look.trim() }
-}
-
-fn limits(text: &str) -> [i64; 4] {
-    let Some(values) = text.strip_prefix("limits ") else {
-        assert_eq!(text, "");
-        return LIMITS;
-    };
-    let values = values.trim_end_matches(": ").split(',').map(|value| value.parse().unwrap());
-    values.collect::<Vec<_>>().try_into().unwrap()
-}
-
-fn look_text(look: &Look) -> String {
-    let Look { x, y, pen, down, bytes } = look;
-    format!("loc({x},{y}) {} pen{pen} by{bytes}", if *down { "dn" } else { "up" })
-}
-
-/// Checks all rows; how many they are.
-fn check(text: &str) -> usize {
-    let rows = rows(text);
-    for row in &rows {
-        let mut pair = Pair::fresh(row.limits);
-        let steps: Vec<Step> = row.bytes.bytes().map(Step::Byte).collect();
-        let (events, _) = outcomes::run(&mut pair, &steps);
-        assert_eq!(events_text(&events).trim(), row.events, "{}", row.bytes);
-        assert_eq!(look_text(&pair.machine.look()), row.look, "{}", row.bytes);
-    }
-    rows.len()
-}
+use rows::check;
 
 #[test]
 fn agreed_outcomes() {

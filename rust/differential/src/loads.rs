@@ -30,9 +30,16 @@ pub struct Load {
 }
 
 /// Every load.
-pub const LOADS: [Load; 8] = [
+pub const LOADS: [Load; 9] = [
     Load { name: "pd", about: "PD moves", setup: "IN;SP1;", size: MOVES, part: pen_down },
     Load { name: "pu", about: "PU moves", setup: "IN;SP1;", size: MOVES, part: pen_up },
+    Load {
+        name: "decimals",
+        about: "PD moves of six decimals",
+        setup: "IN;SP1;",
+        size: MOVES,
+        part: six_decimals,
+    },
     Load {
         name: "relative",
         about: "relative chains under SC",
@@ -87,6 +94,12 @@ fn pen_down(dice: &mut Dice) -> String {
 
 fn pen_up(dice: &mut Dice) -> String {
     format!("PU{};", pair(dice))
+}
+
+/// A move as new packages write it.
+fn six_decimals(dice: &mut Dice) -> String {
+    let (x, y) = (dice.within(-9_999, 9_999), dice.within(-6_999, 6_999));
+    format!("PD{x}.{:06},{y}.{:06};", dice.below(1_000_000), dice.below(1_000_000))
 }
 
 /// Eight small moves from a place within the scale.

@@ -1,22 +1,40 @@
 //! Every answer of a library on fixed streams, as a line for each stream, so that two versions of
 //! it can be compared though no program can link both.
 //!
-//! The streams have no AA and no AR: whether a library knows arcs makes no difference to them.
+//! The streams are without what a change is about ([`Without`]): whether a library knows arcs, or
+//! rounds the fifth decimal, makes no difference to them.
 
 use crate::dice::Dice;
 use crate::partner::{Partner, Record};
 use crate::streams::{limits, Family};
 use baseline::{number, Drawn, Fed, Look};
 
-/// The families of which streams are recorded.
-pub const FAMILIES: [Family; 6] = [
-    Family::Drawings,
-    Family::Mutations,
-    Family::Bytes,
-    Family::Brims,
-    Family::Circles,
-    Family::Digits,
-];
+/// What the streams of a record are without.
+#[derive(Clone, Copy, PartialEq, Eq, Debug)]
+pub enum Without {
+    /// AA and AR are made names that are not known, and there are none of the two last families.
+    Arcs,
+    /// No number has more than four decimals.
+    FifthDecimals,
+}
+
+impl Without {
+    /// The families of which streams are recorded.
+    pub fn families(self) -> &'static [Family] {
+        match self {
+            Without::Arcs => &Family::ALL[..6],
+            Without::FifthDecimals => &Family::ALL,
+        }
+    }
+
+    /// The stream without that.
+    pub fn leave_out(self, stream: Vec<u8>) -> Vec<u8> {
+        match self {
+            Without::Arcs => without_arcs(stream),
+            Without::FifthDecimals => four_decimals(stream),
+        }
+    }
+}
 
 /// The bytes of each family.
 pub const BYTES: usize = 400_000;
@@ -29,6 +47,21 @@ pub fn without_arcs(mut stream: Vec<u8>) -> Vec<u8> {
             stream[at] = b'Z';
         }
     }
+    stream
+}
+
+/// The stream with at most four digits after each point.
+pub fn four_decimals(mut stream: Vec<u8>) -> Vec<u8> {
+    // Digits since the last point, while nothing else has come.
+    let mut decimals = None;
+    stream.retain(|byte| {
+        decimals = match (byte, decimals) {
+            (b'.', _) => Some(0),
+            (b'0'..=b'9', Some(before)) => Some(before + 1),
+            _ => None,
+        };
+        decimals.is_none_or(|count| count <= 4)
+    });
     stream
 }
 
@@ -119,11 +152,11 @@ fn line<P: Partner>(origin: &str, limits: [i64; 4], stream: &[u8]) -> String {
 }
 
 /// The streams of a family until `bytes` bytes are generated, each with its hard limits.
-pub fn recorded(family: Family, bytes: usize) -> Vec<([i64; 4], Vec<u8>)> {
+pub fn recorded(without: Without, family: Family, bytes: usize) -> Vec<([i64; 4], Vec<u8>)> {
     let mut dice = Dice::new(family as u64);
     let (mut streams, mut generated) = (Vec::new(), 0);
     while generated < bytes {
-        let stream = without_arcs(family.stream(&mut dice));
+        let stream = without.leave_out(family.stream(&mut dice));
         generated += stream.len();
         streams.push((limits(&mut dice), stream));
     }
@@ -131,8 +164,8 @@ pub fn recorded(family: Family, bytes: usize) -> Vec<([i64; 4], Vec<u8>)> {
 }
 
 /// The lines of a family.
-pub fn lines<P: Partner>(family: Family, bytes: usize) -> Vec<String> {
-    let numbered = recorded(family, bytes).into_iter().enumerate();
+pub fn lines<P: Partner>(without: Without, family: Family, bytes: usize) -> Vec<String> {
+    let numbered = recorded(without, family, bytes).into_iter().enumerate();
     numbered
         .map(|(at, (limits, stream))| line::<P>(&format!("{family:?} {at}"), limits, &stream))
         .collect()

@@ -19,6 +19,8 @@ pub enum Family {
     Digits,
     /// Arcs at every border of their numbers, under scales, turns and windows of all kinds.
     Arcs,
+    /// Numbers of five to thirty decimals, at ties and next to them, in every instruction.
+    Decimals,
 }
 
 /// Drawings of real writers (`crates/drawings/data`), to be changed.
@@ -59,7 +61,7 @@ const EDGES: [&str; 6] =
 
 impl Family {
     /// Every family.
-    pub const ALL: [Family; 7] = [
+    pub const ALL: [Family; 8] = [
         Family::Drawings,
         Family::Mutations,
         Family::Bytes,
@@ -67,18 +69,20 @@ impl Family {
         Family::Circles,
         Family::Digits,
         Family::Arcs,
+        Family::Decimals,
     ];
 
     /// How many of a hundred bytes are of this family.
     pub fn share(self) -> usize {
         match self {
-            Family::Drawings => 38,
+            Family::Drawings => 36,
             Family::Mutations => 20,
             Family::Bytes => 13,
             Family::Brims => 13,
             Family::Circles => 3,
-            Family::Digits => 9,
+            Family::Digits => 7,
             Family::Arcs => 4,
+            Family::Decimals => 4,
         }
     }
 
@@ -92,6 +96,7 @@ impl Family {
             Family::Circles => circles(dice).into_bytes(),
             Family::Digits => digits(dice),
             Family::Arcs => arcs(dice),
+            Family::Decimals => decimals(dice),
         }
     }
 }
@@ -578,4 +583,127 @@ fn half_way(dice: &mut Dice) -> String {
         "DF;IP{corners};PA{x},{y};SC{scale};AA{centre},{};",
         dice.pick(&["180", "90", "-90", "30"])
     )
+}
+
+/// Scales where a unit is a ten-thousandth, mirrored too, and others.
+const FINE_SCALES: [&str; 8] = [
+    "IP0,0,10000,10000;SC0,1,0,1;",
+    "IP0,0,10000,10000;SC0,1,0,1;",
+    "IP10000,10000,0,0;SC0,1,0,1;",
+    "IP0,0,10000,-10000;SC1,0,0,1;",
+    "IP0,0,20000,30000;SC0,1,0,1;",
+    "IP0,0,1,1;SC0,.0001,0,.0001;",
+    "RO90;IP0,0,10000,10000;SC0,1,0,1;",
+    "IN;SP1;PD;",
+];
+
+/// Four decimals next to which a tail decides, and the ends of the range.
+const FOURTHS: [&str; 10] =
+    ["0000", "0001", "0002", "0013", "4999", "5000", "4998", "9998", "9999", "1234"];
+const ENDS: [&str; 6] =
+    ["32767.9999", "32767.9998", "32768.0000", "-32768.0000", "-32768.0001", "-32767.9999"];
+
+/// A number whose tail decides what its instruction does: what stands before it, the number up to
+/// its fourth decimal, what stands after it.
+type Border = (&'static str, &'static str, &'static str);
+
+const BORDERS: [Border; 40] = [
+    ("SP", "8.4999", ";"),
+    ("SP", "-0.5000", ";"),
+    ("SP", "-0.5001", ";"),
+    ("SP", "2.4999", ";"),
+    ("RO", "89.4999", ";PD9,0;"),
+    ("RO", "90.4999", ";PD0,9;"),
+    ("RO", "0.4999", ";"),
+    ("RO", "-0.5000", ";PD9,9;"),
+    ("PM", "0.4999", ";PD9,9,0,9;PM2;EP;"),
+    ("PM", "-0.5000", ";PD9,9,0,9;PM2;EP;"),
+    ("PM0;PD9,9;PM", "0.4999", ";PD5,5,9,5;PM2;EP;"),
+    ("PM0;PD9,9;PM", "1.4999", ";PD5,5,9,5;PM2;EP;"),
+    ("PM0;PD9,9;PM", "2.4999", ";PM2;EP;"),
+    ("IP0,0,", "9.4999", ",7;SC0,1,0,1;PA1,1;"),
+    ("IP0,0,", "-9.5000", ",7;SC0,1,0,1;PA1,1;"),
+    ("IP0,0,", "32767.4999", ",9;SC0,1,0,1;PA1,1;"),
+    ("IP", "-32768.5000", ",0;SC0,1,0,1;PA0,0;"),
+    ("SC0,", "0.0000", ",0,1;PD0,1;"),
+    ("SC0,", "-0.0000", ",0,1;PD0,1;"),
+    ("SC0,1,", "0.9999", ",1;PD1,1;"),
+    ("SC-1,", "-1.0000", ",0,1;PD-1,1;"),
+    ("IW0,0,", "0.4999", ",9;PD0,0,9,9;IW;"),
+    ("IW", "-0.5000", ",-5,5,5;PD-9,0,9,0;IW;"),
+    ("IW0,", "-8.5000", ",9,9;PD9,9,9,-9;IW;"),
+    ("CI", "0.4999", ",90;"),
+    ("CI", "-9.0000", ",120;"),
+    ("CI9,", "0.4499", ";"),
+    ("CI9,", "120.0499", ";"),
+    ("CI9,", "59.9499", ";"),
+    ("EA", "0.4999", ",3;"),
+    ("EA3,", "-0.5000", ";"),
+    ("ER", "-0.5000", ",-3;"),
+    ("ER-2,", "0.4999", ";"),
+    ("PD9,0;AA0,0,", "0.0499", ",90;"),
+    ("PD9,0;AA0,0,", "-0.0500", ";"),
+    ("PD9,0;AA0,0,", "360.0499", ",90;"),
+    ("PD9,0;AA0,0,", "-360.0500", ",90;"),
+    ("AR9,0,90,", "0.4499", ";"),
+    ("AR9,0,90,", "120.0499", ";"),
+    ("AR", "0.4999", ",9,90,45;"),
+];
+
+/// What follows the fourth decimal: a half, next to a half, zeros, nines, any digits.
+fn tail(dice: &mut Dice) -> String {
+    let count = if dice.one_in(2) { dice.below(3) } else { dice.below(24) };
+    let (zeros, nines) = ("0".repeat(count), "9".repeat(count));
+    match dice.below(10) {
+        0 | 1 => format!("5{zeros}"),
+        2 => format!("5{zeros}1"),
+        3 => format!("5{zeros}{}00", 1 + dice.below(9)),
+        4 => format!("4{nines}"),
+        5 => format!("4{nines}0"),
+        6 => format!("{zeros}{}", 1 + dice.below(9)),
+        7 => format!("9{nines}"),
+        8 => dice.pick(&["4", "5", "6", "45", "49", "50", "51", "05", "54", "500005"]).to_string(),
+        _ => (0..=count).map(|_| char::from(b'0' + dice.below(10) as u8)).collect(),
+    }
+}
+
+/// A number of five to thirty decimals.
+fn fine_number(dice: &mut Dice) -> String {
+    let sign = dice.pick(&["", "", "-", "-", "+"]);
+    let reach = dice.pick(&[0, 0, 2, 90, 32_767]);
+    let whole = if dice.one_in(4) { String::new() } else { dice.within(0, reach).to_string() };
+    format!("{sign}{whole}.{}{}", dice.pick(&FOURTHS), tail(dice))
+}
+
+/// Moves of such numbers, now and then at the end of the range.
+fn fine_moves(dice: &mut Dice) -> String {
+    let name = dice.pick(&["PA", "PD", "PD", "PU", "PR", "PR"]);
+    let count = 2 * (1 + dice.below(3));
+    let mut list: Vec<String> = (0..count).map(|_| fine_number(dice)).collect();
+    if dice.one_in(4) {
+        list[dice.below(count)] = format!("{}{}", dice.pick(&ENDS), tail(dice));
+    }
+    format!("{name}{};", list.join(dice.pick(&[",", ",", " ", "\n", ", "])))
+}
+
+/// An instruction that one number's tail decides about.
+fn border(dice: &mut Dice) -> String {
+    let (before, number, after) = dice.pick(&BORDERS);
+    format!("{before}{number}{}{after}SP1;PD;", tail(dice))
+}
+
+fn decimals(dice: &mut Dice) -> Vec<u8> {
+    let mut text = "SP1;PD;".to_string();
+    for _ in 0..8 + dice.below(20) {
+        text += &match dice.below(8) {
+            0 => dice.pick(&FINE_SCALES).to_string(),
+            1..=3 => border(dice),
+            _ => fine_moves(dice),
+        };
+    }
+    let mut text = text.into_bytes();
+    if dice.one_in(6) {
+        (0..1 + dice.below(6)).for_each(|_| mutate(&mut text, dice));
+    }
+    text
 }

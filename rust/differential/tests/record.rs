@@ -1,8 +1,8 @@
-//! The record tells two versions of a library apart, and has no arcs.
+//! The record tells two versions of a library apart, and has no arcs, or no fifth decimal.
 
 use baseline::{number, Drawn, Fed, Look, Machine};
 use differential::partner::{Partner, Record};
-use differential::record::{lines, recorded, without_arcs, FAMILIES};
+use differential::record::{four_decimals, lines, recorded, without_arcs, Without};
 use differential::streams::Family;
 
 const BYTES: usize = 20_000;
@@ -10,8 +10,8 @@ const BYTES: usize = 20_000;
 #[test]
 fn no_arcs() {
     assert_eq!(without_arcs(b"AA0,0,90;PAAR1;aarPR;A;R".to_vec()), b"AZ0,0,90;PAZR1;aZrPR;A;R");
-    for family in FAMILIES {
-        let streams = recorded(family, BYTES);
+    for &family in Without::Arcs.families() {
+        let streams = recorded(Without::Arcs, family, BYTES);
         assert!(streams.iter().map(|(_, stream)| stream.len()).sum::<usize>() >= BYTES);
         for (_, stream) in streams {
             let text = stream.to_ascii_uppercase();
@@ -20,12 +20,42 @@ fn no_arcs() {
     }
 }
 
-/// The proved library and the baseline have the same lines.
 #[test]
-fn same_lines() {
-    for family in FAMILIES {
-        assert_eq!(lines::<vutaroi::Machine>(family, BYTES), lines::<Machine>(family, BYTES));
+fn no_fifth_decimal() {
+    let (long, short) =
+        (b"PA1.23456,-.00005;12345.6;.12345.67890", b"PA1.2345,-.0000;12345.6;.1234.6789");
+    assert_eq!(four_decimals(long.to_vec()), short);
+    let mut arcs = 0;
+    for &family in Without::FifthDecimals.families() {
+        let streams = recorded(Without::FifthDecimals, family, BYTES);
+        assert!(streams.iter().map(|(_, stream)| stream.len()).sum::<usize>() >= BYTES);
+        for (_, stream) in streams {
+            let mut decimals = stream.split(|&byte| byte == b'.').skip(1);
+            assert!(
+                decimals.all(|text| text.iter().take_while(|b| b.is_ascii_digit()).count() <= 4)
+            );
+            arcs += stream.windows(2).filter(|name| name == b"AA" || name == b"AR").count();
+        }
     }
+    assert!(arcs > 100, "{arcs}");
+}
+
+/// The proved library and the baseline have the same lines.
+fn same_lines(without: Without) {
+    for &family in without.families() {
+        let due = lines::<Machine>(without, family, BYTES);
+        assert_eq!(lines::<vutaroi::Machine>(without, family, BYTES), due);
+    }
+}
+
+#[test]
+fn same_lines_without_arcs() {
+    same_lines(Without::Arcs);
+}
+
+#[test]
+fn same_lines_without_fifth_decimals() {
+    same_lines(Without::FifthDecimals);
 }
 
 /// The baseline with one answer changed.
@@ -72,13 +102,13 @@ impl<const CALL: u8> Partner for Changed<CALL> {
 /// Each call, changed by itself, changes lines; none changed, none.
 #[test]
 fn a_change_is_seen() {
-    let (family, bytes) = (Family::Circles, 4 * BYTES);
-    let due = lines::<Machine>(family, bytes);
-    assert_ne!(lines::<Changed<0>>(family, bytes), due);
-    assert_ne!(lines::<Changed<1>>(family, bytes), due);
-    assert_ne!(lines::<Changed<2>>(family, bytes), due);
-    assert_ne!(lines::<Changed<3>>(family, bytes), due);
-    assert_ne!(lines::<Changed<4>>(family, bytes), due);
-    assert_ne!(lines::<Changed<5>>(family, bytes), due);
-    assert_eq!(lines::<Changed<6>>(family, bytes), due);
+    let (without, family, bytes) = (Without::FifthDecimals, Family::Circles, 4 * BYTES);
+    let due = lines::<Machine>(without, family, bytes);
+    assert_ne!(lines::<Changed<0>>(without, family, bytes), due);
+    assert_ne!(lines::<Changed<1>>(without, family, bytes), due);
+    assert_ne!(lines::<Changed<2>>(without, family, bytes), due);
+    assert_ne!(lines::<Changed<3>>(without, family, bytes), due);
+    assert_ne!(lines::<Changed<4>>(without, family, bytes), due);
+    assert_ne!(lines::<Changed<5>>(without, family, bytes), due);
+    assert_eq!(lines::<Changed<6>>(without, family, bytes), due);
 }

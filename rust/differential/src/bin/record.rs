@@ -1,20 +1,22 @@
 //! Nothing else changes: the answers of the library before a change and after it.
 //!
 //! `record` writes a line for each stream with sums over all answers of the linked library;
-//! `record FILE` compares them with the lines that another build wrote.
+//! `record FILE` compares them with the lines that another build wrote. The streams have no arcs;
+//! with `--four-decimals` before FILE they have, and no number of more than four decimals.
 
-use differential::record::{lines, BYTES, FAMILIES};
+use differential::record::{lines, Without, BYTES};
 use std::process::ExitCode;
 use vutaroi::Machine;
 
-fn all() -> Vec<String> {
-    FAMILIES.iter().flat_map(|&family| lines::<Machine>(family, BYTES)).collect()
+fn all(without: Without) -> Vec<String> {
+    let families = without.families().iter();
+    families.flat_map(|&family| lines::<Machine>(without, family, BYTES)).collect()
 }
 
 /// Compares the lines; the first that differs is told.
-fn compare(file: &str) -> Result<usize, String> {
+fn compare(without: Without, file: &str) -> Result<usize, String> {
     let text = std::fs::read_to_string(file).map_err(|error| format!("{file}: {error}"))?;
-    let (before, after): (Vec<&str>, _) = (text.lines().collect(), all());
+    let (before, after): (Vec<&str>, _) = (text.lines().collect(), all(without));
     if let Some((old, new)) = before.iter().zip(&after).find(|(old, new)| old != new) {
         return Err(format!("the answers differ:\nbefore {old}\nafter  {new}"));
     }
@@ -25,11 +27,15 @@ fn compare(file: &str) -> Result<usize, String> {
 }
 
 fn main() -> ExitCode {
-    let Some(file) = std::env::args().nth(1) else {
-        all().iter().for_each(|line| println!("{line}"));
+    let mut arguments: Vec<String> = std::env::args().skip(1).collect();
+    let four_decimals = arguments.first().is_some_and(|word| word == "--four-decimals");
+    let without = if four_decimals { Without::FifthDecimals } else { Without::Arcs };
+    arguments.drain(..usize::from(four_decimals));
+    let Some(file) = arguments.first() else {
+        all(without).iter().for_each(|line| println!("{line}"));
         return ExitCode::SUCCESS;
     };
-    match compare(&file) {
+    match compare(without, file) {
         Ok(streams) => {
             println!("{streams} streams, no answer differs");
             ExitCode::SUCCESS

@@ -7,8 +7,8 @@ use borrow.Author.Needs.{needs}
 use Rattle.numerals.proofs.number.Number.finish.Statement.{statement}
 use Rattle.numerals.proofs.number.Number.finish.Tie as tie
 
-ten-thousandths-requires : tie.Need-ten-thousandths-requires
-ten-thousandths-requires c κs = search needs
+nearest-requires : tie.Need-nearest-requires
+nearest-requires c κs = search needs
 
 largest-requires : tie.Need-largest-requires
 largest-requires c κs = search needs
@@ -18,11 +18,11 @@ signed-requires c κs = omega (arith, c .before .largest .ensures, largest-le (c
 
 returns : tie.Need-returns
 unfolding finishOf
-returns c = search (rules, ← c .signed .ensures, ← c .before .before .largest .ensures, ← c .before .before .before .ten-thousandths .ensures, c .before .before .before .before .if1 .taken)
+returns c = search (rules, ← c .signed .ensures, ← c .before .before .largest .ensures, ← c .before .before .before .nearest .ensures, c .before .before .before .before .if1 .taken)
 
 returns-2 : tie.Need-returns-2
 unfolding finishOf
-returns-2 c = search (rules, ← c .before .largest .ensures, ← c .before .before .ten-thousandths .ensures, c .before .before .before .if1 .taken)
+returns-2 c = search (rules, ← c .before .largest .ensures, ← c .before .before .nearest .ensures, c .before .before .before .if1 .taken)
 
 returns-3 : tie.Need-returns-3
 unfolding finishOf
@@ -32,7 +32,7 @@ pub finish-spec : {M : Type 1} → statement M
 finish-spec =
     tie.close
     (tie.spec
-    ten-thousandths-requires
+    nearest-requires
     largest-requires
     signed-requires
     returns

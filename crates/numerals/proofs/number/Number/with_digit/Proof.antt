@@ -5,12 +5,15 @@ use borrow.Author.Needs.{needs}
 use Rattle.numerals.proofs.number.Number.with_digit.Statement.{statement}
 use Rattle.numerals.proofs.number.Number.with_digit.Tie as tie
 
+past-requires : tie.Need-past-requires
+past-requires c κs = search needs
+
 counted-requires : tie.Need-counted-requires
 counted-requires c κs = search needs
 
 returns : tie.Need-returns
 unfolding digitOf
-returns c = search (rules, ← c .counted .ensures)
+returns c = search (rules, ← c .counted .ensures, ← c .before .past .ensures)
 
 counted-requires-2 : tie.Need-counted-requires-2
 counted-requires-2 c κs = search needs
@@ -52,6 +55,7 @@ pub with-digit-spec : {M : Type 1} → statement M
 with-digit-spec =
     tie.close
     (tie.spec
+    past-requires
     counted-requires
     returns
     counted-requires-2
