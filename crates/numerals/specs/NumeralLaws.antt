@@ -135,7 +135,7 @@ worth-grows v [] = le-refl v
 worth-grows v (d ∷ ds) = le-trans (omega arith) (worth-grows (v * 10 + d) ds)
 
 -- With a place free, or none, nothing is carried; past the fourth decimal the last one kept counts for one.
-no-carry : (s : Bool) (k : ℕ) → k ≤ places → carryOf s k ≡ 0
+pub no-carry : (s : Bool) (k : ℕ) → k ≤ places → carryOf s k ≡ 0
 unfolding carryOf
 no-carry s k h = simp (ne-eqb k 7 (λ e. omega arith), ne-eqb k 6 (λ e. omega arith))
 

@@ -343,7 +343,12 @@ impl Number {
     {
         let negative = self.negative;
         let decimals = self.decimals;
-        self.ten_thousandths() + carry(negative, decimals)
+        let kept = self.ten_thousandths();
+        // most numbers have no decimal past the fourth
+        if decimals <= PLACES {
+            return kept;
+        }
+        kept + carry(negative, decimals)
     }
 
     // The value of a number that has ended; bad if it has no digit or is out of range.

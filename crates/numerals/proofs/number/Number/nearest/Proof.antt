@@ -4,7 +4,7 @@ use native.Mathlib.Omega.{arith}
 use borrow.Author.Needs.{needs}
 use Rattle.exact.proofs.Rules.{rules}
 use Rattle.numerals.specs.Number.{tenThousandths, nearestOf}
-use Rattle.numerals.specs.NumeralLaws.{carry-small}
+use Rattle.numerals.specs.NumeralLaws.{no-carry, carry-small}
 use Rattle.numerals.proofs.Laws.{scaled-le}
 use Rattle.numerals.proofs.number.Number.nearest.Statement.{statement}
 use Rattle.numerals.proofs.number.Number.nearest.Tie as tie
@@ -18,13 +18,25 @@ carry-requires c κs = search needs
 add-result : tie.Need-add-result
 unfolding tenThousandths
 add-result c =
-    let n = c .before .before .args .self in
+    let s : tie.Start = search in
+    let t : tie.After-ten-thousandths = search in
+    let n = s .args .self in
     let m : n .magnitude < 2 ^ 32 = omega arith in
-    record { fits = omega (arith, c .carry .ensures, c .before .ten-thousandths .ensures, scaled-le (n .decimals) m, carry-small (n .negative) (n .decimals)) }
+    record { fits = omega (arith, c .carry .ensures, t .ten-thousandths .ensures, scaled-le (n .decimals) m, carry-small (n .negative) (n .decimals)) }
 
+-- no decimal past the fourth
 returns : tie.Need-returns
 unfolding nearestOf
-returns c = search (rules, ← c .carry .ensures, ← c .before .ten-thousandths .ensures)
+returns c =
+    let s : tie.Start = search in
+    let n = s .args .self in
+    search (rules, ← c .before .ten-thousandths .ensures, no-carry (n .negative) (n .decimals) (c .if1 .taken))
+
+returns-2 : tie.Need-returns-2
+unfolding nearestOf
+returns-2 c =
+    let t : tie.After-ten-thousandths = search in
+    search (rules, ← c .carry .ensures, ← t .ten-thousandths .ensures)
 
 pub nearest-spec : {M : Type 1} → statement M
-nearest-spec = tie.close (tie.spec ten-thousandths-requires carry-requires add-result returns)
+nearest-spec = tie.close (tie.spec ten-thousandths-requires returns carry-requires add-result returns-2)
