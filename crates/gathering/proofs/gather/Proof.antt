@@ -19,8 +19,10 @@ use Rattle.plane.specs.Bounds.{UnitRows}
 use Rattle.plane.specs.Turn.{rowsOf}
 use Rattle.plane.specs.TurnLaws.{rows-unit}
 use Rattle.sines.specs.Rules.{entries}
+use Rattle.reader.specs.declared.Coordinates.{Coordinates}
 use Rattle.reader.specs.declared.Reader.{Reader}
 use Rattle.reader.specs.declared.Event.{Event}
+use Rattle.reader.specs.declared.Event.the-variants as event
 use Rattle.reader.specs.declared.Next.{Next}
 use Rattle.reader.specs.declared.Step.{Step}
 use Rattle.reader.specs.Stream.{_telling_}
@@ -39,7 +41,7 @@ use Rattle.feeding.specs.DrawOff.{listFull}
 use Rattle.hpgl.specs.Pins.{pinned}
 use Rattle.feeding.specs.Plot.{Plot, refusal}
 use Rattle.hpgl.specs.Place.{limits}
-use Rattle.hpgl.specs.Rules.{longer, refuse, actOn}
+use Rattle.hpgl.specs.Rules.{longer, refuse, pairRule, actOn}
 use Rattle.hpgl.specs.Machine.{noEdge, waiting, stored, queued, readerAfter, drawAnswer}
 use Rattle.hpgl.specs.Segment.{segmentOf, drawnOf, segment-drawn, SmallSegment, segment-small}
 use Rattle.hpgl.specs.Valid.{ValidActed, ValidEvent, ValidAction}
@@ -48,6 +50,7 @@ use Rattle.hpgl.specs.ReaderKept.{step-event}
 use Rattle.hpgl.specs.ValidKept.{valid-event}
 use Rattle.rulekit.specs.declared.places.Frame.{Frame}
 use Rattle.rulekit.specs.declared.hand.Hand.{Hand}
+use Rattle.rulekit.specs.declared.hand.Pointed.{Pointed as Placed}
 use Rattle.queue.specs.Alone.{action-alone}
 use Rattle.queue.specs.First.{place-within}
 use Rattle.queue.specs.Corners.{segmentIn}
@@ -77,19 +80,10 @@ abbrev Loop : Type 0
 Loop = tie.At-loop Inv-loop μ-loop
 
 abbrev Going : Type 0
-Going = tie.Else2 Inv-loop μ-loop
+Going = tie.After-waiting Inv-loop μ-loop
 
 abbrev Waits : Type 0
-Waits = tie.Then3 Inv-loop μ-loop
-
-abbrev Idle : Type 0
-Idle = tie.Else3 Inv-loop μ-loop
-
-abbrev Batched : Type 0
-Batched = tie.Then4 Inv-loop μ-loop
-
-abbrev Alone : Type 0
-Alone = tie.Else4 Inv-loop μ-loop
+Waits = tie.After-batched Inv-loop μ-loop
 
 abbrev Read : Type 0
 Read = tie.After-next Inv-loop μ-loop
@@ -97,29 +91,11 @@ Read = tie.After-next Inv-loop μ-loop
 abbrev Pointed : Type 0
 Pointed = tie.After-point Inv-loop μ-loop
 
-abbrev Stored : Type 0
-Stored = tie.Then7 Inv-loop μ-loop
-
-abbrev First : Type 0
-First = tie.Then8 Inv-loop μ-loop
-
-abbrev Joined : Type 0
-Joined = tie.Else8 Inv-loop μ-loop
-
 abbrev Shifted : Type 0
 Shifted = tie.After-shift Inv-loop μ-loop
 
 abbrev Moved : Type 0
-Moved = tie.Then9 Inv-loop μ-loop
-
-abbrev Full : Type 0
-Full = tie.Then10 Inv-loop μ-loop
-
-abbrev Free : Type 0
-Free = tie.Else10 Inv-loop μ-loop
-
-abbrev Outlined : Type 0
-Outlined = tie.Then12 Inv-loop μ-loop
+Moved = tie.After-overflows Inv-loop μ-loop
 
 abbrev Ended : Type 0
 Ended = tie.After-end-rule Inv-loop μ-loop
@@ -128,20 +104,8 @@ Ended = tie.After-end-rule Inv-loop μ-loop
 abbrev Ruled : Type 0
 Ruled = tie.After-polygon2 Inv-loop μ-loop
 
-abbrev Refused : Type 0
-Refused = tie.Then13 Inv-loop μ-loop
-
 abbrev Passed : Type 0
 Passed = tie.After-passed-over Inv-loop μ-loop
-
-abbrev Accepted : Type 0
-Accepted = tie.Else13 Inv-loop μ-loop
-
-abbrev Unjoined : Type 0
-Unjoined = tie.At-match2-keys2 Inv-loop μ-loop
-
-abbrev Light : Type 0
-Light = tie.Else15 Inv-loop μ-loop
 
 -- where what is left is a refusal
 abbrev Met : Type 0
@@ -168,9 +132,6 @@ going e = search
 abbrev waits : Waits → Loop
 waits w = search
 
-abbrev idles : Idle → Loop
-idles e = search
-
 abbrev drawn : tie.After-drawn-of Inv-loop μ-loop → Waits
 drawn d = search
 
@@ -178,25 +139,16 @@ abbrev segmented : tie.After-segment Inv-loop μ-loop → Waits
 segmented g = search
 
 abbrev loop : Read → Loop
-loop q = idles (q .before)
+loop q = search
 
 abbrev pointing : Pointed → Read
 pointing p = search
 
-abbrev first-of : First → Stored
-first-of c = search
-
-abbrev joined-of : Joined → Stored
-joined-of n = search
-
 abbrev shifts : Shifted → Read
 shifts t = search
 
-abbrev full : Full → Moved
-full f = search
-
-abbrev unfilled : Free → Moved
-unfilled f = search
+abbrev moved : Moved → Shifted
+moved o = search
 
 abbrev ending : Ended → Read
 ending a = search
@@ -213,11 +165,8 @@ ended r = ended-of (hand-now r)
 abbrev read : Ruled → Read
 read r = ending (ended r)
 
-abbrev refusing : Refused → Ruled
-refusing c = search
-
-abbrev accepting : Accepted → Ruled
-accepting c = search
+abbrev refusing : Passed → Ruled
+refusing p = search
 
 abbrev met : Met → Read
 met j = j .before .before
@@ -251,27 +200,27 @@ again : (l : Loop) {numbers : List ℤ} {m : State} {at count : ℕ} → Goes l 
 again l {numbers} {m} {at} {count} f = subst (λ (p : Plot). Goes l p numbers m at count) (sym (as-handed l)) f
 
 -- where a byte is taken no segment waits, and there is one
-idle : (e : Idle) → waiting (idles e .loop .work) ≡ 0
-idle e = omega (arith, e .before .waiting .ensures, e .if3 .left)
+idle : (q : Read) → waiting (loop q .loop .work) ≡ 0
+idle q = let e : Going = search in omega (arith, e .waiting .ensures)
 
-more : (e : Idle) → idles e .loop .at < length (entry (idles e) .args .bytes .now)
-more e =
-    let t : tie.Then1 Inv-loop μ-loop = search in
-    byte-remains (idles e .loop .work) _ _ (sym (t .before .remains .ensures) ∙ t .if1 .taken) (idle e)
+more : (q : Read) → loop q .loop .at < length (entry (loop q) .args .bytes .now)
+more q =
+    let t : tie.After-remains Inv-loop μ-loop = search in
+    byte-remains (loop q .loop .work) _ _ (sym (t .remains .ensures) ∙ search) (idle q)
 
 waits-some : (w : Waits) → 0 < waiting (waits w .loop .work)
-waits-some w = omega (arith, w .before .waiting .ensures, w .if3 .taken)
+waits-some w = let e : Going = search in omega (arith, e .waiting .ensures)
 
 -- a record is free where a segment waits, and where a refusal may have to be stored
 free : (e : Going) → let l = going e in
     (waiting (l .loop .work) ≡ 0 → entry l .args .on ≡ true) → l .loop .count < length (entry l .args .numbers .now) / 5
-free e f = far-free (far (going e)) (e .before .halted .ensures) (omega (arith, e .if2 .left)) f
+free e f = let h : tie.After-halted Inv-loop μ-loop = search in far-free (far (going e)) (h .halted .ensures) (omega arith) f
 
 free-drawn : (w : Waits) → let l = waits w in l .loop .count < length (entry l .args .numbers .now) / 5
 free-drawn w = let e : Going = search in free e (λ z. absurd (omega (arith, z, waits-some w)))
 
-free-taken : (e : Idle) → let l = idles e in entry l .args .on ≡ true → l .loop .count < length (entry l .args .numbers .now) / 5
-free-taken e o = let n : Going = search in free n (λ z. o)
+free-taken : (q : Read) → let l = loop q in entry l .args .on ≡ true → l .loop .count < length (entry l .args .numbers .now) / 5
+free-taken q o = let e : Going = search in free e (λ z. o)
 
 -- ---- a draw
 
@@ -317,7 +266,7 @@ waited g =
     let p : tie.After-edge-place Inv-loop μ-loop = search in
     g .segment .ensures
     ∙ (λ i. segmentIn (l .loop .frame .rows) (getD (l .loop .store .edges) (p .edge-place .ensures i) noEdge) (l .loop .work) (l .loop .here) (l .loop .here))
-    ∙ alone-waits (here l) (l .loop .here) (rows l) (sym (p .before .before .batched .ensures) ∙ p .before .if4 .left)
+    ∙ alone-waits (here l) (l .loop .here) (rows l) (sym (segmented g .batched .ensures) ∙ search)
 
 drew : (d : tie.After-drawn-of Inv-loop μ-loop) → d .drawn-of .result ≡ drawAnswer (here (waits (drawn d)))
 drew d =
@@ -334,7 +283,7 @@ Reaches l n = let s = entry l .args in Reached (s .on) (All l) (s .bytes .now) (
 reached : (q : Read) → Reaches (loop q) (q .next .result)
 reached q =
     let l = loop q in
-    subst (Reaches l) (sym (q .next .ensures)) (far-next (free-taken (q .before)) (far l) (idle (q .before)) (more (q .before)))
+    subst (Reaches l) (sym (q .next .ensures)) (far-next (free-taken q) (far l) (idle q) (more q))
 
 abbrev told : Read → Event
 told q = q .next .result .event
@@ -379,24 +328,25 @@ quiet : (q : Read) {h : Hand} {e : Event} → told q ≡ e →
     Goes (loop q) (All (loop q)) (l .numbers) (whole (q .next .result .reader) (coreOf (l .settings) h (l .polygon)) (l .store) Nothing) (q .next .result .at) (l .count)
 quiet q {h} t acts =
     let l = loop q .loop in
-    next-kept (reached q) (coreOf (l .settings) h (l .polygon)) (acts ∙ ap (actOn (held q)) (sym t)) (free-taken (q .before))
+    next-kept (reached q) (coreOf (l .settings) h (l .polygon)) (acts ∙ ap (actOn (held q)) (sym t)) (free-taken q)
 
 -- a point of a polygon
-point-acts : (p : Pointed) → let q = pointing p in
-    let l = loop q .loop in
-    pointedOf (l .settings) (l .hand) (l .polygon) (p .point .result) ≡ actOn (held q) (told q)
+abbrev Points : Read → Placed → Type 0
+Points q t = let l = loop q .loop in pointedOf (l .settings) (l .hand) (l .polygon) t ≡ actOn (held q) (told q)
+
+pair-does : (q : Read) {n : Coordinates} {t : Acted} → told q ≡ event.Pair n → t ≡ pairRule (held q) n → t ≡ actOn (held q) (told q)
+pair-does q e f = let l = loop q .loop in pair-acts (l .settings) (l .hand) (l .polygon) _ f ∙ ap (actOn (held q)) (sym e)
+
+point-acts : (p : Pointed) → Points (pointing p) (p .point .result)
 point-acts p =
     let q = pointing p in
-    let e : tie.After-event2 Inv-loop μ-loop = search in
     let l = loop q .loop in
-    pair-acts (l .settings) (l .hand) (l .polygon) _ (p .point .ensures .0 (l .settings) (l .polygon) (l .inv .1) (p .before .if6 .taken) refl)
-    ∙ ap (actOn (held q)) (sym (e .event2 .given .1))
+    pair-does q (search) (p .point .ensures .0 (l .settings) (l .polygon) (l .inv .1) (search) refl)
 
-point-refused : (p : Pointed) → (p .point .result .number ≡ 0 → ⊥) → let q = pointing p in
-    let l = loop q .loop in
-    acting (l .settings) (l .hand) (l .polygon) Keep (p .point .result .number) ≡ actOn (held q) (told q)
+point-refused : (q : Read) (t : Placed) → (t .number ≡ 0 → ⊥) → Points q t → let l = loop q .loop in
+    acting (l .settings) (l .hand) (l .polygon) Keep (t .number) ≡ actOn (held q) (told q)
 unfolding pointedOf refuse
-point-refused p f = sym (rw (ne-eqb (p .point .result .number) 0 f) refl) ∙ point-acts p
+point-refused q t f e = sym (rw (ne-eqb (t .number) 0 f) refl) ∙ e
 
 -- where it is the first of a subpolygon, and where it ends an edge
 abbrev Longer : Pointed → Store → Type 0
@@ -406,24 +356,20 @@ Longer p st =
     let t = p .point .result in
     Goes (loop q) (All (loop q)) (l .numbers) (whole (q .next .result .reader) (coreOf (l .settings) (t .hand) (longer (l .polygon) (t .cost) (t .hand .position))) st Nothing) (q .next .result .at) (l .count)
 
-first : (c : First) → let p = first-of c .before in Longer p (loop (pointing p) .loop .store)
-first c =
-    let z = first-of c in
-    let p = z .before in
+first : (p : Pointed) → p .point .result .number ≡ 0 → let l = loop (pointing p) .loop in l .polygon .empty ≡ true → Longer p (l .store)
+first p z e =
     let q = pointing p in
     let l = loop q .loop in
-    next-first (reached q) (l .settings) (l .hand) (l .polygon) (p .point .result) refl (point-acts p) (z .if7 .taken) (free-taken (q .before)) (c .if8 .taken)
+    next-first (reached q) (l .settings) (l .hand) (l .polygon) (p .point .result) refl (point-acts p) z (free-taken q) e
 
 abbrev with-edge : Pointed → Store
 with-edge p = let l = loop (pointing p) .loop in record { edges = set (l .store .edges) (l .polygon .edges) (p .point .result .edge) }
 
-joins : (n : Joined) → let p = joined-of n .before in Longer p (with-edge p)
-joins n =
-    let z = joined-of n in
-    let p = z .before in
+joins : (p : Pointed) → p .point .result .number ≡ 0 → loop (pointing p) .loop .polygon .empty ≡ false → Longer p (with-edge p)
+joins p z e =
     let q = pointing p in
     let l = loop q .loop in
-    next-edge (reached q) (l .settings) (l .hand) (l .polygon) (p .point .result) refl (point-acts p) (z .if7 .taken) (free-taken (q .before)) (n .if8 .left) refl
+    next-edge (reached q) (l .settings) (l .hand) (l .polygon) (p .point .result) refl (point-acts p) z (free-taken q) e refl
 
 -- there is room for it
 longer-fits : (p : Pointed) {st : Store} → Longer p st → let g = loop (pointing p) .loop .polygon in
@@ -431,12 +377,12 @@ longer-fits : (p : Pointed) {st : Store} → Longer p st → let g = loop (point
 unfolding longer
 longer-fits p f = (f .valid .core .polygon .bytes, far (loop (pointing p)) .valid .core .polygon .edges)
 
-edge-fits : (n : Joined) → loop (pointing (joined-of n .before)) .loop .polygon .edges < mostEdges
+edge-fits : (p : Pointed) → p .point .result .number ≡ 0 → let g = loop (pointing p) .loop .polygon in g .empty ≡ false → g .edges < mostEdges
 unfolding longer
-edge-fits n =
-    let g = loop (pointing (joined-of n .before)) .loop .polygon in
-    let k : cond (g .empty) (g .edges) (g .edges + 1) ≡ g .edges + 1 = ap (λ (b : Bool). cond b (g .edges) (g .edges + 1)) (n .if8 .left) in
-    omega (arith, joins n .valid .core .polygon .edges, k)
+edge-fits p z e =
+    let g = loop (pointing p) .loop .polygon in
+    let k : cond (g .empty) (g .edges) (g .edges + 1) ≡ g .edges + 1 = ap (λ (b : Bool). cond b (g .edges) (g .edges + 1)) e in
+    omega (arith, joins p z e .valid .core .polygon .edges, k)
 
 -- and the loop goes on with it
 points-on : (p : Pointed) {st : Store} {g : Polygon} → let q = pointing p in
@@ -462,60 +408,52 @@ shift-is : (t : Shifted) → let q = shifts t in
 shift-is t =
     let q = shifts t in
     let l = loop q .loop in
-    let e : tie.After-event2 Inv-loop μ-loop = search in
-    pair-acts (l .settings) (l .hand) (l .polygon) _ (t .shift .ensures .0 (l .settings) (l .polygon) (l .inv .1) (t .before .if6 .left))
-    ∙ ap (actOn (held q)) (sym (e .event2 .given .1))
+    pair-does q (search) (t .shift .ensures .0 (l .settings) (l .polygon) (l .inv .1) (search))
 
-shift-acts : (m : Moved) → let t = m .before in
-    let q = shifts t in
+accepted : (o : Moved) → moved o .shift .result .number ≡ 0
+accepted o = search
+
+shift-acts : (t : Shifted) → t .shift .result .number ≡ 0 → let q = shifts t in
     let l = loop q .loop in
     let r = t .shift .result in
     doing (coreOf (l .settings) (r .hand) (l .polygon)) (r .segment) ≡ actOn (held q) (told q)
-shift-acts m =
-    let t = m .before in
+shift-acts t z =
     let l = loop (shifts t) .loop in
     let r = t .shift .result in
-    ap (λ (n : ℕ). acting (l .settings) (r .hand) (l .polygon) (lineOf (r .segment)) n) (sym (m .if9 .taken)) ∙ shift-is t
+    ap (λ (n : ℕ). acting (l .settings) (r .hand) (l .polygon) (lineOf (r .segment)) n) (sym z) ∙ shift-is t
 
-shift-refused : (t : Shifted) → (t .shift .result .number ≡ 0 → ⊥) → let q = shifts t in
+shift-refused : (q : Read) {n : Coordinates} {t : Acted} → told q ≡ event.Pair n → (t .number ≡ 0 → ⊥) → t ≡ pairRule (held q) n →
     let l = loop q .loop in
-    acting (l .settings) (l .hand) (l .polygon) Keep (t .shift .result .number) ≡ actOn (held q) (told q)
+    acting (l .settings) (l .hand) (l .polygon) Keep (t .number) ≡ actOn (held q) (told q)
 unfolding refuse
-shift-refused t f =
-    let q = shifts t in
-    let l = loop q .loop in
-    let e : tie.After-event2 Inv-loop μ-loop = search in
-    let same = t .shift .ensures .0 (l .settings) (l .polygon) (l .inv .1) (t .before .if6 .left) in
+shift-refused q e f same =
     let number = ap (λ (x : Acted). x .number) same in
-    pair-acts (l .settings) (l .hand) (l .polygon) _ (ap (refuse (held q)) number ∙ sym (pair-refused (held q) _ (λ z. f (number ∙ z))))
-    ∙ ap (actOn (held q)) (sym (e .event2 .given .1))
+    pair-does q e (ap (refuse (held q)) number ∙ sym (pair-refused (held q) _ (λ z. f (number ∙ z))))
 
 -- there is a record for its line
-has-record : (f : Free) → let t = unfilled f .before in
+has-record : (o : Moved) → o .overflows .result ≡ false → let t = moved o in
     let l = loop (shifts t) in
     overflowsOf (t .shift .result .segment) (l .loop .count) (length (entry l .args .numbers .now) / 5) ≡ false
-has-record f = sym (f .before .overflows .ensures) ∙ f .if10 .left
+has-record o e = sym (o .overflows .ensures) ∙ e
 
 -- its line waits where there is none
-abbrev line-waits : Full → Work
-line-waits f = let t = full f .before in let l = loop (shifts t) .loop in leaves (l .store .edges) (l .polygon .edges) (coreOf (l .settings) (t .shift .result .hand) (l .polygon)) (lineOf (t .shift .result .segment))
+abbrev line-waits : Shifted → Work
+line-waits t = let l = loop (shifts t) .loop in leaves (l .store .edges) (l .polygon .edges) (coreOf (l .settings) (t .shift .result .hand) (l .polygon)) (lineOf (t .shift .result .segment))
 
-stays : (f : Full) → let t = full f .before in
-    let q = shifts t in
+stays : (t : Shifted) → t .shift .result .number ≡ 0 → let q = shifts t in
     let l = loop q in
-    Goes l (All l) (l .loop .numbers) (whole (q .next .result .reader) (coreOf (l .loop .settings) (t .shift .result .hand) (l .loop .polygon)) (l .loop .store) (line-waits f)) (q .next .result .at) (l .loop .count)
-stays f =
-    let t = full f .before in
+    Goes l (All l) (l .loop .numbers) (whole (q .next .result .reader) (coreOf (l .loop .settings) (t .shift .result .hand) (l .loop .polygon)) (l .loop .store) (line-waits t)) (q .next .result .at) (l .loop .count)
+stays t z =
     let q = shifts t in
     let l = loop q .loop in
-    next-waits (reached q) (coreOf (l .settings) (t .shift .result .hand) (l .polygon)) (t .shift .result .segment) (shift-acts (full f)) (free-taken (q .before))
+    next-waits (reached q) (coreOf (l .settings) (t .shift .result .hand) (l .polygon)) (t .shift .result .segment) (shift-acts t z) (free-taken q)
 
-line-left : (k : tie.After-queued Inv-loop μ-loop) → let f : Full = search in k .queued .result ≡ line-waits f
+line-left : (k : tie.After-queued Inv-loop μ-loop) → let t : Shifted = search in k .queued .result ≡ line-waits t
 line-left k =
-    let f : Full = search in
+    let t : Shifted = search in
     let n : tie.After-line-of Inv-loop μ-loop = search in
-    let l = loop (shifts (full f .before)) .loop in
-    let c = coreOf (l .settings) (full f .before .shift .result .hand) (l .polygon) in
+    let l = loop (shifts t) .loop in
+    let c = coreOf (l .settings) (t .shift .result .hand) (l .polygon) in
     k .queued .ensures (c .settings .turn) (stored (l .store .edges) (l .polygon .edges) (n .line-of .result)) ∙ ap (leaves (l .store .edges) (l .polygon .edges) c) (n .line-of .ensures)
 
 -- ---- an instruction that ends
@@ -556,37 +494,33 @@ turn : (r : Ruled) {x : Reader} {k : Core} {st : Store} {w : Work} → let q = r
 turn r e k s w = record { step = reached (read r) .step; act = acts (ended r); reader = e; core = k; edges = s; work = w }
 
 -- carried out
-taken : (c : Accepted) {st : Store} {w : Work} → let r = accepting c in
-    let q = read r in
+taken : (r : Ruled) {st : Store} {w : Work} → did r .number ≡ 0 → let q = read r in
     let l = loop q in
     Edges r st → Waiting r w → Goes l (All l) (l .loop .numbers) (whole (q .next .result .reader) (core-now r) st w) (q .next .result .at) (l .loop .count)
-taken c s w =
-    let r = accepting c in
+taken r z s w =
     let q = read r in
-    let z : did r .number ≡ 0 = omega (arith, c .if13 .left) in
-    next-turned (reached q) (turn r (reader-on (q .next .result .reader) z) (core-is r) s w) z (free-taken (q .before))
+    next-turned (reached q) (turn r (reader-on (q .next .result .reader) z) (core-is r) s w) z (free-taken q)
 
-taken-less : (c : Accepted) {st : Store} {w : Work} → let r = accepting c in Edges r st → Waiting r w → less-by (read r) w
-taken-less c {st} {w} e f = less (read (accepting c)) w (waits-most w (taken c {st = st} {w = w} e f .valid .work))
+taken-less : (r : Ruled) {st : Store} {w : Work} → did r .number ≡ 0 → Edges r st → Waiting r w → less-by (read r) w
+taken-less r {st} {w} z e f = less (read r) w (waits-most w (taken r {st = st} {w = w} z e f .valid .work))
 
 -- refused: nothing is stored or queued
-refused : (c : Refused) → did (refusing c) .number ≡ 0 → ⊥
-refused c e = omega (arith, e, c .if13 .taken)
+refused : (p : Passed) → did (refusing p) .number ≡ 0 → ⊥
+refused p e = omega (arith, e)
 
-kept : (c : Refused) → did (refusing c) .action ≡ Keep
-kept c =
-    let a = ended (refusing c) in
-    subst (λ (t : Acted). (t .number ≡ 0 → ⊥) → t .action ≡ Keep) (sym (acts a)) (λ f. pinned (held (ending a)) (told (ending a)) .refused f .0) (refused c)
+kept : (p : Passed) → did (refusing p) .action ≡ Keep
+kept p =
+    let a = ended (refusing p) in
+    subst (λ (t : Acted). (t .number ≡ 0 → ⊥) → t .action ≡ Keep) (sym (acts a)) (λ f. pinned (held (ending a)) (told (ending a)) .refused f .0) (refused p)
 
-passed : (p : Passed) {k : Core} → let r = refusing (p .before) in
+passed : (p : Passed) {k : Core} → let r = refusing p in
     let q = read r in
     k ≡ did r .core → Turn (last q) (byte q) (q .next .result .reader telling told q) (did r) (whole (p .passed-over .result) k (loop q .loop .store) Nothing)
 unfolding stored queued
 passed p e =
-    let c = p .before in
-    let r = refusing c in
+    let r = refusing p in
     let l = loop (read r) .loop in
-    turn r (p .passed-over .ensures ∙ reader-off _ (refused c)) e (ap (stored (l .store .edges) (l .polygon .edges)) (sym (kept c))) (ap (leaves (l .store .edges) (l .polygon .edges) (did r .core)) (sym (kept c)))
+    turn r (p .passed-over .ensures ∙ reader-off _ (refused p)) e (ap (stored (l .store .edges) (l .polygon .edges)) (sym (kept p))) (ap (leaves (l .store .edges) (l .polygon .edges) (did r .core)) (sym (kept p)))
 
 -- an edge that is joined finds its place
 joins-edge : (a : tie.After-action Inv-loop μ-loop) → let r : Ruled = search in loop (read r) .loop .polygon .edges < mostEdges
@@ -606,12 +540,11 @@ unfolding queued
 joined-waits a = let r : Ruled = search in let l = loop (read r) .loop in ap (leaves (l .store .edges) (l .polygon .edges) (did r .core)) (sym (a .action .given .1))
 
 -- other actions leave the store
-same-edges : (h : Light) → let r : Ruled = search in Edges r (loop (read r) .loop .store)
-same-edges h =
+same-edges : (h : tie.After-heavy Inv-loop μ-loop) → h .heavy .result ≡ false → let r : Ruled = search in Edges r (loop (read r) .loop .store)
+same-edges h e =
     let r : Ruled = search in
-    let c : Unjoined = search in
     let l = loop (read r) .loop in
-    unstored (l .store .edges) (l .polygon .edges) (did r .action) (sym (h .before .heavy .ensures) ∙ h .if15 .left) (c .match2 .keys2)
+    unstored (l .store .edges) (l .polygon .edges) (did r .action) (sym (h .heavy .ensures) ∙ e) search
 
 -- ---- a refusal of a name, a pair or a byte
 
@@ -638,12 +571,10 @@ declines j =
     by j same (left .left) (unknown-acts (l .settings) (l .hand) (l .polygon) _ (name .ensures) (left .left) ∙ ap (actOn (held q)) (sym (event .given .1))))
     (⊎-elim
     (λ (arm, event, known, mode, point, left, same).
-    let p : Pointed = record { before = record { before = record { before = record { before = record { before = j .before; match = arm }; event2 = event }; known-told2 = known }; if6 = mode }; point = point } in
-    by j same (left .left) (point-refused p (left .left)))
+    by j same (left .left) (point-refused q (point .result) (left .left) (pair-does q (event .given .1) (point .ensures .0 (l .settings) (l .polygon) (l .inv .1) (mode .taken) refl))))
     (⊎-elim
     (λ (arm, event, known, mode, shift, left, same).
-    let t : Shifted = record { before = record { before = record { before = record { before = record { before = j .before; match = arm }; event2 = event }; known-told2 = known }; if6 = mode }; shift = shift } in
-    by j same (left .left) (shift-refused t (left .left)))
+    by j same (left .left) (shift-refused q (event .given .1) (left .left) (shift .ensures .0 (l .settings) (l .polygon) (l .inv .1) (mode .left))))
     (λ (arm, event, known, same).
     by j same (refusal-some (reached q) (event .given .1)) (refused-acts (l .settings) (l .hand) (l .polygon) _ ∙ ap (actOn (held q)) (sym (event .given .1))))))
     (j .match .came)
@@ -699,11 +630,11 @@ same-length c = let l : Loop = search in far l .long
 returns : tie.Need-returns Inv-loop μ-loop
 returns c =
     let l : Loop = search in
-    let o : tie.Then1 Inv-loop μ-loop = search in
-    let t : tie.Then2 Inv-loop μ-loop = search in
+    let o : tie.After-remains Inv-loop μ-loop = search in
+    let t : tie.After-halted Inv-loop μ-loop = search in
     let p : tie.After-core-of Inv-loop μ-loop = search in
-    let f = far-halted (far l) (sym (o .before .remains .ensures) ∙ o .if1 .taken) (t .before .halted .ensures) (omega (arith, t .if2 .taken)) in
-    let e = ap (λ (k : Core). stoppedAs (whole (l .loop .reader) k (l .loop .store) (l .loop .work)) (l .loop .at) (l .loop .count) (t .before .halted .result)) (p .core-of .ensures) in
+    let f = far-halted (far l) (sym (o .remains .ensures) ∙ search) (t .halted .ensures) (omega arith) in
+    let e = ap (λ (k : Core). stoppedAs (whole (l .loop .reader) k (l .loop .store) (l .loop .work)) (l .loop .at) (l .loop .count) (t .halted .result)) (p .core-of .ensures) in
     (c .gathered .ensures ∙ e ∙ f .0, f .1)
 
 slice-aggregate-batch : tie.Need-slice-aggregate-batch Inv-loop μ-loop
@@ -712,9 +643,8 @@ slice-aggregate-batch c = let w : Waits = search in sines-long (handed (waits w 
 batch-requires : tie.Need-batch-requires Inv-loop μ-loop
 batch-requires c κs =
     let w : Waits = search in
-    let b : Batched = search in
     let l = waits w in
-    (batching w, omega (arith, free-drawn w, ap (λ (n : ℕ). n / 5) (far l .long)), laid (handed (l .before)) .table .ensures, sym (b .before .batched .ensures) ∙ b .if4 .taken)
+    (batching w, omega (arith, free-drawn w, ap (λ (n : ℕ). n / 5) (far l .long)), laid (handed (l .before)) .table .ensures, sym (w .batched .ensures) ∙ search)
 
 loop-less : tie.Need-loop-less Inv-loop μ-loop
 loop-less c = let d : tie.After-batch Inv-loop μ-loop = search in omega (arith, d .batch .ensures .0)
@@ -781,7 +711,7 @@ loop-again-4 c =
     let h = l .loop .hand in
     let g = l .loop .polygon in
     let same = ap (λ (k : Carriage). k .position) (c .letters .ensures g) ∙ letters-position (carriageOf h g) _ in
-    let z = c .before .if5 .taken in (
+    let z : n .name-number .result ≡ 0 = search in (
       again l (quiet q (e .event .given .1) (ap (λ (k : ℕ). acting (l .loop .settings) (c .letters .result) g Keep k) (sym z) ∙ named-acts (l .loop .settings) h g _ (n .name-number .ensures) (c .letters .result) z (c .letters .ensures g))),
       l .loop .inv .1,
       l .loop .inv .2 ∙ ap (locationIn (l .loop .frame)) (sym same),
@@ -800,25 +730,25 @@ point-requires c κs =
     )
 
 longer-requires : tie.Need-longer-requires Inv-loop μ-loop
-longer-requires c κs = longer-fits (first-of c .before) (first c)
+longer-requires c κs = let p : Pointed = search in longer-fits p (first p (search) (search))
 
 loop-again-5 : tie.Need-loop-again-5 Inv-loop μ-loop
-loop-again-5 c = points-on (first-of (c .before) .before) (c .longer .ensures) (first (c .before))
+loop-again-5 c = let p : Pointed = search in points-on p (search) (first p (search) (search))
 
 cast-k : tie.Need-cast-k Inv-loop μ-loop
 cast-k c = let p : Pointed = search in omega (arith, far (loop (pointing p)) .valid .core .polygon .edges)
 
 mul-e-2 : tie.Need-mul-e-2 Inv-loop μ-loop
-mul-e-2 c = let n : Joined = search in record { fits = omega (arith, edge-fits n) }
+mul-e-2 c = let p : Pointed = search in record { fits = omega (arith, edge-fits p (search) (search)) }
 
 element-set-from-e : tie.Need-element-set-from-e Inv-loop μ-loop
-element-set-from-e c = let n : Joined = search in omega (arith, edge-fits n)
+element-set-from-e c = let p : Pointed = search in omega (arith, edge-fits p (search) (search))
 
 longer-requires-2 : tie.Need-longer-requires-2 Inv-loop μ-loop
-longer-requires-2 c κs = let n : Joined = search in longer-fits (joined-of n .before) (joins n)
+longer-requires-2 c κs = let p : Pointed = search in longer-fits p (joins p (search) (search))
 
 loop-again-6 : tie.Need-loop-again-6 Inv-loop μ-loop
-loop-again-6 c = let n : Joined = search in points-on (joined-of n .before) (c .longer2 .ensures) (joins n)
+loop-again-6 c = let p : Pointed = search in points-on p (search) (joins p (search) (search))
 
 shift-requires : tie.Need-shift-requires Inv-loop μ-loop
 shift-requires c κs =
@@ -832,55 +762,54 @@ shift-requires c κs =
 
 queued-requires : tie.Need-queued-requires Inv-loop μ-loop
 queued-requires c κs =
-    let f : Full = search in
-    let t = full f .before in
+    let o : Moved = search in
+    let t = moved o in
     let q = shifts t in
     let l = loop q .loop in
-    rw (c .line-of .ensures) (action-alone (l .polygon .edges) (lineOf (t .shift .result .segment)) (acts-valid q (shift-acts (full f)) .action))
+    rw (c .line-of .ensures) (action-alone (l .polygon .edges) (lineOf (t .shift .result .segment)) (acts-valid q (shift-acts t (accepted o)) .action))
 
 same-length-2 : tie.Need-same-length-2 Inv-loop μ-loop
-same-length-2 c = let f : Full = search in far (loop (shifts (full f .before))) .long
+same-length-2 c = let t : Shifted = search in far (loop (shifts t)) .long
 
 returns-2 : tie.Need-returns-2 Inv-loop μ-loop
 returns-2 c =
-    let f : Full = search in
+    let m : Moved = search in
     let k : tie.After-queued Inv-loop μ-loop = search in
     let o : tie.After-core-of2 Inv-loop μ-loop = search in
-    let t = full f .before in
+    let t = moved m in
     let q = shifts t in
     let l = loop q in
-    let h = overflow-waits (t .shift .result .segment) _ _ (l .loop .store .edges) (l .loop .polygon .edges) (coreOf (l .loop .settings) (t .shift .result .hand) (l .loop .polygon)) (sym (f .before .overflows .ensures) ∙ f .if10 .taken) in
-    let g = far-filled (stays f) (h .0) (h .1) in
+    let h = overflow-waits (t .shift .result .segment) _ _ (l .loop .store .edges) (l .loop .polygon .edges) (coreOf (l .loop .settings) (t .shift .result .hand) (l .loop .polygon)) (sym (m .overflows .ensures) ∙ search) in
+    let g = far-filled (stays t (accepted m)) (h .0) (h .1) in
     (c .gathered2 .ensures ∙ (λ i. stoppedAs (whole (q .next .result .reader) (o .core-of2 .ensures i) (l .loop .store) (line-left k i)) (q .next .result .at) (l .loop .count) listFull) ∙ g .0, g .1)
 
 drawn-of-requires-2 : tie.Need-drawn-of-requires-2 Inv-loop μ-loop
 drawn-of-requires-2 c κs =
-    let m : Moved = search in
-    let t = m .before in
+    let o : Moved = search in
+    let t = moved o in
     let q = shifts t in
     let l = loop q in
-    (limits-fit l, next-small (reached q) (coreOf (l .loop .settings) (t .shift .result .hand) (l .loop .polygon)) (t .shift .result .segment) (shift-acts m))
+    (limits-fit l, next-small (reached q) (coreOf (l .loop .settings) (t .shift .result .hand) (l .loop .polygon)) (t .shift .result .segment) (shift-acts t (accepted o)))
 
 put-requires-2 : tie.Need-put-requires-2 Inv-loop μ-loop
 put-requires-2 c κs =
-    let f : Free = search in
-    let t = unfilled f .before in
+    let m : Moved = search in
+    let t = moved m in
     let d : tie.After-drawn-of2 Inv-loop μ-loop = search in
     let l = loop (shifts t) in
-    rw (d .drawn-of2 .ensures) (drawn-fits (t .shift .result .segment) _ _ _ _ _ (has-record f) (far l .room) (omega (arith, mul-div-le (length (entry l .args .numbers .now)) 5, far l .long)))
+    rw (d .drawn-of2 .ensures) (drawn-fits (t .shift .result .segment) _ _ _ _ _ (has-record m (search)) (far l .room) (omega (arith, mul-div-le (length (entry l .args .numbers .now)) 5, far l .long)))
 
 loop-again-7 : tie.Need-loop-again-7 Inv-loop μ-loop
 loop-again-7 c =
-    let f : Free = search in
+    let m : Moved = search in
     let d : tie.After-drawn-of2 Inv-loop μ-loop = search in
     let u : tie.After-put2 Inv-loop μ-loop = search in
-    let m = unfilled f in
-    let t = m .before in
+    let t = moved m in
     let q = shifts t in
     let l = loop q in
     let r = t .shift .result in (
       again l
-          (next-drawn (reached q) (coreOf (l .loop .settings) (r .hand) (l .loop .polygon)) (free-taken (q .before)) (r .segment) (has-record f) (shift-acts m)
+          (next-drawn (reached q) (coreOf (l .loop .settings) (r .hand) (l .loop .polygon)) (free-taken q) (r .segment) (has-record m (search)) (shift-acts t (accepted m))
           (d .drawn-of2 .ensures ∙ ap (λ (b : Rect). drawnOf b (r .hand .pen .number) (r .segment)) (limited l)) (u .put2 .ensures .1) (u .put2 .ensures .0)),
       l .loop .inv .1,
       t .shift .ensures .1,
@@ -890,26 +819,25 @@ loop-again-8 : tie.Need-loop-again-8 Inv-loop μ-loop
 unfolding lineOf
 loop-again-8 c =
     let q : Read = search in
+    let k : tie.After-takes-pairs Inv-loop μ-loop = search in
     let e : tie.After-event3 Inv-loop μ-loop = search in
     let l = loop q in
-    (again l (quiet q (e .event3 .given .1) (ended-acts (l .loop .settings) (l .loop .hand) (l .loop .polygon) _ _ (sym (c .before .takes-pairs .ensures) ∙ c .if11 .taken))), l .loop .inv .1, l .loop .inv .2)
+    (again l (quiet q (e .event3 .given .1) (ended-acts (l .loop .settings) (l .loop .hand) (l .loop .polygon) _ _ (sym (k .takes-pairs .ensures) ∙ search))), l .loop .inv .1, l .loop .inv .2)
 
 loop-less-9 : tie.Need-loop-less-9 Inv-loop μ-loop
 loop-less-9 c =
     let q : Read = search in
     let e : tie.After-event3 Inv-loop μ-loop = search in
-    let n : Outlined = search in
     let l = loop q in
-    let f = next-outline (reached q) (e .event3 .given .1) (n .if12 .taken) (c .outline .ensures) (free-taken (q .before)) in
+    let f = next-outline (reached q) (e .event3 .given .1) (search) (c .outline .ensures) (free-taken q) in
     less q (c .outline .result) (waits-most (c .outline .result) (f .valid .work))
 
 loop-again-9 : tie.Need-loop-again-9 Inv-loop μ-loop
 loop-again-9 c =
     let q : Read = search in
     let e : tie.After-event3 Inv-loop μ-loop = search in
-    let n : Outlined = search in
     let l = loop q in
-    (again l (next-outline (reached q) (e .event3 .given .1) (n .if12 .taken) (c .outline .ensures) (free-taken (q .before))), l .loop .inv .1, l .loop .inv .2)
+    (again l (next-outline (reached q) (e .event3 .given .1) (search) (c .outline .ensures) (free-taken q)), l .loop .inv .1, l .loop .inv .2)
 
 end-rule-requires : tie.Need-end-rule-requires Inv-loop μ-loop
 end-rule-requires c κs =
@@ -932,24 +860,22 @@ refusal-record-requires c κs = let r : Ruled = search in place-small (read r)
 
 put-record-requires : tie.Need-put-record-requires Inv-loop μ-loop
 put-record-requires c κs =
-    let t : tie.Then14 Inv-loop μ-loop = search in
-    let q = read (refusing (t .before .before)) in
-    far-fits (far (loop q)) (free-taken (q .before) (t .if14 .taken))
+    let r : Ruled = search in
+    far-fits (far (loop (read r))) (free-taken (read r) (search))
 
 loop-less-10 : tie.Need-loop-less-10 Inv-loop μ-loop
 loop-less-10 c = let r : Ruled = search in none-less (read r)
 
 loop-again-10 : tie.Need-loop-again-10 Inv-loop μ-loop
 loop-again-10 c =
-    let t : tie.Then14 Inv-loop μ-loop = search in
+    let p : Passed = search in
     let x : tie.After-refusal-record Inv-loop μ-loop = search in
     let u : tie.After-put-record Inv-loop μ-loop = search in
-    let p = t .before in
-    let r = refusing (p .before) in
+    let r = refusing p in
     let q = read r in
-    let o = t .if14 .taken in (
+    let o : entry (loop q) .args .on ≡ true = search in (
       again (loop q)
-          (next-refusal (reached q) (passed p (core-is r)) (refused (p .before)) o (free-taken (q .before) o) (x .refusal-record .ensures) (u .put-record .ensures .1) (u .put-record .ensures .0)),
+          (next-refusal (reached q) (passed p (core-is r)) (refused p) o (free-taken q o) (x .refusal-record .ensures) (u .put-record .ensures .1) (u .put-record .ensures .0)),
       hand-now r .before .frame-of2 .ensures,
       located-now r,
     )
@@ -959,10 +885,9 @@ same-length-3 c = let r : Ruled = search in far (loop (read r)) .long
 
 returns-3 : tie.Need-returns-3 Inv-loop μ-loop
 returns-3 c =
-    let e : tie.Else14 Inv-loop μ-loop = search in
-    let p = e .before in
-    let q = read (refusing (p .before)) in
-    let f = next-refused (reached q) (passed p refl) (refused (p .before)) (e .if14 .left) in
+    let p : Passed = search in
+    let q = read (refusing p) in
+    let f = next-refused (reached q) (passed p refl) (refused p) (search) in
     (c .gathered3 .ensures ∙ f .0, f .1)
 
 cast-k-2 : tie.Need-cast-k-2 Inv-loop μ-loop
@@ -976,68 +901,63 @@ element-set-from-e-2 c = let a : tie.After-action Inv-loop μ-loop = search in o
 
 loop-again-11 : tie.Need-loop-again-11 Inv-loop μ-loop
 loop-again-11 c =
-    let a : Accepted = search in
+    let r : Ruled = search in
     let e : tie.After-action Inv-loop μ-loop = search in
-    let r = accepting a in
-    (again (loop (read r)) (taken a (joined-edges e) (joined-waits e)), hand-now r .before .frame-of2 .ensures, located-now r)
+    (again (loop (read r)) (taken r (omega arith) (joined-edges e) (joined-waits e)), hand-now r .before .frame-of2 .ensures, located-now r)
 
 carried-requires : tie.Need-carried-requires Inv-loop μ-loop
 carried-requires c κs = let r : Ruled = search in act-valid (ended r) .action
 
 loop-less-12 : tie.Need-loop-less-12 Inv-loop μ-loop
 loop-less-12 c =
-    let a : Accepted = search in
+    let r : Ruled = search in
     let k : tie.After-carried Inv-loop μ-loop = search in
-    taken-less a {st = k .carried .result .store} (k .carried .ensures .0) (k .carried .ensures .1 _ _)
+    taken-less r {st = k .carried .result .store} (omega arith) (k .carried .ensures .0) (k .carried .ensures .1 _ _)
 
 loop-again-12 : tie.Need-loop-again-12 Inv-loop μ-loop
 loop-again-12 c =
-    let a : Accepted = search in
+    let r : Ruled = search in
     let k : tie.After-carried Inv-loop μ-loop = search in
-    let r = accepting a in
-    (again (loop (read r)) (taken a (k .carried .ensures .0) (k .carried .ensures .1 _ _)), hand-now r .before .frame-of2 .ensures, located-now r)
+    (again (loop (read r)) (taken r (omega arith) (k .carried .ensures .0) (k .carried .ensures .1 _ _)), hand-now r .before .frame-of2 .ensures, located-now r)
 
 queued-requires-2 : tie.Need-queued-requires-2 Inv-loop μ-loop
 queued-requires-2 c κs = let r : Ruled = search in action-alone (loop (read r) .loop .polygon .edges) (did r .action) (act-valid (ended r) .action)
 
 loop-less-13 : tie.Need-loop-less-13 Inv-loop μ-loop
 loop-less-13 c =
-    let a : Accepted = search in
-    let h : Light = search in
+    let r : Ruled = search in
+    let h : tie.After-heavy Inv-loop μ-loop = search in
     let k : tie.After-queued2 Inv-loop μ-loop = search in
-    taken-less a (same-edges h) (k .queued2 .ensures _ _)
+    taken-less r (omega arith) (same-edges h search) (k .queued2 .ensures _ _)
 
 loop-again-13 : tie.Need-loop-again-13 Inv-loop μ-loop
 loop-again-13 c =
-    let a : Accepted = search in
-    let h : Light = search in
+    let r : Ruled = search in
+    let h : tie.After-heavy Inv-loop μ-loop = search in
     let k : tie.After-queued2 Inv-loop μ-loop = search in
-    let r = accepting a in
-    (again (loop (read r)) (taken a (same-edges h) (k .queued2 .ensures _ _)), hand-now r .before .frame-of2 .ensures, located-now r)
+    (again (loop (read r)) (taken r (omega arith) (same-edges h search) (k .queued2 .ensures _ _)), hand-now r .before .frame-of2 .ensures, located-now r)
 
 refusal-record-requires-2 : tie.Need-refusal-record-requires-2 Inv-loop μ-loop
 refusal-record-requires-2 c κs = let j : Met = search in place-small (met j)
 
 put-record-requires-2 : tie.Need-put-record-requires-2 Inv-loop μ-loop
 put-record-requires-2 c κs =
-    let t : tie.Then16 Inv-loop μ-loop = search in
-    let q = met (t .before .before) in
-    far-fits (far (loop q)) (free-taken (q .before) (t .if16 .taken))
+    let j : Met = search in
+    far-fits (far (loop (met j))) (free-taken (met j) (search))
 
 loop-less-14 : tie.Need-loop-less-14 Inv-loop μ-loop
 loop-less-14 c = let j : Met = search in none-less (met j)
 
 loop-again-14 : tie.Need-loop-again-14 Inv-loop μ-loop
 loop-again-14 c =
-    let t : tie.Then16 Inv-loop μ-loop = search in
+    let p : Declined = search in
     let x : tie.After-refusal-record2 Inv-loop μ-loop = search in
     let u : tie.After-put-record2 Inv-loop μ-loop = search in
-    let p = t .before in
     let q = met (p .before) in
     let l = loop q in
-    let o = t .if16 .taken in (
+    let o : entry l .args .on ≡ true = search in (
       again l
-          (next-refusal (reached q) (declining p refl) (declines (p .before) .some) o (free-taken (q .before) o) (x .refusal-record2 .ensures) (u .put-record2 .ensures .1) (u .put-record2 .ensures .0)),
+          (next-refusal (reached q) (declining p refl) (declines (p .before) .some) o (free-taken q o) (x .refusal-record2 .ensures) (u .put-record2 .ensures .1) (u .put-record2 .ensures .0)),
       l .loop .inv .1,
       l .loop .inv .2,
     )
@@ -1047,11 +967,10 @@ same-length-4 c = let j : Met = search in far (loop (met j)) .long
 
 returns-4 : tie.Need-returns-4 Inv-loop μ-loop
 returns-4 c =
-    let e : tie.Else16 Inv-loop μ-loop = search in
+    let p : Declined = search in
     let k : tie.After-core-of4 Inv-loop μ-loop = search in
-    let p = e .before in
     let q = met (p .before) in
-    let f = next-refused (reached q) (declining p (k .core-of4 .ensures)) (declines (p .before) .some) (e .if16 .left) in
+    let f = next-refused (reached q) (declining p (k .core-of4 .ensures)) (declines (p .before) .some) (search) in
     (c .gathered4 .ensures ∙ f .0, f .1)
 
 same-length-5 : tie.Need-same-length-5 Inv-loop μ-loop
@@ -1060,9 +979,9 @@ same-length-5 c = let l : Loop = search in far l .long
 returns-5 : tie.Need-returns-5 Inv-loop μ-loop
 returns-5 c =
     let l : Loop = search in
-    let e : tie.Else1 Inv-loop μ-loop = search in
+    let e : tie.After-remains Inv-loop μ-loop = search in
     let p : tie.After-core-of5 Inv-loop μ-loop = search in
-    let n = none-remains (l .loop .work) _ _ (sym (e .before .remains .ensures) ∙ e .if1 .left) in
+    let n = none-remains (l .loop .work) _ _ (sym (e .remains .ensures) ∙ search) in
     let f = far-end (far l) (n .0) (n .1) in
     let k = ap (λ (k : Core). stoppedAs (whole (l .loop .reader) k (l .loop .store) (l .loop .work)) (l .loop .at) (l .loop .count) 0) (p .core-of5 .ensures) in
     (c .gathered5 .ensures ∙ k ∙ f .0, f .1)
