@@ -64,6 +64,39 @@ use Rattle.gathering.proofs.Moving.{letters-position, overflow-waits, d
 use Rattle.gathering.proofs.Chording.{alone-waits}
 use Rattle.gathering.proofs.gather.Statement.{statement}
 use Rattle.gathering.proofs.gather.Tie as tie
+use Rattle.gathering.proofs.gather.Tie.{Need-returns as Halt-returns}
+use Rattle.gathering.proofs.gather.Tie.{Need-loop-less as Batch-less}
+use Rattle.gathering.proofs.gather.Tie.{Need-loop-again as Batch-on}
+use Rattle.gathering.proofs.gather.Tie.{Need-mul-e as Edge-offset}
+use Rattle.gathering.proofs.gather.Tie.{Need-element-copy-out-e as Edge-read}
+use Rattle.gathering.proofs.gather.Tie.{Need-drawn-of-requires as Segment-drawable}
+use Rattle.gathering.proofs.gather.Tie.{Need-put-requires as Segment-fits}
+use Rattle.gathering.proofs.gather.Tie.{Need-loop-less-2 as Segment-less}
+use Rattle.gathering.proofs.gather.Tie.{Need-loop-again-2 as Segment-on}
+use Rattle.gathering.proofs.gather.Tie.{Need-loop-again-3 as Nothing-on}
+use Rattle.gathering.proofs.gather.Tie.{Need-loop-again-4 as Name-on}
+use Rattle.gathering.proofs.gather.Tie.{Need-queued-requires as Line-alone}
+use Rattle.gathering.proofs.gather.Tie.{Need-returns-2 as Full-returns}
+use Rattle.gathering.proofs.gather.Tie.{Need-drawn-of-requires-2 as Line-drawable}
+use Rattle.gathering.proofs.gather.Tie.{Need-put-requires-2 as Line-fits}
+use Rattle.gathering.proofs.gather.Tie.{Need-loop-again-7 as Line-on}
+use Rattle.gathering.proofs.gather.Tie.{Need-loop-again-8 as Pairs-on}
+use Rattle.gathering.proofs.gather.Tie.{Need-loop-less-9 as Outline-less}
+use Rattle.gathering.proofs.gather.Tie.{Need-loop-again-9 as Outline-on}
+use Rattle.gathering.proofs.gather.Tie.{Need-located-in-requires as Start-located}
+use Rattle.gathering.proofs.gather.Tie.{Need-located-in-requires-2 as Rule-located}
+use Rattle.gathering.proofs.gather.Tie.{Need-put-record-requires as Refusal-fits}
+use Rattle.gathering.proofs.gather.Tie.{Need-loop-again-10 as Refusal-on}
+use Rattle.gathering.proofs.gather.Tie.{Need-returns-3 as Refusal-returns}
+use Rattle.gathering.proofs.gather.Tie.{Need-loop-again-11 as Join-on}
+use Rattle.gathering.proofs.gather.Tie.{Need-loop-less-12 as Carried-less}
+use Rattle.gathering.proofs.gather.Tie.{Need-loop-again-12 as Carried-on}
+use Rattle.gathering.proofs.gather.Tie.{Need-loop-less-13 as Queued-less}
+use Rattle.gathering.proofs.gather.Tie.{Need-loop-again-13 as Queued-on}
+use Rattle.gathering.proofs.gather.Tie.{Need-put-record-requires-2 as Declined-fits}
+use Rattle.gathering.proofs.gather.Tie.{Need-loop-again-14 as Declined-on}
+use Rattle.gathering.proofs.gather.Tie.{Need-returns-4 as Declined-returns}
+use Rattle.gathering.proofs.gather.Tie.{Need-returns-5 as End-returns}
 
 abbrev Inv-loop : tie.InvT-loop
 Inv-loop bytes from numbers₀ on sines reader₀ settings₀ frame₀ hand₀ here₀ polygon₀ store₀ work₀ at₀ count₀ room numbers reader settings frame hand here polygon store work at count =
@@ -114,8 +147,8 @@ Met = tie.At-match-came Inv-loop μ-loop
 abbrev Declined : Type 0
 Declined = tie.After-passed-over2 Inv-loop μ-loop
 
-abbrev handed : tie.After-store Inv-loop μ-loop → tie.After-hand-of Inv-loop μ-loop
-handed c = c .before .before .before
+abbrev handed : Loop → tie.After-hand-of Inv-loop μ-loop
+handed l = search
 
 abbrev start : tie.After-hand-of Inv-loop μ-loop → tie.Start Inv-loop μ-loop
 start h = search
@@ -124,7 +157,7 @@ abbrev laid : tie.After-hand-of Inv-loop μ-loop → tie.After-table Inv-loop μ
 laid h = search
 
 abbrev entry : Loop → tie.Start Inv-loop μ-loop
-entry l = start (handed (l .before))
+entry l = start (handed l)
 
 abbrev going : Going → Loop
 going e = search
@@ -157,7 +190,7 @@ abbrev ended-of : tie.After-hand-of2 Inv-loop μ-loop → Ended
 ended-of h = search
 
 abbrev hand-now : Ruled → tie.After-hand-of2 Inv-loop μ-loop
-hand-now r = r .before .before
+hand-now r = search
 
 abbrev ended : Ruled → Ended
 ended r = ended-of (hand-now r)
@@ -169,7 +202,7 @@ abbrev refusing : Passed → Ruled
 refusing p = search
 
 abbrev met : Met → Read
-met j = j .before .before
+met j = search
 
 -- the machine that the parts make
 abbrev here : Loop → State
@@ -187,8 +220,8 @@ abbrev All : Loop → Plot
 All l = let s = entry l .args in gatherFrom (s .on) (s .m) (drop (s .from) (s .bytes .now)) (s .from) (length (s .numbers .now) / 5)
 
 -- the hand that it begins with is the machine's
-as-handed : (l : Loop) → From l (handed (l .before) .hand-of .result) ≡ All l
-as-handed l = ap (From l) (handed (l .before) .hand-of .ensures)
+as-handed : (l : Loop) → From l (handed l .hand-of .result) ≡ All l
+as-handed l = ap (From l) (handed l .hand-of .ensures)
 
 abbrev Goes : Loop → Plot → List ℤ → State → ℕ → ℕ → Type 0
 Goes l f numbers m at count = let s = entry l .args in Far (s .on) f (s .bytes .now) (s .numbers .now) numbers m at count
@@ -196,7 +229,7 @@ Goes l f numbers m at count = let s = entry l .args in Far (s .on) f (s .bytes .
 far : (l : Loop) → Goes l (All l) (l .loop .numbers) (here l) (l .loop .at) (l .loop .count)
 far l = subst (λ (f : Plot). Goes l f (l .loop .numbers) (here l) (l .loop .at) (l .loop .count)) (as-handed l) (l .loop .inv .0)
 
-again : (l : Loop) {numbers : List ℤ} {m : State} {at count : ℕ} → Goes l (All l) numbers m at count → Goes l (From l (handed (l .before) .hand-of .result)) numbers m at count
+again : (l : Loop) {numbers : List ℤ} {m : State} {at count : ℕ} → Goes l (All l) numbers m at count → Goes l (From l (handed l .hand-of .result)) numbers m at count
 again l {numbers} {m} {at} {count} f = subst (λ (p : Plot). Goes l p numbers m at count) (sym (as-handed l)) f
 
 -- where a byte is taken no segment waits, and there is one
@@ -389,7 +422,7 @@ points-on : (p : Pointed) {st : Store} {g : Polygon} → let q = pointing p in
     let l = loop q in
     let t = p .point .result in
     g ≡ longer (l .loop .polygon) (t .cost) (t .hand .position) → Longer p st →
-    Goes l (From l (handed (l .before) .hand-of .result)) (l .loop .numbers) (whole (q .next .result .reader) (coreOf (l .loop .settings) (t .hand) g) st Nothing) (q .next .result .at) (l .loop .count)
+    Goes l (From l (handed l .hand-of .result)) (l .loop .numbers) (whole (q .next .result .reader) (coreOf (l .loop .settings) (t .hand) g) st Nothing) (q .next .result .at) (l .loop .count)
     × (l .loop .frame ≡ frameOf (l .loop .settings))
     × (t .here ≡ locationIn (l .loop .frame) (t .hand .position))
 points-on p {st} e f =
@@ -599,11 +632,8 @@ declining p e =
 sines-long : (h : tie.After-hand-of Inv-loop μ-loop) → 901 ≡ length (laid h .table .result)
 sines-long h = sym (ap length (laid h .table .ensures) ∙ entries)
 
-frame-of-requires : tie.Need-frame-of-requires Inv-loop μ-loop
-frame-of-requires c κs = let s : tie.Start Inv-loop μ-loop = search in s .pre .core .settings
-
-located-in-requires : tie.Need-located-in-requires Inv-loop μ-loop
-located-in-requires c κs =
+start-located : Start-located Inv-loop μ-loop
+start-located c κs =
     let s : tie.Start Inv-loop μ-loop = search in
     let f : tie.After-frame-of Inv-loop μ-loop = search in
     hand-locatable {h = handOf (s .args .m .core .carriage)} {g = s .args .m .core .carriage .polygon}
@@ -611,7 +641,7 @@ located-in-requires c κs =
 
 loop-holds : tie.Need-loop-holds Inv-loop μ-loop
 loop-holds c =
-    let h = handed c in
+    let h : tie.After-hand-of Inv-loop μ-loop = search in
     let s = start h in
     let f : tie.After-frame-of Inv-loop μ-loop = search in
     let p : tie.After-located-in Inv-loop μ-loop = search in (
@@ -624,11 +654,8 @@ loop-holds c =
       p .located-in .ensures ∙ ap (λ (k : Hand). locationIn (f .frame-of .result) (k .position)) (sym (h .hand-of .ensures)),
     )
 
-same-length : tie.Need-same-length Inv-loop μ-loop
-same-length c = let l : Loop = search in far l .long
-
-returns : tie.Need-returns Inv-loop μ-loop
-returns c =
+halt-returns : Halt-returns Inv-loop μ-loop
+halt-returns c =
     let l : Loop = search in
     let o : tie.After-remains Inv-loop μ-loop = search in
     let t : tie.After-halted Inv-loop μ-loop = search in
@@ -637,73 +664,64 @@ returns c =
     let e = ap (λ (k : Core). stoppedAs (whole (l .loop .reader) k (l .loop .store) (l .loop .work)) (l .loop .at) (l .loop .count) (t .halted .result)) (p .core-of .ensures) in
     (c .gathered .ensures ∙ e ∙ f .0, f .1)
 
-slice-aggregate-batch : tie.Need-slice-aggregate-batch Inv-loop μ-loop
-slice-aggregate-batch c = let w : Waits = search in sines-long (handed (waits w .before))
-
 batch-requires : tie.Need-batch-requires Inv-loop μ-loop
 batch-requires c κs =
     let w : Waits = search in
     let l = waits w in
-    (batching w, omega (arith, free-drawn w, ap (λ (n : ℕ). n / 5) (far l .long)), laid (handed (l .before)) .table .ensures, sym (w .batched .ensures) ∙ search)
+    (batching w, omega (arith, free-drawn w, ap (λ (n : ℕ). n / 5) (far l .long)), laid (handed l) .table .ensures, sym (w .batched .ensures) ∙ search)
 
-loop-less : tie.Need-loop-less Inv-loop μ-loop
-loop-less c = let d : tie.After-batch Inv-loop μ-loop = search in omega (arith, d .batch .ensures .0)
+batch-less : Batch-less Inv-loop μ-loop
+batch-less c = let d : tie.After-batch Inv-loop μ-loop = search in omega (arith, d .batch .ensures .0)
 
-loop-again : tie.Need-loop-again Inv-loop μ-loop
-loop-again c =
+batch-on : Batch-on Inv-loop μ-loop
+batch-on c =
     let w : Waits = search in
     let d : tie.After-batch Inv-loop μ-loop = search in
     let l = waits w in
     (again l (d .batch .ensures .1 (batching w)), l .loop .inv .1, l .loop .inv .2)
 
-mul-e : tie.Need-mul-e Inv-loop μ-loop
-mul-e c =
+edge-offset : Edge-offset Inv-loop μ-loop
+edge-offset c =
     let l : Loop = search in
     let h = place-within (l .loop .work) (far l .valid .work) in
     record { fits = omega (arith, h, c .edge-place .ensures) }
 
-element-copy-out-e : tie.Need-element-copy-out-e Inv-loop μ-loop
-element-copy-out-e c =
+edge-read : Edge-read Inv-loop μ-loop
+edge-read c =
     let l : Loop = search in
     let h = place-within (l .loop .work) (far l .valid .work) in
     omega (arith, h, c .edge-place .ensures)
 
-segment-requires : tie.Need-segment-requires Inv-loop μ-loop
-segment-requires c κs = let w : Waits = search in (rows-small (waits w), edge-small (far (waits w) .valid .edges) _)
+segment-drawable : Segment-drawable Inv-loop μ-loop
+segment-drawable c κs = let l = waits (segmented c) in (limits-fit l, subst SmallSegment (sym (waited c)) (segment-small (far l .valid)))
 
-drawn-of-requires : tie.Need-drawn-of-requires Inv-loop μ-loop
-drawn-of-requires c κs = let l = waits (segmented c) in (limits-fit l, subst SmallSegment (sym (waited c)) (segment-small (far l .valid)))
+segment-fits : Segment-fits Inv-loop μ-loop
+segment-fits c κs = let w : Waits = search in put-fits _ _ _ (far-fits (far (waits w)) (free-drawn w))
 
-put-requires : tie.Need-put-requires Inv-loop μ-loop
-put-requires c κs = let w : Waits = search in put-fits _ _ _ (far-fits (far (waits w)) (free-drawn w))
-
-work-after-requires : tie.Need-work-after-requires Inv-loop μ-loop
-work-after-requires c κs = let w : Waits = search in far (waits w) .valid .work
-
-loop-less-2 : tie.Need-loop-less-2 Inv-loop μ-loop
-loop-less-2 c =
+segment-less : Segment-less Inv-loop μ-loop
+segment-less c =
     let d : tie.After-drawn-of Inv-loop μ-loop = search in
     let w = drawn d in
     omega (arith, waits-less (here (waits w)) (c .work-after .result) (waits-some w) (c .work-after .ensures))
 
-loop-again-2 : tie.Need-loop-again-2 Inv-loop μ-loop
-loop-again-2 c =
+segment-on : Segment-on Inv-loop μ-loop
+segment-on c =
     let d : tie.After-drawn-of Inv-loop μ-loop = search in
     let u : tie.After-put Inv-loop μ-loop = search in
     let w = drawn d in
     let l = waits w in
     (again l (far-draw (far l) (waits-some w) (free-drawn w) (drew d) (u .put .ensures .1) (u .put .ensures .0) (c .work-after .ensures)), l .loop .inv .1, l .loop .inv .2)
 
-loop-again-3 : tie.Need-loop-again-3 Inv-loop μ-loop
+nothing-on : Nothing-on Inv-loop μ-loop
 unfolding lineOf
-loop-again-3 c =
+nothing-on c =
     let q : Read = search in
     let l = loop q in
     (again l (quiet q (c .enum-told .given .1) (none-acts (l .loop .settings) (l .loop .hand) (l .loop .polygon))), l .loop .inv .1, l .loop .inv .2)
 
-loop-again-4 : tie.Need-loop-again-4 Inv-loop μ-loop
+name-on : Name-on Inv-loop μ-loop
 unfolding lineOf
-loop-again-4 c =
+name-on c =
     let q : Read = search in
     let e : tie.After-event Inv-loop μ-loop = search in
     let n : tie.After-name-number Inv-loop μ-loop = search in
@@ -729,27 +747,6 @@ point-requires c κs =
       v .polygon .bytes,
     )
 
-longer-requires : tie.Need-longer-requires Inv-loop μ-loop
-longer-requires c κs = let p : Pointed = search in longer-fits p (first p (search) (search))
-
-loop-again-5 : tie.Need-loop-again-5 Inv-loop μ-loop
-loop-again-5 c = let p : Pointed = search in points-on p (search) (first p (search) (search))
-
-cast-k : tie.Need-cast-k Inv-loop μ-loop
-cast-k c = let p : Pointed = search in omega (arith, far (loop (pointing p)) .valid .core .polygon .edges)
-
-mul-e-2 : tie.Need-mul-e-2 Inv-loop μ-loop
-mul-e-2 c = let p : Pointed = search in record { fits = omega (arith, edge-fits p (search) (search)) }
-
-element-set-from-e : tie.Need-element-set-from-e Inv-loop μ-loop
-element-set-from-e c = let p : Pointed = search in omega (arith, edge-fits p (search) (search))
-
-longer-requires-2 : tie.Need-longer-requires-2 Inv-loop μ-loop
-longer-requires-2 c κs = let p : Pointed = search in longer-fits p (joins p (search) (search))
-
-loop-again-6 : tie.Need-loop-again-6 Inv-loop μ-loop
-loop-again-6 c = let p : Pointed = search in points-on p (search) (joins p (search) (search))
-
 shift-requires : tie.Need-shift-requires Inv-loop μ-loop
 shift-requires c κs =
     let q : Read = search in
@@ -760,19 +757,16 @@ shift-requires c κs =
       l .loop .inv .2,
     )
 
-queued-requires : tie.Need-queued-requires Inv-loop μ-loop
-queued-requires c κs =
+line-alone : Line-alone Inv-loop μ-loop
+line-alone c κs =
     let o : Moved = search in
     let t = moved o in
     let q = shifts t in
     let l = loop q .loop in
     rw (c .line-of .ensures) (action-alone (l .polygon .edges) (lineOf (t .shift .result .segment)) (acts-valid q (shift-acts t (accepted o)) .action))
 
-same-length-2 : tie.Need-same-length-2 Inv-loop μ-loop
-same-length-2 c = let t : Shifted = search in far (loop (shifts t)) .long
-
-returns-2 : tie.Need-returns-2 Inv-loop μ-loop
-returns-2 c =
+full-returns : Full-returns Inv-loop μ-loop
+full-returns c =
     let m : Moved = search in
     let k : tie.After-queued Inv-loop μ-loop = search in
     let o : tie.After-core-of2 Inv-loop μ-loop = search in
@@ -783,24 +777,24 @@ returns-2 c =
     let g = far-filled (stays t (accepted m)) (h .0) (h .1) in
     (c .gathered2 .ensures ∙ (λ i. stoppedAs (whole (q .next .result .reader) (o .core-of2 .ensures i) (l .loop .store) (line-left k i)) (q .next .result .at) (l .loop .count) listFull) ∙ g .0, g .1)
 
-drawn-of-requires-2 : tie.Need-drawn-of-requires-2 Inv-loop μ-loop
-drawn-of-requires-2 c κs =
+line-drawable : Line-drawable Inv-loop μ-loop
+line-drawable c κs =
     let o : Moved = search in
     let t = moved o in
     let q = shifts t in
     let l = loop q in
     (limits-fit l, next-small (reached q) (coreOf (l .loop .settings) (t .shift .result .hand) (l .loop .polygon)) (t .shift .result .segment) (shift-acts t (accepted o)))
 
-put-requires-2 : tie.Need-put-requires-2 Inv-loop μ-loop
-put-requires-2 c κs =
+line-fits : Line-fits Inv-loop μ-loop
+line-fits c κs =
     let m : Moved = search in
     let t = moved m in
     let d : tie.After-drawn-of2 Inv-loop μ-loop = search in
     let l = loop (shifts t) in
     rw (d .drawn-of2 .ensures) (drawn-fits (t .shift .result .segment) _ _ _ _ _ (has-record m (search)) (far l .room) (omega (arith, mul-div-le (length (entry l .args .numbers .now)) 5, far l .long)))
 
-loop-again-7 : tie.Need-loop-again-7 Inv-loop μ-loop
-loop-again-7 c =
+line-on : Line-on Inv-loop μ-loop
+line-on c =
     let m : Moved = search in
     let d : tie.After-drawn-of2 Inv-loop μ-loop = search in
     let u : tie.After-put2 Inv-loop μ-loop = search in
@@ -815,25 +809,25 @@ loop-again-7 c =
       t .shift .ensures .1,
     )
 
-loop-again-8 : tie.Need-loop-again-8 Inv-loop μ-loop
+pairs-on : Pairs-on Inv-loop μ-loop
 unfolding lineOf
-loop-again-8 c =
+pairs-on c =
     let q : Read = search in
     let k : tie.After-takes-pairs Inv-loop μ-loop = search in
     let e : tie.After-event3 Inv-loop μ-loop = search in
     let l = loop q in
     (again l (quiet q (e .event3 .given .1) (ended-acts (l .loop .settings) (l .loop .hand) (l .loop .polygon) _ _ (sym (k .takes-pairs .ensures) ∙ search))), l .loop .inv .1, l .loop .inv .2)
 
-loop-less-9 : tie.Need-loop-less-9 Inv-loop μ-loop
-loop-less-9 c =
+outline-less : Outline-less Inv-loop μ-loop
+outline-less c =
     let q : Read = search in
     let e : tie.After-event3 Inv-loop μ-loop = search in
     let l = loop q in
     let f = next-outline (reached q) (e .event3 .given .1) (search) (c .outline .ensures) (free-taken q) in
     less q (c .outline .result) (waits-most (c .outline .result) (f .valid .work))
 
-loop-again-9 : tie.Need-loop-again-9 Inv-loop μ-loop
-loop-again-9 c =
+outline-on : Outline-on Inv-loop μ-loop
+outline-on c =
     let q : Read = search in
     let e : tie.After-event3 Inv-loop μ-loop = search in
     let l = loop q in
@@ -845,29 +839,20 @@ end-rule-requires c κs =
     let e : tie.After-event3 Inv-loop μ-loop = search in
     rw (c .core-of3 .ensures) (far (loop q) .valid .core, subst (ValidEvent (held q)) (e .event3 .given .1) (event-valid q) .0 .numbers)
 
-frame-of-requires-2 : tie.Need-frame-of-requires-2 Inv-loop μ-loop
-frame-of-requires-2 c κs = let a : Ended = search in act-valid a .core .settings
-
-located-in-requires-2 : tie.Need-located-in-requires-2 Inv-loop μ-loop
-located-in-requires-2 c κs =
+rule-located : Rule-located Inv-loop μ-loop
+rule-located c κs =
     let a : Ended = search in
     let f : tie.After-frame-of2 Inv-loop μ-loop = search in
     let k = a .end-rule .result .core in
     hand-locatable {h = handOf (k .carriage)} {g = k .carriage .polygon} (record { settings = k .settings; frame = f .frame-of2 .ensures; core = act-valid a .core })
 
-refusal-record-requires : tie.Need-refusal-record-requires Inv-loop μ-loop
-refusal-record-requires c κs = let r : Ruled = search in place-small (read r)
-
-put-record-requires : tie.Need-put-record-requires Inv-loop μ-loop
-put-record-requires c κs =
+refusal-fits : Refusal-fits Inv-loop μ-loop
+refusal-fits c κs =
     let r : Ruled = search in
     far-fits (far (loop (read r))) (free-taken (read r) (search))
 
-loop-less-10 : tie.Need-loop-less-10 Inv-loop μ-loop
-loop-less-10 c = let r : Ruled = search in none-less (read r)
-
-loop-again-10 : tie.Need-loop-again-10 Inv-loop μ-loop
-loop-again-10 c =
+refusal-on : Refusal-on Inv-loop μ-loop
+refusal-on c =
     let p : Passed = search in
     let x : tie.After-refusal-record Inv-loop μ-loop = search in
     let u : tie.After-put-record Inv-loop μ-loop = search in
@@ -880,76 +865,52 @@ loop-again-10 c =
       located-now r,
     )
 
-same-length-3 : tie.Need-same-length-3 Inv-loop μ-loop
-same-length-3 c = let r : Ruled = search in far (loop (read r)) .long
-
-returns-3 : tie.Need-returns-3 Inv-loop μ-loop
-returns-3 c =
+refusal-returns : Refusal-returns Inv-loop μ-loop
+refusal-returns c =
     let p : Passed = search in
     let q = read (refusing p) in
     let f = next-refused (reached q) (passed p refl) (refused p) (search) in
     (c .gathered3 .ensures ∙ f .0, f .1)
 
-cast-k-2 : tie.Need-cast-k-2 Inv-loop μ-loop
-cast-k-2 c = let r : Ruled = search in omega (arith, far (loop (read r)) .valid .core .polygon .edges)
-
-mul-e-3 : tie.Need-mul-e-3 Inv-loop μ-loop
-mul-e-3 c = let a : tie.After-action Inv-loop μ-loop = search in record { fits = omega (arith, joins-edge a) }
-
-element-set-from-e-2 : tie.Need-element-set-from-e-2 Inv-loop μ-loop
-element-set-from-e-2 c = let a : tie.After-action Inv-loop μ-loop = search in omega (arith, joins-edge a)
-
-loop-again-11 : tie.Need-loop-again-11 Inv-loop μ-loop
-loop-again-11 c =
+join-on : Join-on Inv-loop μ-loop
+join-on c =
     let r : Ruled = search in
     let e : tie.After-action Inv-loop μ-loop = search in
     (again (loop (read r)) (taken r (omega arith) (joined-edges e) (joined-waits e)), hand-now r .before .frame-of2 .ensures, located-now r)
 
-carried-requires : tie.Need-carried-requires Inv-loop μ-loop
-carried-requires c κs = let r : Ruled = search in act-valid (ended r) .action
-
-loop-less-12 : tie.Need-loop-less-12 Inv-loop μ-loop
-loop-less-12 c =
+carried-less : Carried-less Inv-loop μ-loop
+carried-less c =
     let r : Ruled = search in
     let k : tie.After-carried Inv-loop μ-loop = search in
     taken-less r {st = k .carried .result .store} (omega arith) (k .carried .ensures .0) (k .carried .ensures .1 _ _)
 
-loop-again-12 : tie.Need-loop-again-12 Inv-loop μ-loop
-loop-again-12 c =
+carried-on : Carried-on Inv-loop μ-loop
+carried-on c =
     let r : Ruled = search in
     let k : tie.After-carried Inv-loop μ-loop = search in
     (again (loop (read r)) (taken r (omega arith) (k .carried .ensures .0) (k .carried .ensures .1 _ _)), hand-now r .before .frame-of2 .ensures, located-now r)
 
-queued-requires-2 : tie.Need-queued-requires-2 Inv-loop μ-loop
-queued-requires-2 c κs = let r : Ruled = search in action-alone (loop (read r) .loop .polygon .edges) (did r .action) (act-valid (ended r) .action)
-
-loop-less-13 : tie.Need-loop-less-13 Inv-loop μ-loop
-loop-less-13 c =
+queued-less : Queued-less Inv-loop μ-loop
+queued-less c =
     let r : Ruled = search in
     let h : tie.After-heavy Inv-loop μ-loop = search in
     let k : tie.After-queued2 Inv-loop μ-loop = search in
     taken-less r (omega arith) (same-edges h search) (k .queued2 .ensures _ _)
 
-loop-again-13 : tie.Need-loop-again-13 Inv-loop μ-loop
-loop-again-13 c =
+queued-on : Queued-on Inv-loop μ-loop
+queued-on c =
     let r : Ruled = search in
     let h : tie.After-heavy Inv-loop μ-loop = search in
     let k : tie.After-queued2 Inv-loop μ-loop = search in
     (again (loop (read r)) (taken r (omega arith) (same-edges h search) (k .queued2 .ensures _ _)), hand-now r .before .frame-of2 .ensures, located-now r)
 
-refusal-record-requires-2 : tie.Need-refusal-record-requires-2 Inv-loop μ-loop
-refusal-record-requires-2 c κs = let j : Met = search in place-small (met j)
-
-put-record-requires-2 : tie.Need-put-record-requires-2 Inv-loop μ-loop
-put-record-requires-2 c κs =
+declined-fits : Declined-fits Inv-loop μ-loop
+declined-fits c κs =
     let j : Met = search in
     far-fits (far (loop (met j))) (free-taken (met j) (search))
 
-loop-less-14 : tie.Need-loop-less-14 Inv-loop μ-loop
-loop-less-14 c = let j : Met = search in none-less (met j)
-
-loop-again-14 : tie.Need-loop-again-14 Inv-loop μ-loop
-loop-again-14 c =
+declined-on : Declined-on Inv-loop μ-loop
+declined-on c =
     let p : Declined = search in
     let x : tie.After-refusal-record2 Inv-loop μ-loop = search in
     let u : tie.After-put-record2 Inv-loop μ-loop = search in
@@ -962,22 +923,16 @@ loop-again-14 c =
       l .loop .inv .2,
     )
 
-same-length-4 : tie.Need-same-length-4 Inv-loop μ-loop
-same-length-4 c = let j : Met = search in far (loop (met j)) .long
-
-returns-4 : tie.Need-returns-4 Inv-loop μ-loop
-returns-4 c =
+declined-returns : Declined-returns Inv-loop μ-loop
+declined-returns c =
     let p : Declined = search in
     let k : tie.After-core-of4 Inv-loop μ-loop = search in
     let q = met (p .before) in
     let f = next-refused (reached q) (declining p (k .core-of4 .ensures)) (declines (p .before) .some) (search) in
     (c .gathered4 .ensures ∙ f .0, f .1)
 
-same-length-5 : tie.Need-same-length-5 Inv-loop μ-loop
-same-length-5 c = let l : Loop = search in far l .long
-
-returns-5 : tie.Need-returns-5 Inv-loop μ-loop
-returns-5 c =
+end-returns : End-returns Inv-loop μ-loop
+end-returns c =
     let l : Loop = search in
     let e : tie.After-remains Inv-loop μ-loop = search in
     let p : tie.After-core-of5 Inv-loop μ-loop = search in
@@ -993,107 +948,107 @@ gather-spec =
     Inv-loop
     μ-loop
     (λ c κs. search needs)
-    frame-of-requires
+    (λ c κs. let s : tie.Start Inv-loop μ-loop = search in s .pre .core .settings)
     (λ c κs. search needs)
-    located-in-requires
+    start-located
     loop-holds
     (λ c κs. search needs)
     (λ c κs. let l : Loop = search in far l .room)
     (λ c κs. search needs)
     (λ c κs. search needs)
-    same-length
-    returns
+    (λ c. let l : Loop = search in far l .long)
+    halt-returns
     (λ c κs. search needs)
     (λ c κs. search needs)
-    slice-aggregate-batch
+    (λ c. let w : Waits = search in sines-long (handed (waits w)))
     batch-requires
-    loop-less
-    loop-again
+    batch-less
+    batch-on
     (λ c κs. search needs)
-    mul-e
-    element-copy-out-e
-    segment-requires
-    drawn-of-requires
-    put-requires
-    work-after-requires
-    loop-less-2
-    loop-again-2
+    edge-offset
+    edge-read
+    (λ c κs. let w : Waits = search in (rows-small (waits w), edge-small (far (waits w) .valid .edges) _))
+    segment-drawable
+    segment-fits
+    (λ c κs. let w : Waits = search in far (waits w) .valid .work)
+    segment-less
+    segment-on
     (λ c κs. search needs)
     (λ c. search needs)
     (λ c. let q : Read = search in none-less q)
-    loop-again-3
+    nothing-on
     (λ c. search needs)
     (λ c κs. search needs)
     (λ c κs. search needs)
     (λ c. let q : Read = search in none-less q)
-    loop-again-4
+    name-on
     (λ c. search needs)
     point-requires
-    longer-requires
+    (λ c κs. let p : Pointed = search in longer-fits p (first p (search) (search)))
     (λ c. let q : Read = search in none-less q)
-    loop-again-5
-    cast-k
-    mul-e-2
-    element-set-from-e
-    longer-requires-2
+    (λ c. let p : Pointed = search in points-on p (search) (first p (search) (search)))
+    (λ c. let p : Pointed = search in omega (arith, far (loop (pointing p)) .valid .core .polygon .edges))
+    (λ c. let p : Pointed = search in record { fits = omega (arith, edge-fits p (search) (search)) })
+    (λ c. let p : Pointed = search in omega (arith, edge-fits p (search) (search)))
+    (λ c κs. let p : Pointed = search in longer-fits p (joins p (search) (search)))
     (λ c. let q : Read = search in none-less q)
-    loop-again-6
+    (λ c. let p : Pointed = search in points-on p (search) (joins p (search) (search)))
     shift-requires
     (λ c κs. search needs)
     (λ c κs. search needs)
-    queued-requires
+    line-alone
     (λ c κs. search needs)
     (λ c κs. search needs)
-    same-length-2
-    returns-2
-    drawn-of-requires-2
-    put-requires-2
+    (λ c. let t : Shifted = search in far (loop (shifts t)) .long)
+    full-returns
+    line-drawable
+    line-fits
     (λ c. let q : Read = search in none-less q)
-    loop-again-7
+    line-on
     (λ c. search needs)
     (λ c κs. search needs)
     (λ c. let q : Read = search in none-less q)
-    loop-again-8
+    pairs-on
     (λ c κs. search needs)
-    loop-less-9
-    loop-again-9
+    outline-less
+    outline-on
     (λ c κs. search needs)
     end-rule-requires
-    frame-of-requires-2
+    (λ c κs. let a : Ended = search in act-valid a .core .settings)
     (λ c κs. search needs)
-    located-in-requires-2
+    rule-located
     (λ c κs. search needs)
-    refusal-record-requires
-    put-record-requires
-    loop-less-10
-    loop-again-10
-    (λ c κs. search needs)
-    same-length-3
-    returns-3
-    (λ c. search needs)
-    cast-k-2
-    mul-e-3
-    element-set-from-e-2
+    (λ c κs. let r : Ruled = search in place-small (read r))
+    refusal-fits
     (λ c. let r : Ruled = search in none-less (read r))
-    loop-again-11
+    refusal-on
     (λ c κs. search needs)
-    carried-requires
-    loop-less-12
-    loop-again-12
-    queued-requires-2
-    loop-less-13
-    loop-again-13
+    (λ c. let r : Ruled = search in far (loop (read r)) .long)
+    refusal-returns
+    (λ c. search needs)
+    (λ c. let r : Ruled = search in omega (arith, far (loop (read r)) .valid .core .polygon .edges))
+    (λ c. let a : tie.After-action Inv-loop μ-loop = search in record { fits = omega (arith, joins-edge a) })
+    (λ c. let a : tie.After-action Inv-loop μ-loop = search in omega (arith, joins-edge a))
+    (λ c. let r : Ruled = search in none-less (read r))
+    join-on
+    (λ c κs. search needs)
+    (λ c κs. let r : Ruled = search in act-valid (ended r) .action)
+    carried-less
+    carried-on
+    (λ c κs. let r : Ruled = search in action-alone (loop (read r) .loop .polygon .edges) (did r .action) (act-valid (ended r) .action))
+    queued-less
+    queued-on
     (λ c. search needs)
     (λ c κs. search needs)
-    refusal-record-requires-2
-    put-record-requires-2
-    loop-less-14
-    loop-again-14
+    (λ c κs. let j : Met = search in place-small (met j))
+    declined-fits
+    (λ c. let j : Met = search in none-less (met j))
+    declined-on
     (λ c κs. search needs)
     (λ c κs. search needs)
-    same-length-4
-    returns-4
+    (λ c. let j : Met = search in far (loop (met j)) .long)
+    declined-returns
     (λ c κs. search needs)
     (λ c κs. search needs)
-    same-length-5
-    returns-5)
+    (λ c. let l : Loop = search in far l .long)
+    end-returns)
