@@ -25,13 +25,18 @@ use Rattle.reader.specs.declared.Event.{Event}
 use Rattle.reader.specs.declared.Event.the-variants as event
 use Rattle.reader.specs.declared.Next.{Next}
 use Rattle.reader.specs.declared.Step.{Step}
+use Rattle.reader.specs.Sizes.{SmallPair}
+use Rattle.reader.specs.Step.{passedOver}
 use Rattle.reader.specs.Stream.{_telling_}
 use Rattle.hpgl.specs.declared.Polygon.{Polygon}
 use Rattle.hpgl.specs.declared.Carriage.{Carriage}
 use Rattle.hpgl.specs.declared.Core.{Core}
 use Rattle.hpgl.specs.declared.Action.the-variants.{Keep}
 use Rattle.hpgl.specs.declared.Acted.{Acted}
+use Rattle.hpgl.specs.declared.Drawn.{Drawn}
+use Rattle.hpgl.specs.declared.Edge.{Edge}
 use Rattle.hpgl.specs.declared.Store.{Store}
+use Rattle.hpgl.specs.declared.Stroke.{Stroke}
 use Rattle.hpgl.specs.declared.Work.{Work}
 use Rattle.hpgl.specs.declared.Work.the-variants.{Nothing}
 use Rattle.hpgl.specs.declared.Segment.the-variants as segment
@@ -57,6 +62,7 @@ use Rattle.queue.specs.Corners.{segmentIn}
 use Rattle.rulekit.specs.Hand.{frameOf, handOf, carriageOf, coreOf, lineOf, pointedOf, locationIn}
 use Rattle.rulekit.specs.Locating.{hand-locatable}
 use Rattle.gathering.specs.Gather.{whole, stoppedAs, gatherFrom, overflowsOf}
+use Rattle.gathering.specs.declared.Stopped.{Stopped}
 use Rattle.gathering.specs.Far.{Far, Reached, Batching}
 use Rattle.gathering.proofs.Turns.{leaves, Turn, reader-on, reader-off, acting, none-acts, refused-acts, ended-acts, settled-acts, pair-acts, pair-refused, named-acts, unknown-acts, unstored}
 use Rattle.gathering.proofs.Gathers.{waits-most, waits-less, byte-remains, none-remains, far-start, far-free, put-fits, far-fits, far-halted, far-filled, far-end, far-draw, far-next}
@@ -137,6 +143,33 @@ Ended = tie.After-end-rule Inv-loop μ-loop
 abbrev Ruled : Type 0
 Ruled = tie.After-polygon2 Inv-loop μ-loop
 
+abbrev Rule-core : Type 0
+Rule-core = tie.After-core-of3 Inv-loop μ-loop
+
+abbrev Refusal-made : Type 0
+Refusal-made = tie.After-refusal-record Inv-loop μ-loop
+
+abbrev Declined-made : Type 0
+Declined-made = tie.After-refusal-record2 Inv-loop μ-loop
+
+abbrev Rule-frame : Type 0
+Rule-frame = tie.After-frame-of2 Inv-loop μ-loop
+
+abbrev Instructed : Type 0
+Instructed = tie.After-event3 Inv-loop μ-loop
+
+abbrev Segment-drawn : Type 0
+Segment-drawn = tie.After-drawn-of Inv-loop μ-loop
+
+abbrev Line-drawn : Type 0
+Line-drawn = tie.After-drawn-of2 Inv-loop μ-loop
+
+abbrev Line-queued : Type 0
+Line-queued = tie.After-queued Inv-loop μ-loop
+
+abbrev Action-queued : Type 0
+Action-queued = tie.After-queued2 Inv-loop μ-loop
+
 abbrev Passed : Type 0
 Passed = tie.After-passed-over Inv-loop μ-loop
 
@@ -165,7 +198,7 @@ going e = search
 abbrev waits : Waits → Loop
 waits w = search
 
-abbrev drawn : tie.After-drawn-of Inv-loop μ-loop → Waits
+abbrev drawn : Segment-drawn → Waits
 drawn d = search
 
 abbrev segmented : tie.After-segment Inv-loop μ-loop → Waits
@@ -204,9 +237,108 @@ refusing p = search
 abbrev met : Met → Read
 met j = search
 
+abbrev declining-at : Declined → Met
+declining-at p = search
+
 -- the machine that the parts make
 abbrev here : Loop → State
 here l = whole (l .loop .reader) (coreOf (l .loop .settings) (l .loop .hand) (l .loop .polygon)) (l .loop .store) (l .loop .work)
+
+-- ---- what is called or read again, by name: with the places above and the header, the only lines that have a number
+
+told-ended : (e : Instructed) → let q : Read = search in q .next .result .event ≡ event.Ended (e .event3 .given .0 .0) (e .event3 .given .0 .1 .0)
+told-ended e = e .event3 .given .1
+
+-- the core that a rule gets, and the parts of the one that it leaves
+rule-core : (k : Rule-core) → let q : Read = search in k .core-of3 .result ≡ here (loop q) .core
+rule-core k = k .core-of3 .ensures
+
+abbrev new-hand : Ruled → Hand
+new-hand r = hand-now r .hand-of2 .result
+
+hand-is : (r : Ruled) → new-hand r ≡ handOf (ended r .end-rule .result .core .carriage)
+hand-is r = hand-now r .hand-of2 .ensures
+
+frame-is : (f : Rule-frame) → let a : Ended = search in f .frame-of2 .result ≡ frameOf (a .end-rule .result .core .settings)
+frame-is f = f .frame-of2 .ensures
+
+abbrev new-frame : Ruled → Frame
+new-frame r = let f : Rule-frame = search in f .frame-of2 .result
+
+located-now : (r : Ruled) → let p : tie.After-located-in2 Inv-loop μ-loop = search in p .located-in2 .result ≡ locationIn (new-frame r) (new-hand r .position)
+located-now r = let p : tie.After-located-in2 Inv-loop μ-loop = search in p .located-in2 .ensures ∙ ap (λ (h : Hand). locationIn (new-frame r) (h .position)) (sym (hand-is r))
+
+-- a line that is drawn, and one that waits
+abbrev line : Line-drawn → Drawn
+line d = d .drawn-of2 .result
+
+line-is : (d : Line-drawn) → let t : Shifted = search in line d ≡ drawnOf (loop (shifts t) .loop .frame .limits) (t .shift .result .hand .pen .number) (t .shift .result .segment)
+line-is d = d .drawn-of2 .ensures
+
+abbrev line-work : Line-queued → Work
+line-work k = k .queued .result
+
+line-queued : (k : Line-queued) → let t : Shifted = search in
+    let n : tie.After-line-of Inv-loop μ-loop = search in
+    (turn : ℕ) (es : List Edge) → line-work k ≡ queued turn es (loop (shifts t) .loop .polygon .edges) (n .line-of .result)
+line-queued k = k .queued .ensures
+
+action-queued : (k : Action-queued) → let r : Ruled = search in
+    let t = ended r .end-rule .result in
+    (turn : ℕ) (es : List Edge) → k .queued2 .result ≡ queued turn es (t .core .carriage .polygon .edges) (t .action)
+action-queued k = k .queued2 .ensures
+
+-- the two tails of a refusal
+abbrev passed-reader : Passed → Reader
+passed-reader p = p .passed-over .result
+
+passed-is : (p : Passed) → passed-reader p ≡ passedOver (read (refusing p) .next .result .reader)
+passed-is p = p .passed-over .ensures
+
+abbrev declined-reader : Declined → Reader
+declined-reader p = p .passed-over2 .result
+
+declined-is : (p : Declined) → declined-reader p ≡ passedOver (met (declining-at p) .next .result .reader)
+declined-is p = p .passed-over2 .ensures
+
+abbrev refusal-made : Refusal-made → Stroke
+refusal-made x = x .refusal-record .result
+
+abbrev declined-made : Declined-made → Stroke
+declined-made x = x .refusal-record2 .result
+
+-- the five ends
+with-core : {x : Reader} {k k′ : Core} {st : Store} {w : Work} {at n number : ℕ} {r : Stopped} → r ≡ stoppedAs (whole x k st w) at n number → k ≡ k′ → r ≡ stoppedAs (whole x k′ st w) at n number
+with-core {x} {st = st} {w} {at} {n} {number} e c = e ∙ ap (λ (k : Core). stoppedAs (whole x k st w) at n number) c
+
+halt-stop : (c : tie.After-gathered Inv-loop μ-loop) → let l : Loop = search in
+    let t : tie.After-halted Inv-loop μ-loop = search in
+    c .gathered .result ≡ stoppedAs (here l) (l .loop .at) (l .loop .count) (t .halted .result)
+halt-stop c = let p : tie.After-core-of Inv-loop μ-loop = search in with-core (c .gathered .ensures) (p .core-of .ensures)
+
+full-stop : (c : tie.After-gathered2 Inv-loop μ-loop) → let t : Shifted = search in
+    let k : Line-queued = search in
+    let q = shifts t in
+    let l = loop q .loop in
+    c .gathered2 .result ≡ stoppedAs (whole (q .next .result .reader) (coreOf (l .settings) (t .shift .result .hand) (l .polygon)) (l .store) (line-work k)) (q .next .result .at) (l .count) listFull
+full-stop c = let p : tie.After-core-of2 Inv-loop μ-loop = search in with-core (c .gathered2 .ensures) (p .core-of2 .ensures)
+
+refusal-stop : (c : tie.After-gathered3 Inv-loop μ-loop) → let p : Passed = search in
+    let q = read (refusing p) in
+    let l = loop q .loop in
+    let t = ended (refusing p) .end-rule .result in
+    c .gathered3 .result ≡ stoppedAs (whole (passed-reader p) (t .core) (l .store) Nothing) (q .next .result .at) (l .count) (t .number)
+refusal-stop c = c .gathered3 .ensures
+
+declined-stop : (c : tie.After-gathered4 Inv-loop μ-loop) → let p : Declined = search in
+    let j = declining-at p in
+    let q = met j in
+    let l = loop q in
+    c .gathered4 .result ≡ stoppedAs (whole (declined-reader p) (here l .core) (l .loop .store) Nothing) (q .next .result .at) (l .loop .count) (j .match .number)
+declined-stop c = let p : tie.After-core-of4 Inv-loop μ-loop = search in with-core (c .gathered4 .ensures) (p .core-of4 .ensures)
+
+end-stop : (c : tie.After-gathered5 Inv-loop μ-loop) → let l : Loop = search in c .gathered5 .result ≡ stoppedAs (here l) (l .loop .at) (l .loop .count) 0
+end-stop c = let p : tie.After-core-of5 Inv-loop μ-loop = search in with-core (c .gathered5 .ensures) (p .core-of5 .ensures)
 
 -- ---- how far the loop is
 
@@ -301,7 +433,7 @@ waited g =
     ∙ (λ i. segmentIn (l .loop .frame .rows) (getD (l .loop .store .edges) (p .edge-place .ensures i) noEdge) (l .loop .work) (l .loop .here) (l .loop .here))
     ∙ alone-waits (here l) (l .loop .here) (rows l) (sym (segmented g .batched .ensures) ∙ search)
 
-drew : (d : tie.After-drawn-of Inv-loop μ-loop) → d .drawn-of .result ≡ drawAnswer (here (waits (drawn d)))
+drew : (d : Segment-drawn) → d .drawn-of .result ≡ drawAnswer (here (waits (drawn d)))
 drew d =
     let l = waits (drawn d) in
     d .drawn-of .ensures
@@ -332,6 +464,9 @@ byte q = getD (entry (loop q) .args .bytes .now) (reached q .place) 0
 
 event-valid : (q : Read) → ValidEvent (held q) (told q)
 event-valid q = subst (ValidEvent (held q)) (sym (ap (λ (x : Step). x .event) (reached q .step))) (step-event {m = last q} (byte q) (reached q .far .valid))
+
+pair-small : (q : Read) {n : Coordinates} → told q ≡ event.Pair n → SmallPair n
+pair-small q e = subst (ValidEvent (held q)) e (event-valid q)
 
 acts-valid : (q : Read) {t : Acted} → t ≡ actOn (held q) (told q) → ValidActed (held q) t
 acts-valid q e = subst (ValidActed (held q)) (sym e) (valid-event (told q) (far (loop q) .valid .core) (event-valid q))
@@ -481,13 +616,13 @@ stays t z =
     let l = loop q .loop in
     next-waits (reached q) (coreOf (l .settings) (t .shift .result .hand) (l .polygon)) (t .shift .result .segment) (shift-acts t z) (free-taken q)
 
-line-left : (k : tie.After-queued Inv-loop μ-loop) → let t : Shifted = search in k .queued .result ≡ line-waits t
+line-left : (k : Line-queued) → let t : Shifted = search in line-work k ≡ line-waits t
 line-left k =
     let t : Shifted = search in
     let n : tie.After-line-of Inv-loop μ-loop = search in
     let l = loop (shifts t) .loop in
     let c = coreOf (l .settings) (t .shift .result .hand) (l .polygon) in
-    k .queued .ensures (c .settings .turn) (stored (l .store .edges) (l .polygon .edges) (n .line-of .result)) ∙ ap (leaves (l .store .edges) (l .polygon .edges) c) (n .line-of .ensures)
+    line-queued k (c .settings .turn) (stored (l .store .edges) (l .polygon .edges) (n .line-of .result)) ∙ ap (leaves (l .store .edges) (l .polygon .edges) c) (n .line-of .ensures)
 
 -- ---- an instruction that ends
 
@@ -497,22 +632,20 @@ did r = ended r .end-rule .result
 acts : (a : Ended) → a .end-rule .result ≡ actOn (held (ending a)) (told (ending a))
 acts a =
     let q = ending a in
-    let e : tie.After-event3 Inv-loop μ-loop = search in
+    let e : Instructed = search in
+    let k : Rule-core = search in
     let l = loop q .loop in
-    settled-acts (l .settings) (l .hand) (l .polygon) _ _ (a .before .core-of3 .ensures) (a .end-rule .ensures) ∙ ap (actOn (held q)) (sym (e .event3 .given .1))
+    settled-acts (l .settings) (l .hand) (l .polygon) _ _ (rule-core k) (a .end-rule .ensures) ∙ ap (actOn (held q)) (sym (told-ended e))
 
 act-valid : (a : Ended) → ValidActed (held (ending a)) (a .end-rule .result)
 act-valid a = acts-valid (ending a) (acts a)
 
 -- the parts of the core
 abbrev core-now : Ruled → Core
-core-now r = coreOf (did r .core .settings) (hand-now r .hand-of2 .result) (did r .core .carriage .polygon)
+core-now r = coreOf (did r .core .settings) (new-hand r) (did r .core .carriage .polygon)
 
 core-is : (r : Ruled) → core-now r ≡ did r .core
-core-is r = ap (λ (h : Hand). coreOf (did r .core .settings) h (did r .core .carriage .polygon)) (hand-now r .hand-of2 .ensures)
-
-located-now : (r : Ruled) → r .before .located-in2 .result ≡ locationIn (hand-now r .before .frame-of2 .result) (hand-now r .hand-of2 .result .position)
-located-now r = r .before .located-in2 .ensures ∙ ap (λ (h : Hand). locationIn (hand-now r .before .frame-of2 .result) (h .position)) (sym (hand-now r .hand-of2 .ensures))
+core-is r = ap (λ (h : Hand). coreOf (did r .core .settings) h (did r .core .carriage .polygon)) (hand-is r)
 
 -- a turn, with the edges and the work that the action leaves
 abbrev Edges : Ruled → Store → Type 0
@@ -548,12 +681,12 @@ kept p =
 
 passed : (p : Passed) {k : Core} → let r = refusing p in
     let q = read r in
-    k ≡ did r .core → Turn (last q) (byte q) (q .next .result .reader telling told q) (did r) (whole (p .passed-over .result) k (loop q .loop .store) Nothing)
+    k ≡ did r .core → Turn (last q) (byte q) (q .next .result .reader telling told q) (did r) (whole (passed-reader p) k (loop q .loop .store) Nothing)
 unfolding stored queued
 passed p e =
     let r = refusing p in
     let l = loop (read r) .loop in
-    turn r (p .passed-over .ensures ∙ reader-off _ (refused p)) e (ap (stored (l .store .edges) (l .polygon .edges)) (sym (kept p))) (ap (leaves (l .store .edges) (l .polygon .edges) (did r .core)) (sym (kept p)))
+    turn r (passed-is p ∙ reader-off _ (refused p)) e (ap (stored (l .store .edges) (l .polygon .edges)) (sym (kept p))) (ap (leaves (l .store .edges) (l .polygon .edges) (did r .core)) (sym (kept p)))
 
 -- an edge that is joined finds its place
 joins-edge : (a : tie.After-action Inv-loop μ-loop) → let r : Ruled = search in loop (read r) .loop .polygon .edges < mostEdges
@@ -612,16 +745,16 @@ declines j =
     by j same (refusal-some (reached q) (event .given .1)) (refused-acts (l .settings) (l .hand) (l .polygon) _ ∙ ap (actOn (held q)) (sym (event .given .1))))))
     (j .match .came)
 
-declining : (p : Declined) {k : Core} → let j = p .before in
+declining : (p : Declined) {k : Core} → let j = declining-at p in
     let q = met j in
-    k ≡ held q → Turn (last q) (byte q) (q .next .result .reader telling told q) (declined j) (whole (p .passed-over2 .result) k (loop q .loop .store) Nothing)
+    k ≡ held q → Turn (last q) (byte q) (q .next .result .reader telling told q) (declined j) (whole (declined-reader p) k (loop q .loop .store) Nothing)
 unfolding stored queued
 declining p e =
-    let j = p .before in
+    let j = declining-at p in
     record {
       step = reached (met j) .step;
       act = declines j .does;
-      reader = p .passed-over2 .ensures ∙ reader-off _ (declines j .some);
+      reader = declined-is p ∙ reader-off _ (declines j .some);
       core = e;
       edges = refl;
       work = refl;
@@ -659,10 +792,8 @@ halt-returns c =
     let l : Loop = search in
     let o : tie.After-remains Inv-loop μ-loop = search in
     let t : tie.After-halted Inv-loop μ-loop = search in
-    let p : tie.After-core-of Inv-loop μ-loop = search in
     let f = far-halted (far l) (sym (o .remains .ensures) ∙ search) (t .halted .ensures) (omega arith) in
-    let e = ap (λ (k : Core). stoppedAs (whole (l .loop .reader) k (l .loop .store) (l .loop .work)) (l .loop .at) (l .loop .count) (t .halted .result)) (p .core-of .ensures) in
-    (c .gathered .ensures ∙ e ∙ f .0, f .1)
+    (halt-stop c ∙ f .0, f .1)
 
 batch-requires : tie.Need-batch-requires Inv-loop μ-loop
 batch-requires c κs =
@@ -700,13 +831,13 @@ segment-fits c κs = let w : Waits = search in put-fits _ _ _ (far-fits (far (wa
 
 segment-less : Segment-less Inv-loop μ-loop
 segment-less c =
-    let d : tie.After-drawn-of Inv-loop μ-loop = search in
+    let d : Segment-drawn = search in
     let w = drawn d in
     omega (arith, waits-less (here (waits w)) (c .work-after .result) (waits-some w) (c .work-after .ensures))
 
 segment-on : Segment-on Inv-loop μ-loop
 segment-on c =
-    let d : tie.After-drawn-of Inv-loop μ-loop = search in
+    let d : Segment-drawn = search in
     let u : tie.After-put Inv-loop μ-loop = search in
     let w = drawn d in
     let l = waits w in
@@ -717,20 +848,19 @@ unfolding lineOf
 nothing-on c =
     let q : Read = search in
     let l = loop q in
-    (again l (quiet q (c .enum-told .given .1) (none-acts (l .loop .settings) (l .loop .hand) (l .loop .polygon))), l .loop .inv .1, l .loop .inv .2)
+    (again l (quiet q (search) (none-acts (l .loop .settings) (l .loop .hand) (l .loop .polygon))), l .loop .inv .1, l .loop .inv .2)
 
 name-on : Name-on Inv-loop μ-loop
 unfolding lineOf
 name-on c =
     let q : Read = search in
-    let e : tie.After-event Inv-loop μ-loop = search in
     let n : tie.After-name-number Inv-loop μ-loop = search in
     let l = loop q in
     let h = l .loop .hand in
     let g = l .loop .polygon in
     let same = ap (λ (k : Carriage). k .position) (c .letters .ensures g) ∙ letters-position (carriageOf h g) _ in
     let z : n .name-number .result ≡ 0 = search in (
-      again l (quiet q (e .event .given .1) (ap (λ (k : ℕ). acting (l .loop .settings) (c .letters .result) g Keep k) (sym z) ∙ named-acts (l .loop .settings) h g _ (n .name-number .ensures) (c .letters .result) z (c .letters .ensures g))),
+      again l (quiet q (search) (ap (λ (k : ℕ). acting (l .loop .settings) (c .letters .result) g Keep k) (sym z) ∙ named-acts (l .loop .settings) h g _ (n .name-number .ensures) (c .letters .result) z (c .letters .ensures g))),
       l .loop .inv .1,
       l .loop .inv .2 ∙ ap (locationIn (l .loop .frame)) (sym same),
     )
@@ -738,11 +868,10 @@ name-on c =
 point-requires : tie.Need-point-requires Inv-loop μ-loop
 point-requires c κs =
     let q : Read = search in
-    let e : tie.After-event2 Inv-loop μ-loop = search in
     let l = loop q in
     let v = far l .valid .core in (
       record { polygon = l .loop .polygon; parts = record { settings = l .loop .settings; frame = l .loop .inv .1; core = v } },
-      subst (ValidEvent (held q)) (e .event2 .given .1) (event-valid q),
+      pair-small q (search),
       l .loop .inv .2,
       v .polygon .bytes,
     )
@@ -750,10 +879,9 @@ point-requires c κs =
 shift-requires : tie.Need-shift-requires Inv-loop μ-loop
 shift-requires c κs =
     let q : Read = search in
-    let e : tie.After-event2 Inv-loop μ-loop = search in
     let l = loop q in (
       record { polygon = l .loop .polygon; parts = record { settings = l .loop .settings; frame = l .loop .inv .1; core = far l .valid .core } },
-      subst (ValidEvent (held q)) (e .event2 .given .1) (event-valid q),
+      pair-small q (search),
       l .loop .inv .2,
     )
 
@@ -768,14 +896,13 @@ line-alone c κs =
 full-returns : Full-returns Inv-loop μ-loop
 full-returns c =
     let m : Moved = search in
-    let k : tie.After-queued Inv-loop μ-loop = search in
-    let o : tie.After-core-of2 Inv-loop μ-loop = search in
+    let k : Line-queued = search in
     let t = moved m in
     let q = shifts t in
     let l = loop q in
     let h = overflow-waits (t .shift .result .segment) _ _ (l .loop .store .edges) (l .loop .polygon .edges) (coreOf (l .loop .settings) (t .shift .result .hand) (l .loop .polygon)) (sym (m .overflows .ensures) ∙ search) in
     let g = far-filled (stays t (accepted m)) (h .0) (h .1) in
-    (c .gathered2 .ensures ∙ (λ i. stoppedAs (whole (q .next .result .reader) (o .core-of2 .ensures i) (l .loop .store) (line-left k i)) (q .next .result .at) (l .loop .count) listFull) ∙ g .0, g .1)
+    (full-stop c ∙ (λ i. stoppedAs (whole (q .next .result .reader) (coreOf (l .loop .settings) (t .shift .result .hand) (l .loop .polygon)) (l .loop .store) (line-left k i)) (q .next .result .at) (l .loop .count) listFull) ∙ g .0, g .1)
 
 line-drawable : Line-drawable Inv-loop μ-loop
 line-drawable c κs =
@@ -789,22 +916,21 @@ line-fits : Line-fits Inv-loop μ-loop
 line-fits c κs =
     let m : Moved = search in
     let t = moved m in
-    let d : tie.After-drawn-of2 Inv-loop μ-loop = search in
+    let d : Line-drawn = search in
     let l = loop (shifts t) in
-    rw (d .drawn-of2 .ensures) (drawn-fits (t .shift .result .segment) _ _ _ _ _ (has-record m (search)) (far l .room) (omega (arith, mul-div-le (length (entry l .args .numbers .now)) 5, far l .long)))
+    rw (line-is d) (drawn-fits (t .shift .result .segment) _ _ _ _ _ (has-record m (search)) (far l .room) (omega (arith, mul-div-le (length (entry l .args .numbers .now)) 5, far l .long)))
 
 line-on : Line-on Inv-loop μ-loop
 line-on c =
     let m : Moved = search in
-    let d : tie.After-drawn-of2 Inv-loop μ-loop = search in
-    let u : tie.After-put2 Inv-loop μ-loop = search in
+    let d : Line-drawn = search in
     let t = moved m in
     let q = shifts t in
     let l = loop q in
     let r = t .shift .result in (
       again l
           (next-drawn (reached q) (coreOf (l .loop .settings) (r .hand) (l .loop .polygon)) (free-taken q) (r .segment) (has-record m (search)) (shift-acts t (accepted m))
-          (d .drawn-of2 .ensures ∙ ap (λ (b : Rect). drawnOf b (r .hand .pen .number) (r .segment)) (limited l)) (u .put2 .ensures .1) (u .put2 .ensures .0)),
+          (line-is d ∙ ap (λ (b : Rect). drawnOf b (r .hand .pen .number) (r .segment)) (limited l)) (search) (search)),
       l .loop .inv .1,
       t .shift .ensures .1,
     )
@@ -814,37 +940,37 @@ unfolding lineOf
 pairs-on c =
     let q : Read = search in
     let k : tie.After-takes-pairs Inv-loop μ-loop = search in
-    let e : tie.After-event3 Inv-loop μ-loop = search in
+    let e : Instructed = search in
     let l = loop q in
-    (again l (quiet q (e .event3 .given .1) (ended-acts (l .loop .settings) (l .loop .hand) (l .loop .polygon) _ _ (sym (k .takes-pairs .ensures) ∙ search))), l .loop .inv .1, l .loop .inv .2)
+    (again l (quiet q (told-ended e) (ended-acts (l .loop .settings) (l .loop .hand) (l .loop .polygon) _ _ (sym (k .takes-pairs .ensures) ∙ search))), l .loop .inv .1, l .loop .inv .2)
 
 outline-less : Outline-less Inv-loop μ-loop
 outline-less c =
     let q : Read = search in
-    let e : tie.After-event3 Inv-loop μ-loop = search in
+    let e : Instructed = search in
     let l = loop q in
-    let f = next-outline (reached q) (e .event3 .given .1) (search) (c .outline .ensures) (free-taken q) in
+    let f = next-outline (reached q) (told-ended e) (search) (c .outline .ensures) (free-taken q) in
     less q (c .outline .result) (waits-most (c .outline .result) (f .valid .work))
 
 outline-on : Outline-on Inv-loop μ-loop
 outline-on c =
     let q : Read = search in
-    let e : tie.After-event3 Inv-loop μ-loop = search in
+    let e : Instructed = search in
     let l = loop q in
-    (again l (next-outline (reached q) (e .event3 .given .1) (search) (c .outline .ensures) (free-taken q)), l .loop .inv .1, l .loop .inv .2)
+    (again l (next-outline (reached q) (told-ended e) (search) (c .outline .ensures) (free-taken q)), l .loop .inv .1, l .loop .inv .2)
 
 end-rule-requires : tie.Need-end-rule-requires Inv-loop μ-loop
 end-rule-requires c κs =
     let q : Read = search in
-    let e : tie.After-event3 Inv-loop μ-loop = search in
-    rw (c .core-of3 .ensures) (far (loop q) .valid .core, subst (ValidEvent (held q)) (e .event3 .given .1) (event-valid q) .0 .numbers)
+    let e : Instructed = search in
+    rw (rule-core c) (far (loop q) .valid .core, subst (ValidEvent (held q)) (told-ended e) (event-valid q) .0 .numbers)
 
 rule-located : Rule-located Inv-loop μ-loop
 rule-located c κs =
     let a : Ended = search in
-    let f : tie.After-frame-of2 Inv-loop μ-loop = search in
+    let f : Rule-frame = search in
     let k = a .end-rule .result .core in
-    hand-locatable {h = handOf (k .carriage)} {g = k .carriage .polygon} (record { settings = k .settings; frame = f .frame-of2 .ensures; core = act-valid a .core })
+    hand-locatable {h = handOf (k .carriage)} {g = k .carriage .polygon} (record { settings = k .settings; frame = frame-is f; core = act-valid a .core })
 
 refusal-fits : Refusal-fits Inv-loop μ-loop
 refusal-fits c κs =
@@ -854,14 +980,13 @@ refusal-fits c κs =
 refusal-on : Refusal-on Inv-loop μ-loop
 refusal-on c =
     let p : Passed = search in
-    let x : tie.After-refusal-record Inv-loop μ-loop = search in
-    let u : tie.After-put-record Inv-loop μ-loop = search in
+    let x : Refusal-made = search in
     let r = refusing p in
     let q = read r in
     let o : entry (loop q) .args .on ≡ true = search in (
       again (loop q)
-          (next-refusal (reached q) (passed p (core-is r)) (refused p) o (free-taken q o) (x .refusal-record .ensures) (u .put-record .ensures .1) (u .put-record .ensures .0)),
-      hand-now r .before .frame-of2 .ensures,
+          (next-refusal (reached q) (passed p (core-is r)) (refused p) o (free-taken q o) {x = refusal-made x} (search) (search) (search)),
+      search,
       located-now r,
     )
 
@@ -870,13 +995,13 @@ refusal-returns c =
     let p : Passed = search in
     let q = read (refusing p) in
     let f = next-refused (reached q) (passed p refl) (refused p) (search) in
-    (c .gathered3 .ensures ∙ f .0, f .1)
+    (refusal-stop c ∙ f .0, f .1)
 
 join-on : Join-on Inv-loop μ-loop
 join-on c =
     let r : Ruled = search in
     let e : tie.After-action Inv-loop μ-loop = search in
-    (again (loop (read r)) (taken r (omega arith) (joined-edges e) (joined-waits e)), hand-now r .before .frame-of2 .ensures, located-now r)
+    (again (loop (read r)) (taken r (omega arith) (joined-edges e) (joined-waits e)), search, located-now r)
 
 carried-less : Carried-less Inv-loop μ-loop
 carried-less c =
@@ -888,21 +1013,21 @@ carried-on : Carried-on Inv-loop μ-loop
 carried-on c =
     let r : Ruled = search in
     let k : tie.After-carried Inv-loop μ-loop = search in
-    (again (loop (read r)) (taken r (omega arith) (k .carried .ensures .0) (k .carried .ensures .1 _ _)), hand-now r .before .frame-of2 .ensures, located-now r)
+    (again (loop (read r)) (taken r (omega arith) (k .carried .ensures .0) (k .carried .ensures .1 _ _)), search, located-now r)
 
 queued-less : Queued-less Inv-loop μ-loop
 queued-less c =
     let r : Ruled = search in
     let h : tie.After-heavy Inv-loop μ-loop = search in
-    let k : tie.After-queued2 Inv-loop μ-loop = search in
-    taken-less r (omega arith) (same-edges h search) (k .queued2 .ensures _ _)
+    let k : Action-queued = search in
+    taken-less r (omega arith) (same-edges h search) (action-queued k _ _)
 
 queued-on : Queued-on Inv-loop μ-loop
 queued-on c =
     let r : Ruled = search in
     let h : tie.After-heavy Inv-loop μ-loop = search in
-    let k : tie.After-queued2 Inv-loop μ-loop = search in
-    (again (loop (read r)) (taken r (omega arith) (same-edges h search) (k .queued2 .ensures _ _)), hand-now r .before .frame-of2 .ensures, located-now r)
+    let k : Action-queued = search in
+    (again (loop (read r)) (taken r (omega arith) (same-edges h search) (action-queued k _ _)), search, located-now r)
 
 declined-fits : Declined-fits Inv-loop μ-loop
 declined-fits c κs =
@@ -912,13 +1037,12 @@ declined-fits c κs =
 declined-on : Declined-on Inv-loop μ-loop
 declined-on c =
     let p : Declined = search in
-    let x : tie.After-refusal-record2 Inv-loop μ-loop = search in
-    let u : tie.After-put-record2 Inv-loop μ-loop = search in
-    let q = met (p .before) in
+    let x : Declined-made = search in
+    let q = met (declining-at p) in
     let l = loop q in
     let o : entry l .args .on ≡ true = search in (
       again l
-          (next-refusal (reached q) (declining p refl) (declines (p .before) .some) o (free-taken q o) (x .refusal-record2 .ensures) (u .put-record2 .ensures .1) (u .put-record2 .ensures .0)),
+          (next-refusal (reached q) (declining p refl) (declines (declining-at p) .some) o (free-taken q o) {x = declined-made x} (search) (search) (search)),
       l .loop .inv .1,
       l .loop .inv .2,
     )
@@ -926,20 +1050,17 @@ declined-on c =
 declined-returns : Declined-returns Inv-loop μ-loop
 declined-returns c =
     let p : Declined = search in
-    let k : tie.After-core-of4 Inv-loop μ-loop = search in
-    let q = met (p .before) in
-    let f = next-refused (reached q) (declining p (k .core-of4 .ensures)) (declines (p .before) .some) (search) in
-    (c .gathered4 .ensures ∙ f .0, f .1)
+    let q = met (declining-at p) in
+    let f = next-refused (reached q) (declining p refl) (declines (declining-at p) .some) (search) in
+    (declined-stop c ∙ f .0, f .1)
 
 end-returns : End-returns Inv-loop μ-loop
 end-returns c =
     let l : Loop = search in
     let e : tie.After-remains Inv-loop μ-loop = search in
-    let p : tie.After-core-of5 Inv-loop μ-loop = search in
     let n = none-remains (l .loop .work) _ _ (sym (e .remains .ensures) ∙ search) in
     let f = far-end (far l) (n .0) (n .1) in
-    let k = ap (λ (k : Core). stoppedAs (whole (l .loop .reader) k (l .loop .store) (l .loop .work)) (l .loop .at) (l .loop .count) 0) (p .core-of5 .ensures) in
-    (c .gathered5 .ensures ∙ k ∙ f .0, f .1)
+    (end-stop c ∙ f .0, f .1)
 
 pub gather-spec : {M : Type 1} → statement M
 gather-spec =
