@@ -70,6 +70,8 @@ use Rattle.gathering.proofs.Moving.{letters-position, overflow-waits, d
 use Rattle.gathering.proofs.Chording.{alone-waits}
 use Rattle.gathering.proofs.gather.Statement.{statement}
 use Rattle.gathering.proofs.gather.Tie as tie
+-- A test has no name in the language, only a number, so no line goes by one: a place is that of a call, and what a test says is found by its own words (`search`). What is asked, called or read
+-- more than once is numbered in the order of the text. Those numbers stand here and in the two blocks that follow, and nowhere else.
 use Rattle.gathering.proofs.gather.Tie.{Need-returns as Halt-returns}
 use Rattle.gathering.proofs.gather.Tie.{Need-loop-less as Batch-less}
 use Rattle.gathering.proofs.gather.Tie.{Need-loop-again as Batch-on}
@@ -113,7 +115,7 @@ Inv-loop bytes from numbers₀ on sines reader₀ settings₀ frame₀ hand₀ h
 abbrev μ-loop : tie.MeasureT-loop
 μ-loop bytes from numbers₀ on sines reader₀ settings₀ frame₀ hand₀ here₀ polygon₀ store₀ work₀ at₀ count₀ room numbers reader settings frame hand here polygon store work at count = (length bytes - at) * 721 + waiting work
 
--- ---- the places of a turn, by name: a test that is added to the function renumbers these alone
+-- ---- the places of a turn, by name
 
 abbrev Loop : Type 0
 Loop = tie.At-loop Inv-loop μ-loop
@@ -244,7 +246,7 @@ declining-at p = search
 abbrev here : Loop → State
 here l = whole (l .loop .reader) (coreOf (l .loop .settings) (l .loop .hand) (l .loop .polygon)) (l .loop .store) (l .loop .work)
 
--- ---- what is called or read again, by name: with the places above and the header, the only lines that have a number
+-- ---- what is called or read again, by name, each with what it tells of the locals
 
 told-ended : (e : Instructed) → let q : Read = search in q .next .result .event ≡ event.Ended (e .event3 .given .0 .0) (e .event3 .given .0 .1 .0)
 told-ended e = e .event3 .given .1
@@ -435,9 +437,10 @@ waited g =
 
 drew : (d : Segment-drawn) → d .drawn-of .result ≡ drawAnswer (here (waits (drawn d)))
 drew d =
+    let g : tie.After-segment Inv-loop μ-loop = search in
     let l = waits (drawn d) in
     d .drawn-of .ensures
-    ∙ (λ i. drawnOf (limited l i) (l .loop .hand .pen .number) (waited (d .before) i))
+    ∙ (λ i. drawnOf (limited l i) (l .loop .hand .pen .number) (waited g i))
     ∙ sym (segment-drawn (here l))
 
 -- ---- a byte
@@ -838,10 +841,9 @@ segment-less c =
 segment-on : Segment-on Inv-loop μ-loop
 segment-on c =
     let d : Segment-drawn = search in
-    let u : tie.After-put Inv-loop μ-loop = search in
     let w = drawn d in
     let l = waits w in
-    (again l (far-draw (far l) (waits-some w) (free-drawn w) (drew d) (u .put .ensures .1) (u .put .ensures .0) (c .work-after .ensures)), l .loop .inv .1, l .loop .inv .2)
+    (again l (far-draw (far l) (waits-some w) (free-drawn w) (drew d) (search) (search) (c .work-after .ensures)), l .loop .inv .1, l .loop .inv .2)
 
 nothing-on : Nothing-on Inv-loop μ-loop
 unfolding lineOf
