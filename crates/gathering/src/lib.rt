@@ -360,9 +360,7 @@ pub fn gather(m: State, bytes: &[u8], from: usize, numbers: &mut [i64], on: bool
         let edges = polygon.edges;
         let mut number: u8 = 0;
         match event {
-            Event::Nothing => {
-                continue;
-            }
+            Event::Nothing => continue,
             Event::Named(op) => {
                 number = name_number(polygon.mode, op);
                 if number == 0 {
@@ -449,9 +447,7 @@ pub fn gather(m: State, bytes: &[u8], from: usize, numbers: &mut [i64], on: bool
                 work = queued(polygon.edges, action);
                 continue;
             }
-            Event::Refused(k) => {
-                number = k;
-            }
+            Event::Refused(k) => number = k,
         }
         // refused: all else is as it was
         reader = reader.passed_over();

@@ -19,17 +19,24 @@ use Rattle.plane.specs.Bounds.{UnitRows}
 use Rattle.plane.specs.Turn.{rowsOf}
 use Rattle.plane.specs.TurnLaws.{rows-unit}
 use Rattle.sines.specs.Rules.{entries}
+use Rattle.reader.specs.declared.Coordinates.{Coordinates}
 use Rattle.reader.specs.declared.Reader.{Reader}
 use Rattle.reader.specs.declared.Event.{Event}
+use Rattle.reader.specs.declared.Event.the-variants as event
 use Rattle.reader.specs.declared.Next.{Next}
 use Rattle.reader.specs.declared.Step.{Step}
+use Rattle.reader.specs.Sizes.{SmallPair}
+use Rattle.reader.specs.Step.{passedOver}
 use Rattle.reader.specs.Stream.{_telling_}
 use Rattle.hpgl.specs.declared.Polygon.{Polygon}
 use Rattle.hpgl.specs.declared.Carriage.{Carriage}
 use Rattle.hpgl.specs.declared.Core.{Core}
 use Rattle.hpgl.specs.declared.Action.the-variants.{Keep}
 use Rattle.hpgl.specs.declared.Acted.{Acted}
+use Rattle.hpgl.specs.declared.Drawn.{Drawn}
+use Rattle.hpgl.specs.declared.Edge.{Edge}
 use Rattle.hpgl.specs.declared.Store.{Store}
+use Rattle.hpgl.specs.declared.Stroke.{Stroke}
 use Rattle.hpgl.specs.declared.Work.{Work}
 use Rattle.hpgl.specs.declared.Work.the-variants.{Nothing}
 use Rattle.hpgl.specs.declared.Segment.the-variants as segment
@@ -39,7 +46,7 @@ use Rattle.feeding.specs.DrawOff.{listFull}
 use Rattle.hpgl.specs.Pins.{pinned}
 use Rattle.feeding.specs.Plot.{Plot, refusal}
 use Rattle.hpgl.specs.Place.{limits}
-use Rattle.hpgl.specs.Rules.{longer, refuse, actOn}
+use Rattle.hpgl.specs.Rules.{longer, refuse, pairRule, actOn}
 use Rattle.hpgl.specs.Machine.{noEdge, waiting, stored, queued, readerAfter, drawAnswer}
 use Rattle.hpgl.specs.Segment.{segmentOf, drawnOf, segment-drawn, SmallSegment, segment-small}
 use Rattle.hpgl.specs.Valid.{ValidActed, ValidEvent, ValidAction}
@@ -48,12 +55,14 @@ use Rattle.hpgl.specs.ReaderKept.{step-event}
 use Rattle.hpgl.specs.ValidKept.{valid-event}
 use Rattle.rulekit.specs.declared.places.Frame.{Frame}
 use Rattle.rulekit.specs.declared.hand.Hand.{Hand}
+use Rattle.rulekit.specs.declared.hand.Pointed.{Pointed as Placed}
 use Rattle.queue.specs.Alone.{action-alone}
 use Rattle.queue.specs.First.{place-within}
 use Rattle.queue.specs.Corners.{segmentIn}
 use Rattle.rulekit.specs.Hand.{frameOf, handOf, carriageOf, coreOf, lineOf, pointedOf, locationIn}
 use Rattle.rulekit.specs.Locating.{hand-locatable}
 use Rattle.gathering.specs.Gather.{whole, stoppedAs, gatherFrom, overflowsOf}
+use Rattle.gathering.specs.declared.Stopped.{Stopped}
 use Rattle.gathering.specs.Far.{Far, Reached, Batching}
 use Rattle.gathering.proofs.Turns.{leaves, Turn, reader-on, reader-off, acting, none-acts, refused-acts, ended-acts, settled-acts, pair-acts, pair-refused, named-acts, unknown-acts, unstored}
 use Rattle.gathering.proofs.Gathers.{waits-most, waits-less, byte-remains, none-remains, far-start, far-free, put-fits, far-fits, far-halted, far-filled, far-end, far-draw, far-next}
@@ -61,6 +70,41 @@ use Rattle.gathering.proofs.Moving.{letters-position, overflow-waits, d
 use Rattle.gathering.proofs.Chording.{alone-waits}
 use Rattle.gathering.proofs.gather.Statement.{statement}
 use Rattle.gathering.proofs.gather.Tie as tie
+-- A test has no name in the language, only a number, so no line goes by one: a place is that of a call, and what a test says is found by its own words (`search`). What is asked, called or read
+-- more than once is numbered in the order of the text. Those numbers stand here and in the two blocks that follow, and nowhere else.
+use Rattle.gathering.proofs.gather.Tie.{Need-returns as Halt-returns}
+use Rattle.gathering.proofs.gather.Tie.{Need-loop-less as Batch-less}
+use Rattle.gathering.proofs.gather.Tie.{Need-loop-again as Batch-on}
+use Rattle.gathering.proofs.gather.Tie.{Need-mul-e as Edge-offset}
+use Rattle.gathering.proofs.gather.Tie.{Need-element-copy-out-e as Edge-read}
+use Rattle.gathering.proofs.gather.Tie.{Need-drawn-of-requires as Segment-drawable}
+use Rattle.gathering.proofs.gather.Tie.{Need-put-requires as Segment-fits}
+use Rattle.gathering.proofs.gather.Tie.{Need-loop-less-2 as Segment-less}
+use Rattle.gathering.proofs.gather.Tie.{Need-loop-again-2 as Segment-on}
+use Rattle.gathering.proofs.gather.Tie.{Need-loop-again-3 as Nothing-on}
+use Rattle.gathering.proofs.gather.Tie.{Need-loop-again-4 as Name-on}
+use Rattle.gathering.proofs.gather.Tie.{Need-queued-requires as Line-alone}
+use Rattle.gathering.proofs.gather.Tie.{Need-returns-2 as Full-returns}
+use Rattle.gathering.proofs.gather.Tie.{Need-drawn-of-requires-2 as Line-drawable}
+use Rattle.gathering.proofs.gather.Tie.{Need-put-requires-2 as Line-fits}
+use Rattle.gathering.proofs.gather.Tie.{Need-loop-again-7 as Line-on}
+use Rattle.gathering.proofs.gather.Tie.{Need-loop-again-8 as Pairs-on}
+use Rattle.gathering.proofs.gather.Tie.{Need-loop-less-9 as Outline-less}
+use Rattle.gathering.proofs.gather.Tie.{Need-loop-again-9 as Outline-on}
+use Rattle.gathering.proofs.gather.Tie.{Need-located-in-requires as Start-located}
+use Rattle.gathering.proofs.gather.Tie.{Need-located-in-requires-2 as Rule-located}
+use Rattle.gathering.proofs.gather.Tie.{Need-put-record-requires as Refusal-fits}
+use Rattle.gathering.proofs.gather.Tie.{Need-loop-again-10 as Refusal-on}
+use Rattle.gathering.proofs.gather.Tie.{Need-returns-3 as Refusal-returns}
+use Rattle.gathering.proofs.gather.Tie.{Need-loop-again-11 as Join-on}
+use Rattle.gathering.proofs.gather.Tie.{Need-loop-less-12 as Carried-less}
+use Rattle.gathering.proofs.gather.Tie.{Need-loop-again-12 as Carried-on}
+use Rattle.gathering.proofs.gather.Tie.{Need-loop-less-13 as Queued-less}
+use Rattle.gathering.proofs.gather.Tie.{Need-loop-again-13 as Queued-on}
+use Rattle.gathering.proofs.gather.Tie.{Need-put-record-requires-2 as Declined-fits}
+use Rattle.gathering.proofs.gather.Tie.{Need-loop-again-14 as Declined-on}
+use Rattle.gathering.proofs.gather.Tie.{Need-returns-4 as Declined-returns}
+use Rattle.gathering.proofs.gather.Tie.{Need-returns-5 as End-returns}
 
 abbrev Inv-loop : tie.InvT-loop
 Inv-loop bytes from numbers₀ on sines reader₀ settings₀ frame₀ hand₀ here₀ polygon₀ store₀ work₀ at₀ count₀ room numbers reader settings frame hand here polygon store work at count =
@@ -71,25 +115,16 @@ Inv-loop bytes from numbers₀ on sines reader₀ settings₀ frame₀ hand₀ h
 abbrev μ-loop : tie.MeasureT-loop
 μ-loop bytes from numbers₀ on sines reader₀ settings₀ frame₀ hand₀ here₀ polygon₀ store₀ work₀ at₀ count₀ room numbers reader settings frame hand here polygon store work at count = (length bytes - at) * 721 + waiting work
 
--- ---- the places of a turn, by name: a test that is added to the function renumbers these alone
+-- ---- the places of a turn, by name
 
 abbrev Loop : Type 0
 Loop = tie.At-loop Inv-loop μ-loop
 
 abbrev Going : Type 0
-Going = tie.Else2 Inv-loop μ-loop
+Going = tie.After-waiting Inv-loop μ-loop
 
 abbrev Waits : Type 0
-Waits = tie.Then3 Inv-loop μ-loop
-
-abbrev Idle : Type 0
-Idle = tie.Else3 Inv-loop μ-loop
-
-abbrev Batched : Type 0
-Batched = tie.Then4 Inv-loop μ-loop
-
-abbrev Alone : Type 0
-Alone = tie.Else4 Inv-loop μ-loop
+Waits = tie.After-batched Inv-loop μ-loop
 
 abbrev Read : Type 0
 Read = tie.After-next Inv-loop μ-loop
@@ -97,29 +132,11 @@ Read = tie.After-next Inv-loop μ-loop
 abbrev Pointed : Type 0
 Pointed = tie.After-point Inv-loop μ-loop
 
-abbrev Stored : Type 0
-Stored = tie.Then7 Inv-loop μ-loop
-
-abbrev First : Type 0
-First = tie.Then8 Inv-loop μ-loop
-
-abbrev Joined : Type 0
-Joined = tie.Else8 Inv-loop μ-loop
-
 abbrev Shifted : Type 0
 Shifted = tie.After-shift Inv-loop μ-loop
 
 abbrev Moved : Type 0
-Moved = tie.Then9 Inv-loop μ-loop
-
-abbrev Full : Type 0
-Full = tie.Then10 Inv-loop μ-loop
-
-abbrev Free : Type 0
-Free = tie.Else10 Inv-loop μ-loop
-
-abbrev Outlined : Type 0
-Outlined = tie.Then12 Inv-loop μ-loop
+Moved = tie.After-overflows Inv-loop μ-loop
 
 abbrev Ended : Type 0
 Ended = tie.After-end-rule Inv-loop μ-loop
@@ -128,20 +145,35 @@ Ended = tie.After-end-rule Inv-loop μ-loop
 abbrev Ruled : Type 0
 Ruled = tie.After-polygon2 Inv-loop μ-loop
 
-abbrev Refused : Type 0
-Refused = tie.Then13 Inv-loop μ-loop
+abbrev Rule-core : Type 0
+Rule-core = tie.After-core-of3 Inv-loop μ-loop
+
+abbrev Refusal-made : Type 0
+Refusal-made = tie.After-refusal-record Inv-loop μ-loop
+
+abbrev Declined-made : Type 0
+Declined-made = tie.After-refusal-record2 Inv-loop μ-loop
+
+abbrev Rule-frame : Type 0
+Rule-frame = tie.After-frame-of2 Inv-loop μ-loop
+
+abbrev Instructed : Type 0
+Instructed = tie.After-event3 Inv-loop μ-loop
+
+abbrev Segment-drawn : Type 0
+Segment-drawn = tie.After-drawn-of Inv-loop μ-loop
+
+abbrev Line-drawn : Type 0
+Line-drawn = tie.After-drawn-of2 Inv-loop μ-loop
+
+abbrev Line-queued : Type 0
+Line-queued = tie.After-queued Inv-loop μ-loop
+
+abbrev Action-queued : Type 0
+Action-queued = tie.After-queued2 Inv-loop μ-loop
 
 abbrev Passed : Type 0
 Passed = tie.After-passed-over Inv-loop μ-loop
-
-abbrev Accepted : Type 0
-Accepted = tie.Else13 Inv-loop μ-loop
-
-abbrev Unjoined : Type 0
-Unjoined = tie.At-match2-keys2 Inv-loop μ-loop
-
-abbrev Light : Type 0
-Light = tie.Else15 Inv-loop μ-loop
 
 -- where what is left is a refusal
 abbrev Met : Type 0
@@ -150,8 +182,8 @@ Met = tie.At-match-came Inv-loop μ-loop
 abbrev Declined : Type 0
 Declined = tie.After-passed-over2 Inv-loop μ-loop
 
-abbrev handed : tie.After-store Inv-loop μ-loop → tie.After-hand-of Inv-loop μ-loop
-handed c = c .before .before .before
+abbrev handed : Loop → tie.After-hand-of Inv-loop μ-loop
+handed l = search
 
 abbrev start : tie.After-hand-of Inv-loop μ-loop → tie.Start Inv-loop μ-loop
 start h = search
@@ -160,7 +192,7 @@ abbrev laid : tie.After-hand-of Inv-loop μ-loop → tie.After-table Inv-loop μ
 laid h = search
 
 abbrev entry : Loop → tie.Start Inv-loop μ-loop
-entry l = start (handed (l .before))
+entry l = start (handed l)
 
 abbrev going : Going → Loop
 going e = search
@@ -168,35 +200,23 @@ going e = search
 abbrev waits : Waits → Loop
 waits w = search
 
-abbrev idles : Idle → Loop
-idles e = search
-
-abbrev drawn : tie.After-drawn-of Inv-loop μ-loop → Waits
+abbrev drawn : Segment-drawn → Waits
 drawn d = search
 
 abbrev segmented : tie.After-segment Inv-loop μ-loop → Waits
 segmented g = search
 
 abbrev loop : Read → Loop
-loop q = idles (q .before)
+loop q = search
 
 abbrev pointing : Pointed → Read
 pointing p = search
 
-abbrev first-of : First → Stored
-first-of c = search
-
-abbrev joined-of : Joined → Stored
-joined-of n = search
-
 abbrev shifts : Shifted → Read
 shifts t = search
 
-abbrev full : Full → Moved
-full f = search
-
-abbrev unfilled : Free → Moved
-unfilled f = search
+abbrev moved : Moved → Shifted
+moved o = search
 
 abbrev ending : Ended → Read
 ending a = search
@@ -205,7 +225,7 @@ abbrev ended-of : tie.After-hand-of2 Inv-loop μ-loop → Ended
 ended-of h = search
 
 abbrev hand-now : Ruled → tie.After-hand-of2 Inv-loop μ-loop
-hand-now r = r .before .before
+hand-now r = search
 
 abbrev ended : Ruled → Ended
 ended r = ended-of (hand-now r)
@@ -213,18 +233,114 @@ ended r = ended-of (hand-now r)
 abbrev read : Ruled → Read
 read r = ending (ended r)
 
-abbrev refusing : Refused → Ruled
-refusing c = search
-
-abbrev accepting : Accepted → Ruled
-accepting c = search
+abbrev refusing : Passed → Ruled
+refusing p = search
 
 abbrev met : Met → Read
-met j = j .before .before
+met j = search
+
+abbrev declining-at : Declined → Met
+declining-at p = search
 
 -- the machine that the parts make
 abbrev here : Loop → State
 here l = whole (l .loop .reader) (coreOf (l .loop .settings) (l .loop .hand) (l .loop .polygon)) (l .loop .store) (l .loop .work)
+
+-- ---- what is called or read again, by name, each with what it tells of the locals
+
+told-ended : (e : Instructed) → let q : Read = search in q .next .result .event ≡ event.Ended (e .event3 .given .0 .0) (e .event3 .given .0 .1 .0)
+told-ended e = e .event3 .given .1
+
+-- the core that a rule gets, and the parts of the one that it leaves
+rule-core : (k : Rule-core) → let q : Read = search in k .core-of3 .result ≡ here (loop q) .core
+rule-core k = k .core-of3 .ensures
+
+abbrev new-hand : Ruled → Hand
+new-hand r = hand-now r .hand-of2 .result
+
+hand-is : (r : Ruled) → new-hand r ≡ handOf (ended r .end-rule .result .core .carriage)
+hand-is r = hand-now r .hand-of2 .ensures
+
+frame-is : (f : Rule-frame) → let a : Ended = search in f .frame-of2 .result ≡ frameOf (a .end-rule .result .core .settings)
+frame-is f = f .frame-of2 .ensures
+
+abbrev new-frame : Ruled → Frame
+new-frame r = let f : Rule-frame = search in f .frame-of2 .result
+
+located-now : (r : Ruled) → let p : tie.After-located-in2 Inv-loop μ-loop = search in p .located-in2 .result ≡ locationIn (new-frame r) (new-hand r .position)
+located-now r = let p : tie.After-located-in2 Inv-loop μ-loop = search in p .located-in2 .ensures ∙ ap (λ (h : Hand). locationIn (new-frame r) (h .position)) (sym (hand-is r))
+
+-- a line that is drawn, and one that waits
+abbrev line : Line-drawn → Drawn
+line d = d .drawn-of2 .result
+
+line-is : (d : Line-drawn) → let t : Shifted = search in line d ≡ drawnOf (loop (shifts t) .loop .frame .limits) (t .shift .result .hand .pen .number) (t .shift .result .segment)
+line-is d = d .drawn-of2 .ensures
+
+abbrev line-work : Line-queued → Work
+line-work k = k .queued .result
+
+line-queued : (k : Line-queued) → let t : Shifted = search in
+    let n : tie.After-line-of Inv-loop μ-loop = search in
+    (turn : ℕ) (es : List Edge) → line-work k ≡ queued turn es (loop (shifts t) .loop .polygon .edges) (n .line-of .result)
+line-queued k = k .queued .ensures
+
+action-queued : (k : Action-queued) → let r : Ruled = search in
+    let t = ended r .end-rule .result in
+    (turn : ℕ) (es : List Edge) → k .queued2 .result ≡ queued turn es (t .core .carriage .polygon .edges) (t .action)
+action-queued k = k .queued2 .ensures
+
+-- the two tails of a refusal
+abbrev passed-reader : Passed → Reader
+passed-reader p = p .passed-over .result
+
+passed-is : (p : Passed) → passed-reader p ≡ passedOver (read (refusing p) .next .result .reader)
+passed-is p = p .passed-over .ensures
+
+abbrev declined-reader : Declined → Reader
+declined-reader p = p .passed-over2 .result
+
+declined-is : (p : Declined) → declined-reader p ≡ passedOver (met (declining-at p) .next .result .reader)
+declined-is p = p .passed-over2 .ensures
+
+abbrev refusal-made : Refusal-made → Stroke
+refusal-made x = x .refusal-record .result
+
+abbrev declined-made : Declined-made → Stroke
+declined-made x = x .refusal-record2 .result
+
+-- the five ends
+with-core : {x : Reader} {k k′ : Core} {st : Store} {w : Work} {at n number : ℕ} {r : Stopped} → r ≡ stoppedAs (whole x k st w) at n number → k ≡ k′ → r ≡ stoppedAs (whole x k′ st w) at n number
+with-core {x} {st = st} {w} {at} {n} {number} e c = e ∙ ap (λ (k : Core). stoppedAs (whole x k st w) at n number) c
+
+halt-stop : (c : tie.After-gathered Inv-loop μ-loop) → let l : Loop = search in
+    let t : tie.After-halted Inv-loop μ-loop = search in
+    c .gathered .result ≡ stoppedAs (here l) (l .loop .at) (l .loop .count) (t .halted .result)
+halt-stop c = let p : tie.After-core-of Inv-loop μ-loop = search in with-core (c .gathered .ensures) (p .core-of .ensures)
+
+full-stop : (c : tie.After-gathered2 Inv-loop μ-loop) → let t : Shifted = search in
+    let k : Line-queued = search in
+    let q = shifts t in
+    let l = loop q .loop in
+    c .gathered2 .result ≡ stoppedAs (whole (q .next .result .reader) (coreOf (l .settings) (t .shift .result .hand) (l .polygon)) (l .store) (line-work k)) (q .next .result .at) (l .count) listFull
+full-stop c = let p : tie.After-core-of2 Inv-loop μ-loop = search in with-core (c .gathered2 .ensures) (p .core-of2 .ensures)
+
+refusal-stop : (c : tie.After-gathered3 Inv-loop μ-loop) → let p : Passed = search in
+    let q = read (refusing p) in
+    let l = loop q .loop in
+    let t = ended (refusing p) .end-rule .result in
+    c .gathered3 .result ≡ stoppedAs (whole (passed-reader p) (t .core) (l .store) Nothing) (q .next .result .at) (l .count) (t .number)
+refusal-stop c = c .gathered3 .ensures
+
+declined-stop : (c : tie.After-gathered4 Inv-loop μ-loop) → let p : Declined = search in
+    let j = declining-at p in
+    let q = met j in
+    let l = loop q in
+    c .gathered4 .result ≡ stoppedAs (whole (declined-reader p) (here l .core) (l .loop .store) Nothing) (q .next .result .at) (l .loop .count) (j .match .number)
+declined-stop c = let p : tie.After-core-of4 Inv-loop μ-loop = search in with-core (c .gathered4 .ensures) (p .core-of4 .ensures)
+
+end-stop : (c : tie.After-gathered5 Inv-loop μ-loop) → let l : Loop = search in c .gathered5 .result ≡ stoppedAs (here l) (l .loop .at) (l .loop .count) 0
+end-stop c = let p : tie.After-core-of5 Inv-loop μ-loop = search in with-core (c .gathered5 .ensures) (p .core-of5 .ensures)
 
 -- ---- how far the loop is
 
@@ -238,8 +354,8 @@ abbrev All : Loop → Plot
 All l = let s = entry l .args in gatherFrom (s .on) (s .m) (drop (s .from) (s .bytes .now)) (s .from) (length (s .numbers .now) / 5)
 
 -- the hand that it begins with is the machine's
-as-handed : (l : Loop) → From l (handed (l .before) .hand-of .result) ≡ All l
-as-handed l = ap (From l) (handed (l .before) .hand-of .ensures)
+as-handed : (l : Loop) → From l (handed l .hand-of .result) ≡ All l
+as-handed l = ap (From l) (handed l .hand-of .ensures)
 
 abbrev Goes : Loop → Plot → List ℤ → State → ℕ → ℕ → Type 0
 Goes l f numbers m at count = let s = entry l .args in Far (s .on) f (s .bytes .now) (s .numbers .now) numbers m at count
@@ -247,31 +363,31 @@ Goes l f numbers m at count = let s = entry l .args in Far (s .on) f (s .bytes .
 far : (l : Loop) → Goes l (All l) (l .loop .numbers) (here l) (l .loop .at) (l .loop .count)
 far l = subst (λ (f : Plot). Goes l f (l .loop .numbers) (here l) (l .loop .at) (l .loop .count)) (as-handed l) (l .loop .inv .0)
 
-again : (l : Loop) {numbers : List ℤ} {m : State} {at count : ℕ} → Goes l (All l) numbers m at count → Goes l (From l (handed (l .before) .hand-of .result)) numbers m at count
+again : (l : Loop) {numbers : List ℤ} {m : State} {at count : ℕ} → Goes l (All l) numbers m at count → Goes l (From l (handed l .hand-of .result)) numbers m at count
 again l {numbers} {m} {at} {count} f = subst (λ (p : Plot). Goes l p numbers m at count) (sym (as-handed l)) f
 
 -- where a byte is taken no segment waits, and there is one
-idle : (e : Idle) → waiting (idles e .loop .work) ≡ 0
-idle e = omega (arith, e .before .waiting .ensures, e .if3 .left)
+idle : (q : Read) → waiting (loop q .loop .work) ≡ 0
+idle q = let e : Going = search in omega (arith, e .waiting .ensures)
 
-more : (e : Idle) → idles e .loop .at < length (entry (idles e) .args .bytes .now)
-more e =
-    let t : tie.Then1 Inv-loop μ-loop = search in
-    byte-remains (idles e .loop .work) _ _ (sym (t .before .remains .ensures) ∙ t .if1 .taken) (idle e)
+more : (q : Read) → loop q .loop .at < length (entry (loop q) .args .bytes .now)
+more q =
+    let t : tie.After-remains Inv-loop μ-loop = search in
+    byte-remains (loop q .loop .work) _ _ (sym (t .remains .ensures) ∙ search) (idle q)
 
 waits-some : (w : Waits) → 0 < waiting (waits w .loop .work)
-waits-some w = omega (arith, w .before .waiting .ensures, w .if3 .taken)
+waits-some w = let e : Going = search in omega (arith, e .waiting .ensures)
 
 -- a record is free where a segment waits, and where a refusal may have to be stored
 free : (e : Going) → let l = going e in
     (waiting (l .loop .work) ≡ 0 → entry l .args .on ≡ true) → l .loop .count < length (entry l .args .numbers .now) / 5
-free e f = far-free (far (going e)) (e .before .halted .ensures) (omega (arith, e .if2 .left)) f
+free e f = let h : tie.After-halted Inv-loop μ-loop = search in far-free (far (going e)) (h .halted .ensures) (omega arith) f
 
 free-drawn : (w : Waits) → let l = waits w in l .loop .count < length (entry l .args .numbers .now) / 5
 free-drawn w = let e : Going = search in free e (λ z. absurd (omega (arith, z, waits-some w)))
 
-free-taken : (e : Idle) → let l = idles e in entry l .args .on ≡ true → l .loop .count < length (entry l .args .numbers .now) / 5
-free-taken e o = let n : Going = search in free n (λ z. o)
+free-taken : (q : Read) → let l = loop q in entry l .args .on ≡ true → l .loop .count < length (entry l .args .numbers .now) / 5
+free-taken q o = let e : Going = search in free e (λ z. o)
 
 -- ---- a draw
 
@@ -317,13 +433,14 @@ waited g =
     let p : tie.After-edge-place Inv-loop μ-loop = search in
     g .segment .ensures
     ∙ (λ i. segmentIn (l .loop .frame .rows) (getD (l .loop .store .edges) (p .edge-place .ensures i) noEdge) (l .loop .work) (l .loop .here) (l .loop .here))
-    ∙ alone-waits (here l) (l .loop .here) (rows l) (sym (p .before .before .batched .ensures) ∙ p .before .if4 .left)
+    ∙ alone-waits (here l) (l .loop .here) (rows l) (sym (segmented g .batched .ensures) ∙ search)
 
-drew : (d : tie.After-drawn-of Inv-loop μ-loop) → d .drawn-of .result ≡ drawAnswer (here (waits (drawn d)))
+drew : (d : Segment-drawn) → d .drawn-of .result ≡ drawAnswer (here (waits (drawn d)))
 drew d =
+    let g : tie.After-segment Inv-loop μ-loop = search in
     let l = waits (drawn d) in
     d .drawn-of .ensures
-    ∙ (λ i. drawnOf (limited l i) (l .loop .hand .pen .number) (waited (d .before) i))
+    ∙ (λ i. drawnOf (limited l i) (l .loop .hand .pen .number) (waited g i))
     ∙ sym (segment-drawn (here l))
 
 -- ---- a byte
@@ -334,7 +451,7 @@ Reaches l n = let s = entry l .args in Reached (s .on) (All l) (s .bytes .now) (
 reached : (q : Read) → Reaches (loop q) (q .next .result)
 reached q =
     let l = loop q in
-    subst (Reaches l) (sym (q .next .ensures)) (far-next (free-taken (q .before)) (far l) (idle (q .before)) (more (q .before)))
+    subst (Reaches l) (sym (q .next .ensures)) (far-next (free-taken q) (far l) (idle q) (more q))
 
 abbrev told : Read → Event
 told q = q .next .result .event
@@ -350,6 +467,9 @@ byte q = getD (entry (loop q) .args .bytes .now) (reached q .place) 0
 
 event-valid : (q : Read) → ValidEvent (held q) (told q)
 event-valid q = subst (ValidEvent (held q)) (sym (ap (λ (x : Step). x .event) (reached q .step))) (step-event {m = last q} (byte q) (reached q .far .valid))
+
+pair-small : (q : Read) {n : Coordinates} → told q ≡ event.Pair n → SmallPair n
+pair-small q e = subst (ValidEvent (held q)) e (event-valid q)
 
 acts-valid : (q : Read) {t : Acted} → t ≡ actOn (held q) (told q) → ValidActed (held q) t
 acts-valid q e = subst (ValidActed (held q)) (sym e) (valid-event (told q) (far (loop q) .valid .core) (event-valid q))
@@ -379,24 +499,25 @@ quiet : (q : Read) {h : Hand} {e : Event} → told q ≡ e →
     Goes (loop q) (All (loop q)) (l .numbers) (whole (q .next .result .reader) (coreOf (l .settings) h (l .polygon)) (l .store) Nothing) (q .next .result .at) (l .count)
 quiet q {h} t acts =
     let l = loop q .loop in
-    next-kept (reached q) (coreOf (l .settings) h (l .polygon)) (acts ∙ ap (actOn (held q)) (sym t)) (free-taken (q .before))
+    next-kept (reached q) (coreOf (l .settings) h (l .polygon)) (acts ∙ ap (actOn (held q)) (sym t)) (free-taken q)
 
 -- a point of a polygon
-point-acts : (p : Pointed) → let q = pointing p in
-    let l = loop q .loop in
-    pointedOf (l .settings) (l .hand) (l .polygon) (p .point .result) ≡ actOn (held q) (told q)
+abbrev Points : Read → Placed → Type 0
+Points q t = let l = loop q .loop in pointedOf (l .settings) (l .hand) (l .polygon) t ≡ actOn (held q) (told q)
+
+pair-does : (q : Read) {n : Coordinates} {t : Acted} → told q ≡ event.Pair n → t ≡ pairRule (held q) n → t ≡ actOn (held q) (told q)
+pair-does q e f = let l = loop q .loop in pair-acts (l .settings) (l .hand) (l .polygon) _ f ∙ ap (actOn (held q)) (sym e)
+
+point-acts : (p : Pointed) → Points (pointing p) (p .point .result)
 point-acts p =
     let q = pointing p in
-    let e : tie.After-event2 Inv-loop μ-loop = search in
     let l = loop q .loop in
-    pair-acts (l .settings) (l .hand) (l .polygon) _ (p .point .ensures .0 (l .settings) (l .polygon) (l .inv .1) (p .before .if6 .taken) refl)
-    ∙ ap (actOn (held q)) (sym (e .event2 .given .1))
+    pair-does q (search) (p .point .ensures .0 (l .settings) (l .polygon) (l .inv .1) (search) refl)
 
-point-refused : (p : Pointed) → (p .point .result .number ≡ 0 → ⊥) → let q = pointing p in
-    let l = loop q .loop in
-    acting (l .settings) (l .hand) (l .polygon) Keep (p .point .result .number) ≡ actOn (held q) (told q)
+point-refused : (q : Read) (t : Placed) → (t .number ≡ 0 → ⊥) → Points q t → let l = loop q .loop in
+    acting (l .settings) (l .hand) (l .polygon) Keep (t .number) ≡ actOn (held q) (told q)
 unfolding pointedOf refuse
-point-refused p f = sym (rw (ne-eqb (p .point .result .number) 0 f) refl) ∙ point-acts p
+point-refused q t f e = sym (rw (ne-eqb (t .number) 0 f) refl) ∙ e
 
 -- where it is the first of a subpolygon, and where it ends an edge
 abbrev Longer : Pointed → Store → Type 0
@@ -406,24 +527,20 @@ Longer p st =
     let t = p .point .result in
     Goes (loop q) (All (loop q)) (l .numbers) (whole (q .next .result .reader) (coreOf (l .settings) (t .hand) (longer (l .polygon) (t .cost) (t .hand .position))) st Nothing) (q .next .result .at) (l .count)
 
-first : (c : First) → let p = first-of c .before in Longer p (loop (pointing p) .loop .store)
-first c =
-    let z = first-of c in
-    let p = z .before in
+first : (p : Pointed) → p .point .result .number ≡ 0 → let l = loop (pointing p) .loop in l .polygon .empty ≡ true → Longer p (l .store)
+first p z e =
     let q = pointing p in
     let l = loop q .loop in
-    next-first (reached q) (l .settings) (l .hand) (l .polygon) (p .point .result) refl (point-acts p) (z .if7 .taken) (free-taken (q .before)) (c .if8 .taken)
+    next-first (reached q) (l .settings) (l .hand) (l .polygon) (p .point .result) refl (point-acts p) z (free-taken q) e
 
 abbrev with-edge : Pointed → Store
 with-edge p = let l = loop (pointing p) .loop in record { edges = set (l .store .edges) (l .polygon .edges) (p .point .result .edge) }
 
-joins : (n : Joined) → let p = joined-of n .before in Longer p (with-edge p)
-joins n =
-    let z = joined-of n in
-    let p = z .before in
+joins : (p : Pointed) → p .point .result .number ≡ 0 → loop (pointing p) .loop .polygon .empty ≡ false → Longer p (with-edge p)
+joins p z e =
     let q = pointing p in
     let l = loop q .loop in
-    next-edge (reached q) (l .settings) (l .hand) (l .polygon) (p .point .result) refl (point-acts p) (z .if7 .taken) (free-taken (q .before)) (n .if8 .left) refl
+    next-edge (reached q) (l .settings) (l .hand) (l .polygon) (p .point .result) refl (point-acts p) z (free-taken q) e refl
 
 -- there is room for it
 longer-fits : (p : Pointed) {st : Store} → Longer p st → let g = loop (pointing p) .loop .polygon in
@@ -431,19 +548,19 @@ longer-fits : (p : Pointed) {st : Store} → Longer p st → let g = loop (point
 unfolding longer
 longer-fits p f = (f .valid .core .polygon .bytes, far (loop (pointing p)) .valid .core .polygon .edges)
 
-edge-fits : (n : Joined) → loop (pointing (joined-of n .before)) .loop .polygon .edges < mostEdges
+edge-fits : (p : Pointed) → p .point .result .number ≡ 0 → let g = loop (pointing p) .loop .polygon in g .empty ≡ false → g .edges < mostEdges
 unfolding longer
-edge-fits n =
-    let g = loop (pointing (joined-of n .before)) .loop .polygon in
-    let k : cond (g .empty) (g .edges) (g .edges + 1) ≡ g .edges + 1 = ap (λ (b : Bool). cond b (g .edges) (g .edges + 1)) (n .if8 .left) in
-    omega (arith, joins n .valid .core .polygon .edges, k)
+edge-fits p z e =
+    let g = loop (pointing p) .loop .polygon in
+    let k : cond (g .empty) (g .edges) (g .edges + 1) ≡ g .edges + 1 = ap (λ (b : Bool). cond b (g .edges) (g .edges + 1)) e in
+    omega (arith, joins p z e .valid .core .polygon .edges, k)
 
 -- and the loop goes on with it
 points-on : (p : Pointed) {st : Store} {g : Polygon} → let q = pointing p in
     let l = loop q in
     let t = p .point .result in
     g ≡ longer (l .loop .polygon) (t .cost) (t .hand .position) → Longer p st →
-    Goes l (From l (handed (l .before) .hand-of .result)) (l .loop .numbers) (whole (q .next .result .reader) (coreOf (l .loop .settings) (t .hand) g) st Nothing) (q .next .result .at) (l .loop .count)
+    Goes l (From l (handed l .hand-of .result)) (l .loop .numbers) (whole (q .next .result .reader) (coreOf (l .loop .settings) (t .hand) g) st Nothing) (q .next .result .at) (l .loop .count)
     × (l .loop .frame ≡ frameOf (l .loop .settings))
     × (t .here ≡ locationIn (l .loop .frame) (t .hand .position))
 points-on p {st} e f =
@@ -462,61 +579,53 @@ shift-is : (t : Shifted) → let q = shifts t in
 shift-is t =
     let q = shifts t in
     let l = loop q .loop in
-    let e : tie.After-event2 Inv-loop μ-loop = search in
-    pair-acts (l .settings) (l .hand) (l .polygon) _ (t .shift .ensures .0 (l .settings) (l .polygon) (l .inv .1) (t .before .if6 .left))
-    ∙ ap (actOn (held q)) (sym (e .event2 .given .1))
+    pair-does q (search) (t .shift .ensures .0 (l .settings) (l .polygon) (l .inv .1) (search))
 
-shift-acts : (m : Moved) → let t = m .before in
-    let q = shifts t in
+accepted : (o : Moved) → moved o .shift .result .number ≡ 0
+accepted o = search
+
+shift-acts : (t : Shifted) → t .shift .result .number ≡ 0 → let q = shifts t in
     let l = loop q .loop in
     let r = t .shift .result in
     doing (coreOf (l .settings) (r .hand) (l .polygon)) (r .segment) ≡ actOn (held q) (told q)
-shift-acts m =
-    let t = m .before in
+shift-acts t z =
     let l = loop (shifts t) .loop in
     let r = t .shift .result in
-    ap (λ (n : ℕ). acting (l .settings) (r .hand) (l .polygon) (lineOf (r .segment)) n) (sym (m .if9 .taken)) ∙ shift-is t
+    ap (λ (n : ℕ). acting (l .settings) (r .hand) (l .polygon) (lineOf (r .segment)) n) (sym z) ∙ shift-is t
 
-shift-refused : (t : Shifted) → (t .shift .result .number ≡ 0 → ⊥) → let q = shifts t in
+shift-refused : (q : Read) {n : Coordinates} {t : Acted} → told q ≡ event.Pair n → (t .number ≡ 0 → ⊥) → t ≡ pairRule (held q) n →
     let l = loop q .loop in
-    acting (l .settings) (l .hand) (l .polygon) Keep (t .shift .result .number) ≡ actOn (held q) (told q)
+    acting (l .settings) (l .hand) (l .polygon) Keep (t .number) ≡ actOn (held q) (told q)
 unfolding refuse
-shift-refused t f =
-    let q = shifts t in
-    let l = loop q .loop in
-    let e : tie.After-event2 Inv-loop μ-loop = search in
-    let same = t .shift .ensures .0 (l .settings) (l .polygon) (l .inv .1) (t .before .if6 .left) in
+shift-refused q e f same =
     let number = ap (λ (x : Acted). x .number) same in
-    pair-acts (l .settings) (l .hand) (l .polygon) _ (ap (refuse (held q)) number ∙ sym (pair-refused (held q) _ (λ z. f (number ∙ z))))
-    ∙ ap (actOn (held q)) (sym (e .event2 .given .1))
+    pair-does q e (ap (refuse (held q)) number ∙ sym (pair-refused (held q) _ (λ z. f (number ∙ z))))
 
 -- there is a record for its line
-has-record : (f : Free) → let t = unfilled f .before in
+has-record : (o : Moved) → o .overflows .result ≡ false → let t = moved o in
     let l = loop (shifts t) in
     overflowsOf (t .shift .result .segment) (l .loop .count) (length (entry l .args .numbers .now) / 5) ≡ false
-has-record f = sym (f .before .overflows .ensures) ∙ f .if10 .left
+has-record o e = sym (o .overflows .ensures) ∙ e
 
 -- its line waits where there is none
-abbrev line-waits : Full → Work
-line-waits f = let t = full f .before in let l = loop (shifts t) .loop in leaves (l .store .edges) (l .polygon .edges) (coreOf (l .settings) (t .shift .result .hand) (l .polygon)) (lineOf (t .shift .result .segment))
+abbrev line-waits : Shifted → Work
+line-waits t = let l = loop (shifts t) .loop in leaves (l .store .edges) (l .polygon .edges) (coreOf (l .settings) (t .shift .result .hand) (l .polygon)) (lineOf (t .shift .result .segment))
 
-stays : (f : Full) → let t = full f .before in
-    let q = shifts t in
+stays : (t : Shifted) → t .shift .result .number ≡ 0 → let q = shifts t in
     let l = loop q in
-    Goes l (All l) (l .loop .numbers) (whole (q .next .result .reader) (coreOf (l .loop .settings) (t .shift .result .hand) (l .loop .polygon)) (l .loop .store) (line-waits f)) (q .next .result .at) (l .loop .count)
-stays f =
-    let t = full f .before in
+    Goes l (All l) (l .loop .numbers) (whole (q .next .result .reader) (coreOf (l .loop .settings) (t .shift .result .hand) (l .loop .polygon)) (l .loop .store) (line-waits t)) (q .next .result .at) (l .loop .count)
+stays t z =
     let q = shifts t in
     let l = loop q .loop in
-    next-waits (reached q) (coreOf (l .settings) (t .shift .result .hand) (l .polygon)) (t .shift .result .segment) (shift-acts (full f)) (free-taken (q .before))
+    next-waits (reached q) (coreOf (l .settings) (t .shift .result .hand) (l .polygon)) (t .shift .result .segment) (shift-acts t z) (free-taken q)
 
-line-left : (k : tie.After-queued Inv-loop μ-loop) → let f : Full = search in k .queued .result ≡ line-waits f
+line-left : (k : Line-queued) → let t : Shifted = search in line-work k ≡ line-waits t
 line-left k =
-    let f : Full = search in
+    let t : Shifted = search in
     let n : tie.After-line-of Inv-loop μ-loop = search in
-    let l = loop (shifts (full f .before)) .loop in
-    let c = coreOf (l .settings) (full f .before .shift .result .hand) (l .polygon) in
-    k .queued .ensures (c .settings .turn) (stored (l .store .edges) (l .polygon .edges) (n .line-of .result)) ∙ ap (leaves (l .store .edges) (l .polygon .edges) c) (n .line-of .ensures)
+    let l = loop (shifts t) .loop in
+    let c = coreOf (l .settings) (t .shift .result .hand) (l .polygon) in
+    line-queued k (c .settings .turn) (stored (l .store .edges) (l .polygon .edges) (n .line-of .result)) ∙ ap (leaves (l .store .edges) (l .polygon .edges) c) (n .line-of .ensures)
 
 -- ---- an instruction that ends
 
@@ -526,22 +635,20 @@ did r = ended r .end-rule .result
 acts : (a : Ended) → a .end-rule .result ≡ actOn (held (ending a)) (told (ending a))
 acts a =
     let q = ending a in
-    let e : tie.After-event3 Inv-loop μ-loop = search in
+    let e : Instructed = search in
+    let k : Rule-core = search in
     let l = loop q .loop in
-    settled-acts (l .settings) (l .hand) (l .polygon) _ _ (a .before .core-of3 .ensures) (a .end-rule .ensures) ∙ ap (actOn (held q)) (sym (e .event3 .given .1))
+    settled-acts (l .settings) (l .hand) (l .polygon) _ _ (rule-core k) (a .end-rule .ensures) ∙ ap (actOn (held q)) (sym (told-ended e))
 
 act-valid : (a : Ended) → ValidActed (held (ending a)) (a .end-rule .result)
 act-valid a = acts-valid (ending a) (acts a)
 
 -- the parts of the core
 abbrev core-now : Ruled → Core
-core-now r = coreOf (did r .core .settings) (hand-now r .hand-of2 .result) (did r .core .carriage .polygon)
+core-now r = coreOf (did r .core .settings) (new-hand r) (did r .core .carriage .polygon)
 
 core-is : (r : Ruled) → core-now r ≡ did r .core
-core-is r = ap (λ (h : Hand). coreOf (did r .core .settings) h (did r .core .carriage .polygon)) (hand-now r .hand-of2 .ensures)
-
-located-now : (r : Ruled) → r .before .located-in2 .result ≡ locationIn (hand-now r .before .frame-of2 .result) (hand-now r .hand-of2 .result .position)
-located-now r = r .before .located-in2 .ensures ∙ ap (λ (h : Hand). locationIn (hand-now r .before .frame-of2 .result) (h .position)) (sym (hand-now r .hand-of2 .ensures))
+core-is r = ap (λ (h : Hand). coreOf (did r .core .settings) h (did r .core .carriage .polygon)) (hand-is r)
 
 -- a turn, with the edges and the work that the action leaves
 abbrev Edges : Ruled → Store → Type 0
@@ -556,37 +663,33 @@ turn : (r : Ruled) {x : Reader} {k : Core} {st : Store} {w : Work} → let q = r
 turn r e k s w = record { step = reached (read r) .step; act = acts (ended r); reader = e; core = k; edges = s; work = w }
 
 -- carried out
-taken : (c : Accepted) {st : Store} {w : Work} → let r = accepting c in
-    let q = read r in
+taken : (r : Ruled) {st : Store} {w : Work} → did r .number ≡ 0 → let q = read r in
     let l = loop q in
     Edges r st → Waiting r w → Goes l (All l) (l .loop .numbers) (whole (q .next .result .reader) (core-now r) st w) (q .next .result .at) (l .loop .count)
-taken c s w =
-    let r = accepting c in
+taken r z s w =
     let q = read r in
-    let z : did r .number ≡ 0 = omega (arith, c .if13 .left) in
-    next-turned (reached q) (turn r (reader-on (q .next .result .reader) z) (core-is r) s w) z (free-taken (q .before))
+    next-turned (reached q) (turn r (reader-on (q .next .result .reader) z) (core-is r) s w) z (free-taken q)
 
-taken-less : (c : Accepted) {st : Store} {w : Work} → let r = accepting c in Edges r st → Waiting r w → less-by (read r) w
-taken-less c {st} {w} e f = less (read (accepting c)) w (waits-most w (taken c {st = st} {w = w} e f .valid .work))
+taken-less : (r : Ruled) {st : Store} {w : Work} → did r .number ≡ 0 → Edges r st → Waiting r w → less-by (read r) w
+taken-less r {st} {w} z e f = less (read r) w (waits-most w (taken r {st = st} {w = w} z e f .valid .work))
 
 -- refused: nothing is stored or queued
-refused : (c : Refused) → did (refusing c) .number ≡ 0 → ⊥
-refused c e = omega (arith, e, c .if13 .taken)
+refused : (p : Passed) → did (refusing p) .number ≡ 0 → ⊥
+refused p e = omega (arith, e)
 
-kept : (c : Refused) → did (refusing c) .action ≡ Keep
-kept c =
-    let a = ended (refusing c) in
-    subst (λ (t : Acted). (t .number ≡ 0 → ⊥) → t .action ≡ Keep) (sym (acts a)) (λ f. pinned (held (ending a)) (told (ending a)) .refused f .0) (refused c)
+kept : (p : Passed) → did (refusing p) .action ≡ Keep
+kept p =
+    let a = ended (refusing p) in
+    subst (λ (t : Acted). (t .number ≡ 0 → ⊥) → t .action ≡ Keep) (sym (acts a)) (λ f. pinned (held (ending a)) (told (ending a)) .refused f .0) (refused p)
 
-passed : (p : Passed) {k : Core} → let r = refusing (p .before) in
+passed : (p : Passed) {k : Core} → let r = refusing p in
     let q = read r in
-    k ≡ did r .core → Turn (last q) (byte q) (q .next .result .reader telling told q) (did r) (whole (p .passed-over .result) k (loop q .loop .store) Nothing)
+    k ≡ did r .core → Turn (last q) (byte q) (q .next .result .reader telling told q) (did r) (whole (passed-reader p) k (loop q .loop .store) Nothing)
 unfolding stored queued
 passed p e =
-    let c = p .before in
-    let r = refusing c in
+    let r = refusing p in
     let l = loop (read r) .loop in
-    turn r (p .passed-over .ensures ∙ reader-off _ (refused c)) e (ap (stored (l .store .edges) (l .polygon .edges)) (sym (kept c))) (ap (leaves (l .store .edges) (l .polygon .edges) (did r .core)) (sym (kept c)))
+    turn r (passed-is p ∙ reader-off _ (refused p)) e (ap (stored (l .store .edges) (l .polygon .edges)) (sym (kept p))) (ap (leaves (l .store .edges) (l .polygon .edges) (did r .core)) (sym (kept p)))
 
 -- an edge that is joined finds its place
 joins-edge : (a : tie.After-action Inv-loop μ-loop) → let r : Ruled = search in loop (read r) .loop .polygon .edges < mostEdges
@@ -606,12 +709,11 @@ unfolding queued
 joined-waits a = let r : Ruled = search in let l = loop (read r) .loop in ap (leaves (l .store .edges) (l .polygon .edges) (did r .core)) (sym (a .action .given .1))
 
 -- other actions leave the store
-same-edges : (h : Light) → let r : Ruled = search in Edges r (loop (read r) .loop .store)
-same-edges h =
+same-edges : (h : tie.After-heavy Inv-loop μ-loop) → h .heavy .result ≡ false → let r : Ruled = search in Edges r (loop (read r) .loop .store)
+same-edges h e =
     let r : Ruled = search in
-    let c : Unjoined = search in
     let l = loop (read r) .loop in
-    unstored (l .store .edges) (l .polygon .edges) (did r .action) (sym (h .before .heavy .ensures) ∙ h .if15 .left) (c .match2 .keys2)
+    unstored (l .store .edges) (l .polygon .edges) (did r .action) (sym (h .heavy .ensures) ∙ e) search
 
 -- ---- a refusal of a name, a pair or a byte
 
@@ -638,26 +740,24 @@ declines j =
     by j same (left .left) (unknown-acts (l .settings) (l .hand) (l .polygon) _ (name .ensures) (left .left) ∙ ap (actOn (held q)) (sym (event .given .1))))
     (⊎-elim
     (λ (arm, event, known, mode, point, left, same).
-    let p : Pointed = record { before = record { before = record { before = record { before = record { before = j .before; match = arm }; event2 = event }; known-told2 = known }; if6 = mode }; point = point } in
-    by j same (left .left) (point-refused p (left .left)))
+    by j same (left .left) (point-refused q (point .result) (left .left) (pair-does q (event .given .1) (point .ensures .0 (l .settings) (l .polygon) (l .inv .1) (mode .taken) refl))))
     (⊎-elim
     (λ (arm, event, known, mode, shift, left, same).
-    let t : Shifted = record { before = record { before = record { before = record { before = record { before = j .before; match = arm }; event2 = event }; known-told2 = known }; if6 = mode }; shift = shift } in
-    by j same (left .left) (shift-refused t (left .left)))
+    by j same (left .left) (shift-refused q (event .given .1) (left .left) (shift .ensures .0 (l .settings) (l .polygon) (l .inv .1) (mode .left))))
     (λ (arm, event, known, same).
     by j same (refusal-some (reached q) (event .given .1)) (refused-acts (l .settings) (l .hand) (l .polygon) _ ∙ ap (actOn (held q)) (sym (event .given .1))))))
     (j .match .came)
 
-declining : (p : Declined) {k : Core} → let j = p .before in
+declining : (p : Declined) {k : Core} → let j = declining-at p in
     let q = met j in
-    k ≡ held q → Turn (last q) (byte q) (q .next .result .reader telling told q) (declined j) (whole (p .passed-over2 .result) k (loop q .loop .store) Nothing)
+    k ≡ held q → Turn (last q) (byte q) (q .next .result .reader telling told q) (declined j) (whole (declined-reader p) k (loop q .loop .store) Nothing)
 unfolding stored queued
 declining p e =
-    let j = p .before in
+    let j = declining-at p in
     record {
       step = reached (met j) .step;
       act = declines j .does;
-      reader = p .passed-over2 .ensures ∙ reader-off _ (declines j .some);
+      reader = declined-is p ∙ reader-off _ (declines j .some);
       core = e;
       edges = refl;
       work = refl;
@@ -668,11 +768,8 @@ declining p e =
 sines-long : (h : tie.After-hand-of Inv-loop μ-loop) → 901 ≡ length (laid h .table .result)
 sines-long h = sym (ap length (laid h .table .ensures) ∙ entries)
 
-frame-of-requires : tie.Need-frame-of-requires Inv-loop μ-loop
-frame-of-requires c κs = let s : tie.Start Inv-loop μ-loop = search in s .pre .core .settings
-
-located-in-requires : tie.Need-located-in-requires Inv-loop μ-loop
-located-in-requires c κs =
+start-located : Start-located Inv-loop μ-loop
+start-located c κs =
     let s : tie.Start Inv-loop μ-loop = search in
     let f : tie.After-frame-of Inv-loop μ-loop = search in
     hand-locatable {h = handOf (s .args .m .core .carriage)} {g = s .args .m .core .carriage .polygon}
@@ -680,7 +777,7 @@ located-in-requires c κs =
 
 loop-holds : tie.Need-loop-holds Inv-loop μ-loop
 loop-holds c =
-    let h = handed c in
+    let h : tie.After-hand-of Inv-loop μ-loop = search in
     let s = start h in
     let f : tie.After-frame-of Inv-loop μ-loop = search in
     let p : tie.After-located-in Inv-loop μ-loop = search in (
@@ -693,96 +790,79 @@ loop-holds c =
       p .located-in .ensures ∙ ap (λ (k : Hand). locationIn (f .frame-of .result) (k .position)) (sym (h .hand-of .ensures)),
     )
 
-same-length : tie.Need-same-length Inv-loop μ-loop
-same-length c = let l : Loop = search in far l .long
-
-returns : tie.Need-returns Inv-loop μ-loop
-returns c =
+halt-returns : Halt-returns Inv-loop μ-loop
+halt-returns c =
     let l : Loop = search in
-    let o : tie.Then1 Inv-loop μ-loop = search in
-    let t : tie.Then2 Inv-loop μ-loop = search in
-    let p : tie.After-core-of Inv-loop μ-loop = search in
-    let f = far-halted (far l) (sym (o .before .remains .ensures) ∙ o .if1 .taken) (t .before .halted .ensures) (omega (arith, t .if2 .taken)) in
-    let e = ap (λ (k : Core). stoppedAs (whole (l .loop .reader) k (l .loop .store) (l .loop .work)) (l .loop .at) (l .loop .count) (t .before .halted .result)) (p .core-of .ensures) in
-    (c .gathered .ensures ∙ e ∙ f .0, f .1)
-
-slice-aggregate-batch : tie.Need-slice-aggregate-batch Inv-loop μ-loop
-slice-aggregate-batch c = let w : Waits = search in sines-long (handed (waits w .before))
+    let o : tie.After-remains Inv-loop μ-loop = search in
+    let t : tie.After-halted Inv-loop μ-loop = search in
+    let f = far-halted (far l) (sym (o .remains .ensures) ∙ search) (t .halted .ensures) (omega arith) in
+    (halt-stop c ∙ f .0, f .1)
 
 batch-requires : tie.Need-batch-requires Inv-loop μ-loop
 batch-requires c κs =
     let w : Waits = search in
-    let b : Batched = search in
     let l = waits w in
-    (batching w, omega (arith, free-drawn w, ap (λ (n : ℕ). n / 5) (far l .long)), laid (handed (l .before)) .table .ensures, sym (b .before .batched .ensures) ∙ b .if4 .taken)
+    (batching w, omega (arith, free-drawn w, ap (λ (n : ℕ). n / 5) (far l .long)), laid (handed l) .table .ensures, sym (w .batched .ensures) ∙ search)
 
-loop-less : tie.Need-loop-less Inv-loop μ-loop
-loop-less c = let d : tie.After-batch Inv-loop μ-loop = search in omega (arith, d .batch .ensures .0)
+batch-less : Batch-less Inv-loop μ-loop
+batch-less c = let d : tie.After-batch Inv-loop μ-loop = search in omega (arith, d .batch .ensures .0)
 
-loop-again : tie.Need-loop-again Inv-loop μ-loop
-loop-again c =
+batch-on : Batch-on Inv-loop μ-loop
+batch-on c =
     let w : Waits = search in
     let d : tie.After-batch Inv-loop μ-loop = search in
     let l = waits w in
     (again l (d .batch .ensures .1 (batching w)), l .loop .inv .1, l .loop .inv .2)
 
-mul-e : tie.Need-mul-e Inv-loop μ-loop
-mul-e c =
+edge-offset : Edge-offset Inv-loop μ-loop
+edge-offset c =
     let l : Loop = search in
     let h = place-within (l .loop .work) (far l .valid .work) in
     record { fits = omega (arith, h, c .edge-place .ensures) }
 
-element-copy-out-e : tie.Need-element-copy-out-e Inv-loop μ-loop
-element-copy-out-e c =
+edge-read : Edge-read Inv-loop μ-loop
+edge-read c =
     let l : Loop = search in
     let h = place-within (l .loop .work) (far l .valid .work) in
     omega (arith, h, c .edge-place .ensures)
 
-segment-requires : tie.Need-segment-requires Inv-loop μ-loop
-segment-requires c κs = let w : Waits = search in (rows-small (waits w), edge-small (far (waits w) .valid .edges) _)
+segment-drawable : Segment-drawable Inv-loop μ-loop
+segment-drawable c κs = let l = waits (segmented c) in (limits-fit l, subst SmallSegment (sym (waited c)) (segment-small (far l .valid)))
 
-drawn-of-requires : tie.Need-drawn-of-requires Inv-loop μ-loop
-drawn-of-requires c κs = let l = waits (segmented c) in (limits-fit l, subst SmallSegment (sym (waited c)) (segment-small (far l .valid)))
+segment-fits : Segment-fits Inv-loop μ-loop
+segment-fits c κs = let w : Waits = search in put-fits _ _ _ (far-fits (far (waits w)) (free-drawn w))
 
-put-requires : tie.Need-put-requires Inv-loop μ-loop
-put-requires c κs = let w : Waits = search in put-fits _ _ _ (far-fits (far (waits w)) (free-drawn w))
-
-work-after-requires : tie.Need-work-after-requires Inv-loop μ-loop
-work-after-requires c κs = let w : Waits = search in far (waits w) .valid .work
-
-loop-less-2 : tie.Need-loop-less-2 Inv-loop μ-loop
-loop-less-2 c =
-    let d : tie.After-drawn-of Inv-loop μ-loop = search in
+segment-less : Segment-less Inv-loop μ-loop
+segment-less c =
+    let d : Segment-drawn = search in
     let w = drawn d in
     omega (arith, waits-less (here (waits w)) (c .work-after .result) (waits-some w) (c .work-after .ensures))
 
-loop-again-2 : tie.Need-loop-again-2 Inv-loop μ-loop
-loop-again-2 c =
-    let d : tie.After-drawn-of Inv-loop μ-loop = search in
-    let u : tie.After-put Inv-loop μ-loop = search in
+segment-on : Segment-on Inv-loop μ-loop
+segment-on c =
+    let d : Segment-drawn = search in
     let w = drawn d in
     let l = waits w in
-    (again l (far-draw (far l) (waits-some w) (free-drawn w) (drew d) (u .put .ensures .1) (u .put .ensures .0) (c .work-after .ensures)), l .loop .inv .1, l .loop .inv .2)
+    (again l (far-draw (far l) (waits-some w) (free-drawn w) (drew d) (search) (search) (c .work-after .ensures)), l .loop .inv .1, l .loop .inv .2)
 
-loop-again-3 : tie.Need-loop-again-3 Inv-loop μ-loop
+nothing-on : Nothing-on Inv-loop μ-loop
 unfolding lineOf
-loop-again-3 c =
+nothing-on c =
     let q : Read = search in
     let l = loop q in
-    (again l (quiet q (c .enum-told .given .1) (none-acts (l .loop .settings) (l .loop .hand) (l .loop .polygon))), l .loop .inv .1, l .loop .inv .2)
+    (again l (quiet q (search) (none-acts (l .loop .settings) (l .loop .hand) (l .loop .polygon))), l .loop .inv .1, l .loop .inv .2)
 
-loop-again-4 : tie.Need-loop-again-4 Inv-loop μ-loop
+name-on : Name-on Inv-loop μ-loop
 unfolding lineOf
-loop-again-4 c =
+name-on c =
     let q : Read = search in
-    let e : tie.After-event Inv-loop μ-loop = search in
     let n : tie.After-name-number Inv-loop μ-loop = search in
     let l = loop q in
     let h = l .loop .hand in
     let g = l .loop .polygon in
     let same = ap (λ (k : Carriage). k .position) (c .letters .ensures g) ∙ letters-position (carriageOf h g) _ in
-    let z = c .before .if5 .taken in (
-      again l (quiet q (e .event .given .1) (ap (λ (k : ℕ). acting (l .loop .settings) (c .letters .result) g Keep k) (sym z) ∙ named-acts (l .loop .settings) h g _ (n .name-number .ensures) (c .letters .result) z (c .letters .ensures g))),
+    let z : n .name-number .result ≡ 0 = search in (
+      again l (quiet q (search) (ap (λ (k : ℕ). acting (l .loop .settings) (c .letters .result) g Keep k) (sym z) ∙ named-acts (l .loop .settings) h g _ (n .name-number .ensures) (c .letters .result) z (c .letters .ensures g))),
       l .loop .inv .1,
       l .loop .inv .2 ∙ ap (locationIn (l .loop .frame)) (sym same),
     )
@@ -790,282 +870,199 @@ loop-again-4 c =
 point-requires : tie.Need-point-requires Inv-loop μ-loop
 point-requires c κs =
     let q : Read = search in
-    let e : tie.After-event2 Inv-loop μ-loop = search in
     let l = loop q in
     let v = far l .valid .core in (
       record { polygon = l .loop .polygon; parts = record { settings = l .loop .settings; frame = l .loop .inv .1; core = v } },
-      subst (ValidEvent (held q)) (e .event2 .given .1) (event-valid q),
+      pair-small q (search),
       l .loop .inv .2,
       v .polygon .bytes,
     )
 
-longer-requires : tie.Need-longer-requires Inv-loop μ-loop
-longer-requires c κs = longer-fits (first-of c .before) (first c)
-
-loop-again-5 : tie.Need-loop-again-5 Inv-loop μ-loop
-loop-again-5 c = points-on (first-of (c .before) .before) (c .longer .ensures) (first (c .before))
-
-cast-k : tie.Need-cast-k Inv-loop μ-loop
-cast-k c = let p : Pointed = search in omega (arith, far (loop (pointing p)) .valid .core .polygon .edges)
-
-mul-e-2 : tie.Need-mul-e-2 Inv-loop μ-loop
-mul-e-2 c = let n : Joined = search in record { fits = omega (arith, edge-fits n) }
-
-element-set-from-e : tie.Need-element-set-from-e Inv-loop μ-loop
-element-set-from-e c = let n : Joined = search in omega (arith, edge-fits n)
-
-longer-requires-2 : tie.Need-longer-requires-2 Inv-loop μ-loop
-longer-requires-2 c κs = let n : Joined = search in longer-fits (joined-of n .before) (joins n)
-
-loop-again-6 : tie.Need-loop-again-6 Inv-loop μ-loop
-loop-again-6 c = let n : Joined = search in points-on (joined-of n .before) (c .longer2 .ensures) (joins n)
-
 shift-requires : tie.Need-shift-requires Inv-loop μ-loop
 shift-requires c κs =
     let q : Read = search in
-    let e : tie.After-event2 Inv-loop μ-loop = search in
     let l = loop q in (
       record { polygon = l .loop .polygon; parts = record { settings = l .loop .settings; frame = l .loop .inv .1; core = far l .valid .core } },
-      subst (ValidEvent (held q)) (e .event2 .given .1) (event-valid q),
+      pair-small q (search),
       l .loop .inv .2,
     )
 
-queued-requires : tie.Need-queued-requires Inv-loop μ-loop
-queued-requires c κs =
-    let f : Full = search in
-    let t = full f .before in
+line-alone : Line-alone Inv-loop μ-loop
+line-alone c κs =
+    let o : Moved = search in
+    let t = moved o in
     let q = shifts t in
     let l = loop q .loop in
-    rw (c .line-of .ensures) (action-alone (l .polygon .edges) (lineOf (t .shift .result .segment)) (acts-valid q (shift-acts (full f)) .action))
+    rw (c .line-of .ensures) (action-alone (l .polygon .edges) (lineOf (t .shift .result .segment)) (acts-valid q (shift-acts t (accepted o)) .action))
 
-same-length-2 : tie.Need-same-length-2 Inv-loop μ-loop
-same-length-2 c = let f : Full = search in far (loop (shifts (full f .before))) .long
-
-returns-2 : tie.Need-returns-2 Inv-loop μ-loop
-returns-2 c =
-    let f : Full = search in
-    let k : tie.After-queued Inv-loop μ-loop = search in
-    let o : tie.After-core-of2 Inv-loop μ-loop = search in
-    let t = full f .before in
-    let q = shifts t in
-    let l = loop q in
-    let h = overflow-waits (t .shift .result .segment) _ _ (l .loop .store .edges) (l .loop .polygon .edges) (coreOf (l .loop .settings) (t .shift .result .hand) (l .loop .polygon)) (sym (f .before .overflows .ensures) ∙ f .if10 .taken) in
-    let g = far-filled (stays f) (h .0) (h .1) in
-    (c .gathered2 .ensures ∙ (λ i. stoppedAs (whole (q .next .result .reader) (o .core-of2 .ensures i) (l .loop .store) (line-left k i)) (q .next .result .at) (l .loop .count) listFull) ∙ g .0, g .1)
-
-drawn-of-requires-2 : tie.Need-drawn-of-requires-2 Inv-loop μ-loop
-drawn-of-requires-2 c κs =
+full-returns : Full-returns Inv-loop μ-loop
+full-returns c =
     let m : Moved = search in
-    let t = m .before in
+    let k : Line-queued = search in
+    let t = moved m in
     let q = shifts t in
     let l = loop q in
-    (limits-fit l, next-small (reached q) (coreOf (l .loop .settings) (t .shift .result .hand) (l .loop .polygon)) (t .shift .result .segment) (shift-acts m))
+    let h = overflow-waits (t .shift .result .segment) _ _ (l .loop .store .edges) (l .loop .polygon .edges) (coreOf (l .loop .settings) (t .shift .result .hand) (l .loop .polygon)) (sym (m .overflows .ensures) ∙ search) in
+    let g = far-filled (stays t (accepted m)) (h .0) (h .1) in
+    (full-stop c ∙ (λ i. stoppedAs (whole (q .next .result .reader) (coreOf (l .loop .settings) (t .shift .result .hand) (l .loop .polygon)) (l .loop .store) (line-left k i)) (q .next .result .at) (l .loop .count) listFull) ∙ g .0, g .1)
 
-put-requires-2 : tie.Need-put-requires-2 Inv-loop μ-loop
-put-requires-2 c κs =
-    let f : Free = search in
-    let t = unfilled f .before in
-    let d : tie.After-drawn-of2 Inv-loop μ-loop = search in
+line-drawable : Line-drawable Inv-loop μ-loop
+line-drawable c κs =
+    let o : Moved = search in
+    let t = moved o in
+    let q = shifts t in
+    let l = loop q in
+    (limits-fit l, next-small (reached q) (coreOf (l .loop .settings) (t .shift .result .hand) (l .loop .polygon)) (t .shift .result .segment) (shift-acts t (accepted o)))
+
+line-fits : Line-fits Inv-loop μ-loop
+line-fits c κs =
+    let m : Moved = search in
+    let t = moved m in
+    let d : Line-drawn = search in
     let l = loop (shifts t) in
-    rw (d .drawn-of2 .ensures) (drawn-fits (t .shift .result .segment) _ _ _ _ _ (has-record f) (far l .room) (omega (arith, mul-div-le (length (entry l .args .numbers .now)) 5, far l .long)))
+    rw (line-is d) (drawn-fits (t .shift .result .segment) _ _ _ _ _ (has-record m (search)) (far l .room) (omega (arith, mul-div-le (length (entry l .args .numbers .now)) 5, far l .long)))
 
-loop-again-7 : tie.Need-loop-again-7 Inv-loop μ-loop
-loop-again-7 c =
-    let f : Free = search in
-    let d : tie.After-drawn-of2 Inv-loop μ-loop = search in
-    let u : tie.After-put2 Inv-loop μ-loop = search in
-    let m = unfilled f in
-    let t = m .before in
+line-on : Line-on Inv-loop μ-loop
+line-on c =
+    let m : Moved = search in
+    let d : Line-drawn = search in
+    let t = moved m in
     let q = shifts t in
     let l = loop q in
     let r = t .shift .result in (
       again l
-          (next-drawn (reached q) (coreOf (l .loop .settings) (r .hand) (l .loop .polygon)) (free-taken (q .before)) (r .segment) (has-record f) (shift-acts m)
-          (d .drawn-of2 .ensures ∙ ap (λ (b : Rect). drawnOf b (r .hand .pen .number) (r .segment)) (limited l)) (u .put2 .ensures .1) (u .put2 .ensures .0)),
+          (next-drawn (reached q) (coreOf (l .loop .settings) (r .hand) (l .loop .polygon)) (free-taken q) (r .segment) (has-record m (search)) (shift-acts t (accepted m))
+          (line-is d ∙ ap (λ (b : Rect). drawnOf b (r .hand .pen .number) (r .segment)) (limited l)) (search) (search)),
       l .loop .inv .1,
       t .shift .ensures .1,
     )
 
-loop-again-8 : tie.Need-loop-again-8 Inv-loop μ-loop
+pairs-on : Pairs-on Inv-loop μ-loop
 unfolding lineOf
-loop-again-8 c =
+pairs-on c =
     let q : Read = search in
-    let e : tie.After-event3 Inv-loop μ-loop = search in
+    let k : tie.After-takes-pairs Inv-loop μ-loop = search in
+    let e : Instructed = search in
     let l = loop q in
-    (again l (quiet q (e .event3 .given .1) (ended-acts (l .loop .settings) (l .loop .hand) (l .loop .polygon) _ _ (sym (c .before .takes-pairs .ensures) ∙ c .if11 .taken))), l .loop .inv .1, l .loop .inv .2)
+    (again l (quiet q (told-ended e) (ended-acts (l .loop .settings) (l .loop .hand) (l .loop .polygon) _ _ (sym (k .takes-pairs .ensures) ∙ search))), l .loop .inv .1, l .loop .inv .2)
 
-loop-less-9 : tie.Need-loop-less-9 Inv-loop μ-loop
-loop-less-9 c =
+outline-less : Outline-less Inv-loop μ-loop
+outline-less c =
     let q : Read = search in
-    let e : tie.After-event3 Inv-loop μ-loop = search in
-    let n : Outlined = search in
+    let e : Instructed = search in
     let l = loop q in
-    let f = next-outline (reached q) (e .event3 .given .1) (n .if12 .taken) (c .outline .ensures) (free-taken (q .before)) in
+    let f = next-outline (reached q) (told-ended e) (search) (c .outline .ensures) (free-taken q) in
     less q (c .outline .result) (waits-most (c .outline .result) (f .valid .work))
 
-loop-again-9 : tie.Need-loop-again-9 Inv-loop μ-loop
-loop-again-9 c =
+outline-on : Outline-on Inv-loop μ-loop
+outline-on c =
     let q : Read = search in
-    let e : tie.After-event3 Inv-loop μ-loop = search in
-    let n : Outlined = search in
+    let e : Instructed = search in
     let l = loop q in
-    (again l (next-outline (reached q) (e .event3 .given .1) (n .if12 .taken) (c .outline .ensures) (free-taken (q .before))), l .loop .inv .1, l .loop .inv .2)
+    (again l (next-outline (reached q) (told-ended e) (search) (c .outline .ensures) (free-taken q)), l .loop .inv .1, l .loop .inv .2)
 
 end-rule-requires : tie.Need-end-rule-requires Inv-loop μ-loop
 end-rule-requires c κs =
     let q : Read = search in
-    let e : tie.After-event3 Inv-loop μ-loop = search in
-    rw (c .core-of3 .ensures) (far (loop q) .valid .core, subst (ValidEvent (held q)) (e .event3 .given .1) (event-valid q) .0 .numbers)
+    let e : Instructed = search in
+    rw (rule-core c) (far (loop q) .valid .core, subst (ValidEvent (held q)) (told-ended e) (event-valid q) .0 .numbers)
 
-frame-of-requires-2 : tie.Need-frame-of-requires-2 Inv-loop μ-loop
-frame-of-requires-2 c κs = let a : Ended = search in act-valid a .core .settings
-
-located-in-requires-2 : tie.Need-located-in-requires-2 Inv-loop μ-loop
-located-in-requires-2 c κs =
+rule-located : Rule-located Inv-loop μ-loop
+rule-located c κs =
     let a : Ended = search in
-    let f : tie.After-frame-of2 Inv-loop μ-loop = search in
+    let f : Rule-frame = search in
     let k = a .end-rule .result .core in
-    hand-locatable {h = handOf (k .carriage)} {g = k .carriage .polygon} (record { settings = k .settings; frame = f .frame-of2 .ensures; core = act-valid a .core })
+    hand-locatable {h = handOf (k .carriage)} {g = k .carriage .polygon} (record { settings = k .settings; frame = frame-is f; core = act-valid a .core })
 
-refusal-record-requires : tie.Need-refusal-record-requires Inv-loop μ-loop
-refusal-record-requires c κs = let r : Ruled = search in place-small (read r)
+refusal-fits : Refusal-fits Inv-loop μ-loop
+refusal-fits c κs =
+    let r : Ruled = search in
+    far-fits (far (loop (read r))) (free-taken (read r) (search))
 
-put-record-requires : tie.Need-put-record-requires Inv-loop μ-loop
-put-record-requires c κs =
-    let t : tie.Then14 Inv-loop μ-loop = search in
-    let q = read (refusing (t .before .before)) in
-    far-fits (far (loop q)) (free-taken (q .before) (t .if14 .taken))
-
-loop-less-10 : tie.Need-loop-less-10 Inv-loop μ-loop
-loop-less-10 c = let r : Ruled = search in none-less (read r)
-
-loop-again-10 : tie.Need-loop-again-10 Inv-loop μ-loop
-loop-again-10 c =
-    let t : tie.Then14 Inv-loop μ-loop = search in
-    let x : tie.After-refusal-record Inv-loop μ-loop = search in
-    let u : tie.After-put-record Inv-loop μ-loop = search in
-    let p = t .before in
-    let r = refusing (p .before) in
+refusal-on : Refusal-on Inv-loop μ-loop
+refusal-on c =
+    let p : Passed = search in
+    let x : Refusal-made = search in
+    let r = refusing p in
     let q = read r in
-    let o = t .if14 .taken in (
+    let o : entry (loop q) .args .on ≡ true = search in (
       again (loop q)
-          (next-refusal (reached q) (passed p (core-is r)) (refused (p .before)) o (free-taken (q .before) o) (x .refusal-record .ensures) (u .put-record .ensures .1) (u .put-record .ensures .0)),
-      hand-now r .before .frame-of2 .ensures,
+          (next-refusal (reached q) (passed p (core-is r)) (refused p) o (free-taken q o) {x = refusal-made x} (search) (search) (search)),
+      search,
       located-now r,
     )
 
-same-length-3 : tie.Need-same-length-3 Inv-loop μ-loop
-same-length-3 c = let r : Ruled = search in far (loop (read r)) .long
+refusal-returns : Refusal-returns Inv-loop μ-loop
+refusal-returns c =
+    let p : Passed = search in
+    let q = read (refusing p) in
+    let f = next-refused (reached q) (passed p refl) (refused p) (search) in
+    (refusal-stop c ∙ f .0, f .1)
 
-returns-3 : tie.Need-returns-3 Inv-loop μ-loop
-returns-3 c =
-    let e : tie.Else14 Inv-loop μ-loop = search in
-    let p = e .before in
-    let q = read (refusing (p .before)) in
-    let f = next-refused (reached q) (passed p refl) (refused (p .before)) (e .if14 .left) in
-    (c .gathered3 .ensures ∙ f .0, f .1)
-
-cast-k-2 : tie.Need-cast-k-2 Inv-loop μ-loop
-cast-k-2 c = let r : Ruled = search in omega (arith, far (loop (read r)) .valid .core .polygon .edges)
-
-mul-e-3 : tie.Need-mul-e-3 Inv-loop μ-loop
-mul-e-3 c = let a : tie.After-action Inv-loop μ-loop = search in record { fits = omega (arith, joins-edge a) }
-
-element-set-from-e-2 : tie.Need-element-set-from-e-2 Inv-loop μ-loop
-element-set-from-e-2 c = let a : tie.After-action Inv-loop μ-loop = search in omega (arith, joins-edge a)
-
-loop-again-11 : tie.Need-loop-again-11 Inv-loop μ-loop
-loop-again-11 c =
-    let a : Accepted = search in
+join-on : Join-on Inv-loop μ-loop
+join-on c =
+    let r : Ruled = search in
     let e : tie.After-action Inv-loop μ-loop = search in
-    let r = accepting a in
-    (again (loop (read r)) (taken a (joined-edges e) (joined-waits e)), hand-now r .before .frame-of2 .ensures, located-now r)
+    (again (loop (read r)) (taken r (omega arith) (joined-edges e) (joined-waits e)), search, located-now r)
 
-carried-requires : tie.Need-carried-requires Inv-loop μ-loop
-carried-requires c κs = let r : Ruled = search in act-valid (ended r) .action
-
-loop-less-12 : tie.Need-loop-less-12 Inv-loop μ-loop
-loop-less-12 c =
-    let a : Accepted = search in
+carried-less : Carried-less Inv-loop μ-loop
+carried-less c =
+    let r : Ruled = search in
     let k : tie.After-carried Inv-loop μ-loop = search in
-    taken-less a {st = k .carried .result .store} (k .carried .ensures .0) (k .carried .ensures .1 _ _)
+    taken-less r {st = k .carried .result .store} (omega arith) (k .carried .ensures .0) (k .carried .ensures .1 _ _)
 
-loop-again-12 : tie.Need-loop-again-12 Inv-loop μ-loop
-loop-again-12 c =
-    let a : Accepted = search in
+carried-on : Carried-on Inv-loop μ-loop
+carried-on c =
+    let r : Ruled = search in
     let k : tie.After-carried Inv-loop μ-loop = search in
-    let r = accepting a in
-    (again (loop (read r)) (taken a (k .carried .ensures .0) (k .carried .ensures .1 _ _)), hand-now r .before .frame-of2 .ensures, located-now r)
+    (again (loop (read r)) (taken r (omega arith) (k .carried .ensures .0) (k .carried .ensures .1 _ _)), search, located-now r)
 
-queued-requires-2 : tie.Need-queued-requires-2 Inv-loop μ-loop
-queued-requires-2 c κs = let r : Ruled = search in action-alone (loop (read r) .loop .polygon .edges) (did r .action) (act-valid (ended r) .action)
+queued-less : Queued-less Inv-loop μ-loop
+queued-less c =
+    let r : Ruled = search in
+    let h : tie.After-heavy Inv-loop μ-loop = search in
+    let k : Action-queued = search in
+    taken-less r (omega arith) (same-edges h search) (action-queued k _ _)
 
-loop-less-13 : tie.Need-loop-less-13 Inv-loop μ-loop
-loop-less-13 c =
-    let a : Accepted = search in
-    let h : Light = search in
-    let k : tie.After-queued2 Inv-loop μ-loop = search in
-    taken-less a (same-edges h) (k .queued2 .ensures _ _)
+queued-on : Queued-on Inv-loop μ-loop
+queued-on c =
+    let r : Ruled = search in
+    let h : tie.After-heavy Inv-loop μ-loop = search in
+    let k : Action-queued = search in
+    (again (loop (read r)) (taken r (omega arith) (same-edges h search) (action-queued k _ _)), search, located-now r)
 
-loop-again-13 : tie.Need-loop-again-13 Inv-loop μ-loop
-loop-again-13 c =
-    let a : Accepted = search in
-    let h : Light = search in
-    let k : tie.After-queued2 Inv-loop μ-loop = search in
-    let r = accepting a in
-    (again (loop (read r)) (taken a (same-edges h) (k .queued2 .ensures _ _)), hand-now r .before .frame-of2 .ensures, located-now r)
+declined-fits : Declined-fits Inv-loop μ-loop
+declined-fits c κs =
+    let j : Met = search in
+    far-fits (far (loop (met j))) (free-taken (met j) (search))
 
-refusal-record-requires-2 : tie.Need-refusal-record-requires-2 Inv-loop μ-loop
-refusal-record-requires-2 c κs = let j : Met = search in place-small (met j)
-
-put-record-requires-2 : tie.Need-put-record-requires-2 Inv-loop μ-loop
-put-record-requires-2 c κs =
-    let t : tie.Then16 Inv-loop μ-loop = search in
-    let q = met (t .before .before) in
-    far-fits (far (loop q)) (free-taken (q .before) (t .if16 .taken))
-
-loop-less-14 : tie.Need-loop-less-14 Inv-loop μ-loop
-loop-less-14 c = let j : Met = search in none-less (met j)
-
-loop-again-14 : tie.Need-loop-again-14 Inv-loop μ-loop
-loop-again-14 c =
-    let t : tie.Then16 Inv-loop μ-loop = search in
-    let x : tie.After-refusal-record2 Inv-loop μ-loop = search in
-    let u : tie.After-put-record2 Inv-loop μ-loop = search in
-    let p = t .before in
-    let q = met (p .before) in
+declined-on : Declined-on Inv-loop μ-loop
+declined-on c =
+    let p : Declined = search in
+    let x : Declined-made = search in
+    let q = met (declining-at p) in
     let l = loop q in
-    let o = t .if16 .taken in (
+    let o : entry l .args .on ≡ true = search in (
       again l
-          (next-refusal (reached q) (declining p refl) (declines (p .before) .some) o (free-taken (q .before) o) (x .refusal-record2 .ensures) (u .put-record2 .ensures .1) (u .put-record2 .ensures .0)),
+          (next-refusal (reached q) (declining p refl) (declines (declining-at p) .some) o (free-taken q o) {x = declined-made x} (search) (search) (search)),
       l .loop .inv .1,
       l .loop .inv .2,
     )
 
-same-length-4 : tie.Need-same-length-4 Inv-loop μ-loop
-same-length-4 c = let j : Met = search in far (loop (met j)) .long
+declined-returns : Declined-returns Inv-loop μ-loop
+declined-returns c =
+    let p : Declined = search in
+    let q = met (declining-at p) in
+    let f = next-refused (reached q) (declining p refl) (declines (declining-at p) .some) (search) in
+    (declined-stop c ∙ f .0, f .1)
 
-returns-4 : tie.Need-returns-4 Inv-loop μ-loop
-returns-4 c =
-    let e : tie.Else16 Inv-loop μ-loop = search in
-    let k : tie.After-core-of4 Inv-loop μ-loop = search in
-    let p = e .before in
-    let q = met (p .before) in
-    let f = next-refused (reached q) (declining p (k .core-of4 .ensures)) (declines (p .before) .some) (e .if16 .left) in
-    (c .gathered4 .ensures ∙ f .0, f .1)
-
-same-length-5 : tie.Need-same-length-5 Inv-loop μ-loop
-same-length-5 c = let l : Loop = search in far l .long
-
-returns-5 : tie.Need-returns-5 Inv-loop μ-loop
-returns-5 c =
+end-returns : End-returns Inv-loop μ-loop
+end-returns c =
     let l : Loop = search in
-    let e : tie.Else1 Inv-loop μ-loop = search in
-    let p : tie.After-core-of5 Inv-loop μ-loop = search in
-    let n = none-remains (l .loop .work) _ _ (sym (e .before .remains .ensures) ∙ e .if1 .left) in
+    let e : tie.After-remains Inv-loop μ-loop = search in
+    let n = none-remains (l .loop .work) _ _ (sym (e .remains .ensures) ∙ search) in
     let f = far-end (far l) (n .0) (n .1) in
-    let k = ap (λ (k : Core). stoppedAs (whole (l .loop .reader) k (l .loop .store) (l .loop .work)) (l .loop .at) (l .loop .count) 0) (p .core-of5 .ensures) in
-    (c .gathered5 .ensures ∙ k ∙ f .0, f .1)
+    (end-stop c ∙ f .0, f .1)
 
 pub gather-spec : {M : Type 1} → statement M
 gather-spec =
@@ -1074,107 +1071,107 @@ gather-spec =
     Inv-loop
     μ-loop
     (λ c κs. search needs)
-    frame-of-requires
+    (λ c κs. let s : tie.Start Inv-loop μ-loop = search in s .pre .core .settings)
     (λ c κs. search needs)
-    located-in-requires
+    start-located
     loop-holds
     (λ c κs. search needs)
     (λ c κs. let l : Loop = search in far l .room)
     (λ c κs. search needs)
     (λ c κs. search needs)
-    same-length
-    returns
+    (λ c. let l : Loop = search in far l .long)
+    halt-returns
     (λ c κs. search needs)
     (λ c κs. search needs)
-    slice-aggregate-batch
+    (λ c. let w : Waits = search in sines-long (handed (waits w)))
     batch-requires
-    loop-less
-    loop-again
+    batch-less
+    batch-on
     (λ c κs. search needs)
-    mul-e
-    element-copy-out-e
-    segment-requires
-    drawn-of-requires
-    put-requires
-    work-after-requires
-    loop-less-2
-    loop-again-2
+    edge-offset
+    edge-read
+    (λ c κs. let w : Waits = search in (rows-small (waits w), edge-small (far (waits w) .valid .edges) _))
+    segment-drawable
+    segment-fits
+    (λ c κs. let w : Waits = search in far (waits w) .valid .work)
+    segment-less
+    segment-on
     (λ c κs. search needs)
     (λ c. search needs)
     (λ c. let q : Read = search in none-less q)
-    loop-again-3
+    nothing-on
     (λ c. search needs)
     (λ c κs. search needs)
     (λ c κs. search needs)
     (λ c. let q : Read = search in none-less q)
-    loop-again-4
+    name-on
     (λ c. search needs)
     point-requires
-    longer-requires
+    (λ c κs. let p : Pointed = search in longer-fits p (first p (search) (search)))
     (λ c. let q : Read = search in none-less q)
-    loop-again-5
-    cast-k
-    mul-e-2
-    element-set-from-e
-    longer-requires-2
+    (λ c. let p : Pointed = search in points-on p (search) (first p (search) (search)))
+    (λ c. let p : Pointed = search in omega (arith, far (loop (pointing p)) .valid .core .polygon .edges))
+    (λ c. let p : Pointed = search in record { fits = omega (arith, edge-fits p (search) (search)) })
+    (λ c. let p : Pointed = search in omega (arith, edge-fits p (search) (search)))
+    (λ c κs. let p : Pointed = search in longer-fits p (joins p (search) (search)))
     (λ c. let q : Read = search in none-less q)
-    loop-again-6
+    (λ c. let p : Pointed = search in points-on p (search) (joins p (search) (search)))
     shift-requires
     (λ c κs. search needs)
     (λ c κs. search needs)
-    queued-requires
+    line-alone
     (λ c κs. search needs)
     (λ c κs. search needs)
-    same-length-2
-    returns-2
-    drawn-of-requires-2
-    put-requires-2
+    (λ c. let t : Shifted = search in far (loop (shifts t)) .long)
+    full-returns
+    line-drawable
+    line-fits
     (λ c. let q : Read = search in none-less q)
-    loop-again-7
+    line-on
     (λ c. search needs)
     (λ c κs. search needs)
     (λ c. let q : Read = search in none-less q)
-    loop-again-8
+    pairs-on
     (λ c κs. search needs)
-    loop-less-9
-    loop-again-9
+    outline-less
+    outline-on
     (λ c κs. search needs)
     end-rule-requires
-    frame-of-requires-2
+    (λ c κs. let a : Ended = search in act-valid a .core .settings)
     (λ c κs. search needs)
-    located-in-requires-2
+    rule-located
     (λ c κs. search needs)
-    refusal-record-requires
-    put-record-requires
-    loop-less-10
-    loop-again-10
-    (λ c κs. search needs)
-    same-length-3
-    returns-3
-    (λ c. search needs)
-    cast-k-2
-    mul-e-3
-    element-set-from-e-2
+    (λ c κs. let r : Ruled = search in place-small (read r))
+    refusal-fits
     (λ c. let r : Ruled = search in none-less (read r))
-    loop-again-11
+    refusal-on
     (λ c κs. search needs)
-    carried-requires
-    loop-less-12
-    loop-again-12
-    queued-requires-2
-    loop-less-13
-    loop-again-13
+    (λ c. let r : Ruled = search in far (loop (read r)) .long)
+    refusal-returns
+    (λ c. search needs)
+    (λ c. let r : Ruled = search in omega (arith, far (loop (read r)) .valid .core .polygon .edges))
+    (λ c. let a : tie.After-action Inv-loop μ-loop = search in record { fits = omega (arith, joins-edge a) })
+    (λ c. let a : tie.After-action Inv-loop μ-loop = search in omega (arith, joins-edge a))
+    (λ c. let r : Ruled = search in none-less (read r))
+    join-on
+    (λ c κs. search needs)
+    (λ c κs. let r : Ruled = search in act-valid (ended r) .action)
+    carried-less
+    carried-on
+    (λ c κs. let r : Ruled = search in action-alone (loop (read r) .loop .polygon .edges) (did r .action) (act-valid (ended r) .action))
+    queued-less
+    queued-on
     (λ c. search needs)
     (λ c κs. search needs)
-    refusal-record-requires-2
-    put-record-requires-2
-    loop-less-14
-    loop-again-14
+    (λ c κs. let j : Met = search in place-small (met j))
+    declined-fits
+    (λ c. let j : Met = search in none-less (met j))
+    declined-on
     (λ c κs. search needs)
     (λ c κs. search needs)
-    same-length-4
-    returns-4
+    (λ c. let j : Met = search in far (loop (met j)) .long)
+    declined-returns
     (λ c κs. search needs)
     (λ c κs. search needs)
-    same-length-5
-    returns-5)
+    (λ c. let l : Loop = search in far l .long)
+    end-returns)
