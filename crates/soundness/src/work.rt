@@ -12,6 +12,7 @@ use hpgl::Circle;
 use plane::arc::each_fits;
 use plane::arc::round_fits;
 use rows::Row;
+use rows::short_of;
 use saving::work::circle_of;
 use sines::table;
 

@@ -2,7 +2,9 @@
 use borrow.Author.Needs.{needs}
 use mathlib.Core.Path.{refl, subst}
 use native.Mathlib.Omega.{arith}
+use Rattle.hpgl.specs.declared.Work.the-variants.{Chords}
 use Rattle.hpgl.specs.Valid.{ValidWork}
+use Rattle.hpgl.specs.ValidFacts.{fewer}
 use Rattle.queue.specs.Corners.{nextCornerOf}
 use Rattle.queue.proofs.drawing.next_corner.Statement.{statement}
 use Rattle.queue.proofs.drawing.next_corner.Tie as tie
@@ -16,15 +18,18 @@ enum-told-2 c = search needs
 enum-known-w : tie.Need-enum-known-w
 enum-known-w c = search needs
 
+-- the chords that wait
+waits : (e : tie.Else1) → ValidWork (Chords (e .before .w .given .0 .0) (e .before .w .given .0 .1) (e .before .w .given .0 .2))
+waits e = let s : tie.Start = search in subst ValidWork (e .before .w .given .1) (s .pre .1)
+
 add-vertex : tie.Need-add-vertex
-add-vertex c =
-    let s : tie.Start = search in
-    record { fits = omega (arith, subst ValidWork (c .before .w .given .1) (s .pre .1) .1) }
+add-vertex c = let e : tie.Else1 = search in record { fits = omega (arith, waits e .1) }
 
 vertex-requires : tie.Need-vertex-requires
 vertex-requires c κs =
     let s : tie.Start = search in
-    (s .pre .0, subst ValidWork (c .before .w .given .1) (s .pre .1) .0, s .pre .2)
+    let e : tie.Else1 = search in
+    (s .pre .0, fewer (waits e .0) _ 0 (omega arith) (omega (arith, e .if1 .left)), s .pre .2)
 
 enum-told-3 : tie.Need-enum-told-3
 enum-told-3 c = search needs
