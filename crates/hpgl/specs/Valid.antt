@@ -140,7 +140,7 @@ pub record ValidCircle (o : Circle) (i n : ℕ) : Type 0 where
   pub some : o .sweep ≡ pos 0 → ⊥
   pub fits : (j : ℕ) → i ≤ j → j ≤ i + n → SmallPoint (vertexIn o j)
 
--- one whose vertices all are
+-- one whose vertices are all in range
 abbrev pub WholeCircle : Circle → Type 0
 WholeCircle o = ValidCircle o 0 (partsOf (o .sweep) (o .angle))
 
