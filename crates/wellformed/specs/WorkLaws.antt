@@ -154,9 +154,9 @@ round-true : (o : Circle) (i n : ℕ) → SmallPoint (o .start) → roundOf o i 
 unfolding roundOf vertexIn arcPoint
 round-true o zero n s e zero l u = s
 round-true o zero n s e (suc j) l u =
-    rw (later-vertex o (suc j) (omega arith)) (each-small (o .x) (o .y) (o .radius) (o .sweep) (o .angle) 1 n e (suc j) (omega arith) (omega (arith, u)))
+    rw (later-vertex o (suc j) (omega arith)) (each-small (o .x) (o .y) (o .radius) (o .sweep) (o .angle) 1 _ e (suc j) (omega arith) (omega (arith, u)))
 round-true o (suc i) n s e j l u =
-    rw (later-vertex o j (omega (arith, l))) (each-small (o .x) (o .y) (o .radius) (o .sweep) (o .angle) (suc i) (n + 1) e j l (omega (arith, u)))
+    rw (later-vertex o j (omega (arith, l))) (each-small (o .x) (o .y) (o .radius) (o .sweep) (o .angle) (suc i) _ e j l (omega (arith, u)))
 
 round-of : (o : Circle) (i n : ℕ) → ValidCircle o i n → roundOf o i n ≡ true
 unfolding roundOf

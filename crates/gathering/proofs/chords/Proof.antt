@@ -78,7 +78,7 @@ drawn-chord : (v : tie.After-vertex2 Inv-loop μ-loop) → let l = turn (v .befo
 drawn-chord v = let l = turn (v .before) in λ j. segment.Line (l .loop .inv .1 j) (v .vertex2 .ensures j)
 
 vertex-requires : tie.Need-vertex-requires Inv-loop μ-loop
-vertex-requires c κs = let s : tie.Start Inv-loop μ-loop = search in (rows-small s, fewer (known s .far .valid .work .0) (s .args .from) 0 (omega arith) (omega arith), s .pre .2)
+vertex-requires c κs = let s : tie.Start Inv-loop μ-loop = search in (rows-small s, fewer (known s .far .valid .work .0) _ 0 (omega arith) (omega arith), s .pre .2)
 
 loop-holds : tie.Need-loop-holds Inv-loop μ-loop
 loop-holds c =
