@@ -2,6 +2,7 @@
 use mathlib.Core.Path.{_≡_, refl, ap, _∙_}
 use mathlib.Core.Bool.{Bool, true, false, cond}
 use Prim.Native.Nat.{ℕ, zero, suc, _+_}
+use native.Mathlib.Omega.{arith}
 use lib.ListN.{getD}
 use Rattle.clip.specs.Clip.{clip}
 use Rattle.clip.specs.Reach.{SmallPoint}
@@ -24,7 +25,7 @@ use Rattle.hpgl.specs.Place.{limits}
 use Rattle.hpgl.specs.Machine.{noEdge, strokeOf, shown, vertex, chordShown, edgeShown, drawWork, drawAnswer}
 use Rattle.hpgl.specs.Values.{Out, stroke, hidden, idle, drawnValues}
 use Rattle.hpgl.specs.Valid.{ValidSettings, SmallEdge, ValidCircle, ValidWork, Valid}
-use Rattle.hpgl.specs.ValidFacts.{edge-small, vertices}
+use Rattle.hpgl.specs.ValidFacts.{edge-small}
 
 -- chord i
 unfoldable pub chordSegment : Settings → Circle → ℕ → Segment
@@ -112,9 +113,9 @@ SmallSegment PenUp = Unit {0}
 SmallSegment (Line a b) = SmallPoint a × SmallPoint b
 
 module _ {s : Settings} (v : ValidSettings s) where
-  pub chord-small : {o : Circle} → ValidCircle o → (i : ℕ) → SmallSegment (chordSegment s o i)
+  pub chord-small : {o : Circle} {i n : ℕ} → ValidCircle o i (suc n) → SmallSegment (chordSegment s o i)
   unfolding chordSegment vertex
-  chord-small h i = (turned-small (vertices h i) (v .turn), turned-small (vertices h (i + 1)) (v .turn))
+  chord-small {i = i} h = (turned-small (h .fits i (omega arith) (omega arith)) (v .turn), turned-small (h .fits (i + 1) (omega arith) (omega arith)) (v .turn))
 
   pub page-small : {e : Edge} → SmallEdge e → SmallSegment (edgeSegment s e)
   unfolding edgeSegment
@@ -129,7 +130,7 @@ unfolding workSegment
 work-small v work.Nothing h = tt
 work-small v (work.Line a b) h = h
 work-small v (work.Chords o i zero) h = tt
-work-small v (work.Chords o i (suc n)) h = chord-small (v .core .settings) (h .0) i
+work-small v (work.Chords o i (suc n)) h = chord-small (v .core .settings) (h .0)
 work-small v (work.Edges i zero) h = tt
 work-small v (work.Edges i (suc n)) h = page-small (v .core .settings) (edge-small (v .edges) i)
 

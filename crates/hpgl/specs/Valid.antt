@@ -20,7 +20,7 @@ use Rattle.reader.specs.Inside.{inside}
 use Rattle.reader.specs.Sizes.{Readable, SmallPair, Fitting}
 use Rattle.plane.specs.Turn.{turnCount}
 use Rattle.plane.specs.Bounds.{mostNumber, mostPoint, mostAngle, mostSweep, mostProduct, Locatable, Storable, WayBounds, CentreBounds}
-use Rattle.plane.specs.Arc.{arcFits}
+use Rattle.plane.specs.Arc.{partsOf}
 use Rattle.hpgl.specs.declared.Position.{Position}
 use Rattle.hpgl.specs.declared.Range.{Range}
 use Rattle.hpgl.specs.declared.Settings.{Settings}
@@ -36,7 +36,7 @@ use Rattle.hpgl.specs.declared.Work.the-variants as work
 use Rattle.hpgl.specs.declared.State.{State}
 use Rattle.hpgl.specs.Numbers.{polygonBytes, modeBytes, pointBytes, mostEdges, mostPen, leastAngle}
 use Rattle.hpgl.specs.Place.{axisX, axisY, location}
-use Rattle.hpgl.specs.Machine.{waiting, queued}
+use Rattle.hpgl.specs.Machine.{waiting, queued, vertexIn}
 
 -- the chord angle is at least 5 tenths of a degree: so a circle has at most 3600 / 5 chords
 abbrev pub mostChords : ℕ
@@ -128,8 +128,8 @@ pub record SmallEdge (e : Edge) : Type 0 where
   pub from : SmallPoint (e .from)
   pub to : SmallPoint (e .to)
 
--- a circle whose vertices are in range, the first and each after it (ValidFacts.antt, `vertices`)
-pub record ValidCircle (o : Circle) : Type 0 where
+-- a circle whose vertices i to i + n are in range: those that n chords from i on join
+pub record ValidCircle (o : Circle) (i n : ℕ) : Type 0 where
   pub x : CentreBounds (o .x)
   pub y : CentreBounds (o .y)
   pub radius : WayBounds (o .radius)
@@ -138,13 +138,17 @@ pub record ValidCircle (o : Circle) : Type 0 where
   pub start : SmallPoint (o .start)
   pub sweep : Bd (o .sweep) mostSweep
   pub some : o .sweep ≡ pos 0 → ⊥
-  pub fits : arcFits (o .x) (o .y) (o .radius) (o .sweep) (o .angle) ≡ true
+  pub fits : (j : ℕ) → i ≤ j → j ≤ i + n → SmallPoint (vertexIn o j)
+
+-- one whose vertices are all in range
+abbrev pub WholeCircle : Circle → Type 0
+WholeCircle o = ValidCircle o 0 (partsOf (o .sweep) (o .angle))
 
 -- an action that a core may hand on; k is how many edges its polygon had, and an edge that joins them finds a place in the store
 abbrev pub ValidAction : ℕ → Action → Type 0
 ValidAction k action.Keep = Unit {0}
 ValidAction k (action.Line a b) = SmallPoint a × SmallPoint b
-ValidAction k (action.Chords o) = ValidCircle o
+ValidAction k (action.Chords o) = WholeCircle o
 ValidAction k (action.Join e) = SmallEdge e × (k < mostEdges)
 ValidAction k action.Outline = Unit {0}
 ValidAction k (action.Rectangle p q shown) = SmallPoint p × SmallPoint q
@@ -160,11 +164,11 @@ pub record ValidActed (c : Core) (t : Acted) : Type 0 where
   pub number : t .number < 256
   pub inked : (turn : ℕ) (es : List Edge) (k : ℕ) → Inked (t .core) (queued turn es k (t .action))
 
--- the waiting segments end within the circle, or within the store
+-- the waiting segments end within the circle, or within the store; of a circle's vertices those that were drawn already are not asked for
 abbrev pub ValidWork : Work → Type 0
 ValidWork work.Nothing = Unit {0}
 ValidWork (work.Line a b) = SmallPoint a × SmallPoint b
-ValidWork (work.Chords o i n) = ValidCircle o × (i + n ≤ mostChords)
+ValidWork (work.Chords o i n) = ValidCircle o i n × (i + n ≤ mostChords)
 ValidWork (work.Edges i n) = i + n ≤ mostEdges
 
 pub data Every {A : Type 0} (P : A → Type 0) : List A → Type 0 where

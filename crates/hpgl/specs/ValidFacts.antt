@@ -1,6 +1,6 @@
 -- What follows of valid settings, positions and cores: the facts that the code needs where one function calls another, and that the files ..Kept.antt
 -- build on. Why: each is a law of the crate plane, or a bound of a sum, put over the settings.
-use mathlib.Core.Path.{_≡_, refl, sym, _∙_, subst}
+use mathlib.Core.Path.{_≡_, refl, sym, ap, _∙_, subst}
 use mathlib.Core.Bool.{Bool, true, false, cond, not, _&&_}
 use mathlib.Core.List.{List}
 use Prim.Native.Nat.{ℕ, zero, suc, _+_, _*_, _-_, _/_, _≤_, _<_}
@@ -19,7 +19,7 @@ use Rattle.plane.specs.Turn.{turnCount, turnedBackOf, rebasedOf}
 use Rattle.plane.specs.Position.{axisOf, inRangeOf}
 use Rattle.plane.specs.Bounds.{mostNumber, mostPoint, mostProduct, mostAngle, mostSweep, AxisBounds}
 use Rattle.plane.specs.Circle.{centreOf, pointFromCentre}
-use Rattle.plane.specs.Arc.{partsOf, wayFits, arcFits, arcPoint}
+use Rattle.plane.specs.Arc.{partsOf, bendOf, wayFits, arcFits, arcPoint}
 use Rattle.plane.specs.TurnLaws.{turned-small, rebased-small}
 use Rattle.plane.specs.PositionLaws as axis
 use Rattle.plane.specs.CircleLaws as round
@@ -38,7 +38,7 @@ use Rattle.hpgl.specs.Place.{rounded, axisX, axisY, location, inRange, a
 use Rattle.hpgl.specs.Change.{withRelative, withCarriage}
 use Rattle.hpgl.specs.Rules.{origin, carried, aimed, pointCost, circleFits, circle, goodSweep, wayFrom, arc, lastVertex}
 use Rattle.hpgl.specs.Machine.{noEdge, vertexIn}
-use Rattle.hpgl.specs.Valid.{mostChords, ShortPoint, ValidRange, ValidSettings, LocatablePosition, Placed, KeptPosition, ValidPolygon, ValidCore, SmallEdge, ValidCircle, Every, none, more}
+use Rattle.hpgl.specs.Valid.{mostChords, ShortPoint, ValidRange, ValidSettings, LocatablePosition, Placed, KeptPosition, ValidPolygon, ValidCore, SmallEdge, ValidCircle, WholeCircle, Every, none, more}
 
 pub and-both : (x y : Bool) → x && y ≡ true → (x ≡ true) × (y ≡ true)
 and-both true y e = (refl, e)
@@ -221,8 +221,21 @@ along-x h = record { x = h; y = bd-lit tt }
 pub along-y : {r : ℤ} → Bd r mostNumber → SmallPair (record { x = pos 0; y = r })
 along-y h = record { x = bd-lit tt; y = h }
 
+-- a vertex after the first is found from the centre
+pub later-vertex : (o : Circle) (i : ℕ) → 0 < i → vertexIn o i ≡ pointFromCentre (o .x) (o .y) (o .radius) (bendOf (o .sweep) (o .angle) i)
+unfolding vertexIn arcPoint
+later-vertex o zero h = absurd (omega arith)
+later-vertex o (suc i) h = rw (eqb·suc-zero i) refl
+
+-- where those pass the test of 02, and the first is in range, all are
+all-small : (o : Circle) → SmallPoint (o .start) → arcFits (o .x) (o .y) (o .radius) (o .sweep) (o .angle) ≡ true → (j : ℕ) → 0 ≤ j → j ≤ 0 + partsOf (o .sweep) (o .angle) →
+    SmallPoint (vertexIn o j)
+unfolding arcFits vertexIn arcPoint
+all-small o s e zero l u = s
+all-small o s e (suc j) l u = rw (later-vertex o (suc j) (omega arith)) (curve.each-small (o .x) (o .y) (o .radius) (o .sweep) (o .angle) 1 (partsOf (o .sweep) (o .angle)) e (suc j) (omega arith) (omega (arith, u)))
+
 -- a circle whose four points are in range may be drawn
-pub circle-valid : {c : Core} {r : ℤ} {a : ℕ} → ValidCore c → Bd r mostNumber → leastAngle ≤ a → a ≤ mostAngle → circleFits c r ≡ true → ValidCircle (circle c r a)
+pub circle-valid : {c : Core} {r : ℤ} {a : ℕ} → ValidCore c → Bd r mostNumber → leastAngle ≤ a → a ≤ mostAngle → circleFits c r ≡ true → WholeCircle (circle c r a)
 unfolding circle circleFits location relativePosition
 circle-valid {c} {r} {a} w h l u e =
     let s = c .settings in
@@ -242,12 +255,13 @@ circle-valid {c} {r} {a} w h l u e =
       start = in-range-small (north .0);
       sweep = bd-lit tt;
       some = ne-lit tt;
-      fits = curve.ends-fits (centreOf (axisX s) (p .x)) (centreOf (axisY s) (p .y)) (record { u = r; v = pos 0 }) (pos wholeTurn) a refl
+      fits = all-small (circle c r a) (in-range-small (north .0))
+          (curve.ends-fits (centreOf (axisX s) (p .x)) (centreOf (axisY s) (p .y)) (record { u = r; v = pos 0 }) (pos wholeTurn) a refl
           (round.centre-bounds (axisX s) (p .x) bx (k .x) .some) (round.centre-bounds (axisY s) (p .y) by (k .y) .some)
           (round.end-range (axisX s) (p .x) r reach (bx .some) (in-range-small (north .0) .x))
           (round.end-range (axisX s) (p .x) (negℤ r) reach (bx .some) (in-range-small (west .1) .x))
           (round.end-range (axisY s) (p .y) r reach (by .some) (in-range-small (north .1) .y))
-          (round.end-range (axisY s) (p .y) (negℤ r) reach (by .some) (in-range-small (south .1) .y));
+          (round.end-range (axisY s) (p .y) (negℤ r) reach (by .some) (in-range-small (south .1) .y)));
     }
 
 -- "−3600 to 3600"
@@ -268,7 +282,7 @@ sweep-some s g = ≡?-false s (pos 0) (off (s ≡? pos 0) (and-both ((negℤ (po
 
 -- "A vertex out of range refuses the arc": one that is not refused may be drawn, about a centre that may be located
 pub arc-valid : {c : Core} {q : Position} {a : ℕ} (s : ℤ) → ValidCore c → LocatablePosition (c .settings) q → goodSweep s ≡ true → leastAngle ≤ a → a ≤ mostAngle →
-    wayFits (wayFrom c q) ≡ true → (let o = arc c q s a in arcFits (o .x) (o .y) (o .radius) (o .sweep) (o .angle) ≡ true) → ValidCircle (arc c q s a)
+    wayFits (wayFrom c q) ≡ true → (let o = arc c q s a in arcFits (o .x) (o .y) (o .radius) (o .sweep) (o .angle) ≡ true) → WholeCircle (arc c q s a)
 unfolding arc
 arc-valid {c} {q} {a} s w k g l u f e =
     record {
@@ -280,26 +294,34 @@ arc-valid {c} {q} {a} s w k g l u f e =
       start = w .position .near;
       sweep = sweep-size s g;
       some = sweep-some s g;
-      fits = e;
+      fits = all-small (arc c q s a) (w .position .near) e;
     }
 
 -- and its last vertex is in range
-pub last-small : {o : Circle} → ValidCircle o → SmallPoint (lastVertex o)
+pub last-small : {o : Circle} → WholeCircle o → SmallPoint (lastVertex o)
 unfolding lastVertex
 last-small {o} w =
     let n = partsOf (o .sweep) (o .angle) in
-    let h : 0 < o .angle = omega (arith, w .least) in
-    subst (λ (t : ℤ). SmallPoint (pointFromCentre (o .x) (o .y) (o .radius) t)) (curve.bend-last (o .sweep) (o .angle) n (omega arith))
-    (curve.arc-small (o .x) (o .y) (o .radius) (o .sweep) (o .angle) h (w .some) (w .fits) n (curve.parts-some (o .sweep) (o .angle) h (w .some)))
+    let some = curve.parts-some (o .sweep) (o .angle) (omega (arith, w .least)) (w .some) in
+    let last = later-vertex o n some ∙ ap (pointFromCentre (o .x) (o .y) (o .radius)) (curve.bend-last (o .sweep) (o .angle) n (omega arith)) in
+    subst SmallPoint last (w .fits n (omega arith) (omega arith))
 
--- every vertex of such a circle is in range
-pub vertices : {o : Circle} → ValidCircle o → (i : ℕ) → SmallPoint (vertexIn o i)
-unfolding vertexIn arcPoint
-vertices w zero = w .start
-vertices {o} w (suc i) = rw (eqb·suc-zero i) (curve.arc-small (o .x) (o .y) (o .radius) (o .sweep) (o .angle) (omega (arith, w .least)) (w .some) (w .fits) (suc i) (omega arith))
+-- fewer of its vertices
+pub fewer : {o : Circle} {i n : ℕ} → ValidCircle o i n → (j k : ℕ) → i ≤ j → j + k ≤ i + n → ValidCircle o j k
+fewer w j k l u = record {
+  x = w .x;
+  y = w .y;
+  radius = w .radius;
+  least = w .least;
+  most = w .most;
+  start = w .start;
+  sweep = w .sweep;
+  some = w .some;
+  fits = λ h a b. w .fits h (omega (arith, l, a)) (omega (arith, u, b));
+}
 
 -- how many chords
-pub chords-most : {o : Circle} → ValidCircle o → partsOf (o .sweep) (o .angle) ≤ mostChords
+pub chords-most : {o : Circle} {i n : ℕ} → ValidCircle o i n → partsOf (o .sweep) (o .angle) ≤ mostChords
 chords-most {o} w = curve.parts-most (o .sweep) (o .angle) (w .sweep .bd) (w .least)
 
 -- ---- the store

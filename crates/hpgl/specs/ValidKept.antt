@@ -3,7 +3,7 @@
 use mathlib.Core.Path.{_≡_, refl, ap, _∙_}
 use mathlib.Core.Bool.{Bool, true, false}
 use mathlib.Core.List.{List}
-use Prim.Native.Nat.{ℕ, zero, suc, _≤_, _<_}
+use Prim.Native.Nat.{ℕ, zero, suc, _+_, _≤_, _<_}
 use native.Mathlib.Omega.{arith}
 use lib.Dec.{eqb}
 use lib.ListN.{length, set, replicate, length-set, length-replicate}
@@ -33,7 +33,7 @@ use Rattle.hpgl.specs.Machine.{goodLimits, hardLimits, noEdge, freshStat
 use Rattle.hpgl.specs.Numbers.{mostEdges}
 use Rattle.hpgl.specs.Valid.{ValidSettings, ValidCore, ValidEvent, SmallEdge, ValidAction, ValidActed, ValidWork, Every, none, more, Inked, Knows, Valid, Usable}
 use Rattle.hpgl.specs.Made as made
-use Rattle.hpgl.specs.ValidFacts.{and-both, rest-placed, origin-small, unknown-outside, chords-most}
+use Rattle.hpgl.specs.ValidFacts.{and-both, rest-placed, origin-small, unknown-outside, fewer, chords-most}
 use Rattle.hpgl.specs.Cases.{never, pick, whether}
 use Rattle.hpgl.specs.KeptCases.{valid-core, refuses, keeps}
 use Rattle.hpgl.specs.SettingsKept.{valid-name, int16-short, fresh-settings, no-polygon, valid-in, valid-df, valid-ip, valid-sc, valid-ro, valid-iw, valid-sp}
@@ -186,7 +186,7 @@ unfolding workAfter
 work-after work.Nothing h = tt
 work-after (work.Line a b) h = tt
 work-after (work.Chords o i zero) h = tt
-work-after (work.Chords o i (suc n)) h = pick ValidWork (eqb n 0) tt (h .0, omega (arith, h .1))
+work-after (work.Chords o i (suc n)) h = pick ValidWork (eqb n 0) tt (fewer (h .0) (i + 1) n (omega arith) (omega arith), omega (arith, h .1))
 work-after (work.Edges i zero) h = tt
 work-after (work.Edges i (suc n)) h = pick ValidWork (eqb n 0) tt (omega arith)
 

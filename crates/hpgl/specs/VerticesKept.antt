@@ -15,7 +15,7 @@ use Rattle.hpgl.specs.declared.Action.the-variants.{Chords}
 use Rattle.hpgl.specs.declared.Core.{Core}
 use Rattle.hpgl.specs.Numbers.{outOfRange, tooFar, leastAngle}
 use Rattle.hpgl.specs.Rules.{done, inked, circleFits, circleWith, chordAngle, ciRule, sweptAngle, arcAngle, follow, arcAbout, aaRule, arRule}
-use Rattle.hpgl.specs.Valid.{LocatablePosition, ValidCore, ValidAction, ValidCircle, ValidActed}
+use Rattle.hpgl.specs.Valid.{LocatablePosition, ValidCore, ValidAction, WholeCircle, ValidActed}
 use Rattle.hpgl.specs.ValidFacts.{from-to, rest-placed, absolute-locatable, relative-locatable, circle-valid, arc-valid, last-small}
 use Rattle.hpgl.specs.Cases.{pick, whether}
 use Rattle.hpgl.specs.ArcCases.{by-arc}
@@ -38,7 +38,7 @@ valid-ci {n = n} w h = valid-circle (chordAngle n) w (h .first)
 -- ---- arcs
 
 -- outside polygon mode, where alone AA and AR are known, nothing is asked of the position for the polygon's sake
-valid-follow : {c : Core} {o : Circle} → ValidCore c → ValidCircle o → ValidActed c (follow c o)
+valid-follow : {c : Core} {o : Circle} → ValidCore c → WholeCircle o → ValidActed c (follow c o)
 unfolding follow done inked
 valid-follow {c} {o} w h =
     let d : Core = follow c o .core in

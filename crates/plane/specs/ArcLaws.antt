@@ -8,7 +8,7 @@ use Prim.Native.Nat.{ℕ, zero, suc, _+_, _-_, _*_, _≤_, _<_}
 use native.Mathlib.Nat.{mul-div-le, lt-mul-div-succ, mul-le-mul-left, eq-or-lt-of-le}
 use native.Mathlib.Omega.{arith}
 use lib.Dec.{ltb, eqb·suc-zero}
-use borrow.Author.Tests.{ltb-true, ltb-false, lt-ltb, le-ltb}
+use borrow.Author.Tests.{ltb-true, lt-ltb, le-ltb}
 use lib.IntN.{ℤ, pos, negsuc, negℤ, negℤ-negℤ, natAbs, _+ℤ_, _-ℤ_, _*ℤ_}
 use Rattle.exact.specs.Whole.{_≤ᶻ_, _<ᶻ_, is, Z, ord, _<?_, <?-false, le-<?}
 use Rattle.exact.specs.Ring.{#, con, _:+_, _:-_, _:*_, ring}
@@ -168,6 +168,14 @@ parts-most sweep a s h = go (partsOf sweep a) (parts-law sweep a (omega arith) .
     go zero l = omega arith
     go (suc n) l = omega (arith, mul-le-mul-left n h)
 
+-- and never more than tenths of a degree
+pub parts-few : (sweep : ℤ) (a : ℕ) → 0 < a → partsOf sweep a ≤ natAbs sweep
+parts-few sweep a h = go (partsOf sweep a) (parts-law sweep a h .1)
+  where
+    go : (n : ℕ) → a * n < natAbs sweep + a → n ≤ natAbs sweep
+    go zero l = omega arith
+    go (suc n) l = omega (arith, mul-le-mul-left n h)
+
 -- ---- what the way is turned by
 
 -- whole chord angles before the last, in the sense of the sweep, and short of it
@@ -304,24 +312,6 @@ module _ (cx cy : Centre) (w : Way) (sweep : ℤ) (a : ℕ) where
   each-fits i zero f = refl
   each-fits i (suc n) f = rw (small-both (at i) (f i (omega arith) (omega arith))) (each-fits (i + 1) n (λ j l u. f j (omega arith) (omega arith)))
 
-  -- so where 02 does not refuse the arc, every vertex after the first may be drawn, and all that the last one's angle is that of
-  pub arc-small : 0 < a → (sweep ≡ pos 0 → ⊥) → arcFits cx cy w sweep a ≡ true → (i : ℕ) → 0 < i → SmallPoint (at i)
-  unfolding arcFits
-  arc-small h z e i l = go (ltb i (partsOf sweep a)) refl
-    where
-      n : ℕ
-      n = partsOf sweep a
-
-      some : 0 < partsOf sweep a
-      some = parts-some sweep a h z
-
-      last : SmallPoint (at (partsOf sweep a))
-      last = each-small 1 (partsOf sweep a) e (partsOf sweep a) some (omega arith)
-
-      go : (t : Bool) → ltb i (partsOf sweep a) ≡ t → SmallPoint (at i)
-      go true f = each-small 1 (partsOf sweep a) e i l (omega (arith, ltb-true i (partsOf sweep a) f))
-      go false f = subst (λ (x : ℤ). SmallPoint (pointFromCentre cx cy w x)) (bend-last sweep a (partsOf sweep a) (omega arith) ∙ sym (bend-last sweep a i (ltb-false i (partsOf sweep a) f))) last
-
 -- no part of a turned way is larger than |u| + |v|
 rotated-reach : (w : Way) (angle : ℤ) → let r = natAbs (w .u) + natAbs (w .v) in
     (natAbs (rotatedOf w angle .u) ≤ 100000 * r) × (natAbs (rotatedOf w angle .v) ≤ 100000 * r)
@@ -361,10 +351,9 @@ round-small cx cy w angle hx hy = go (endsFit cx (natAbs (w .u) + natAbs (w .v))
         }
     go false e h = absurd (no h)
 
--- so the quick answer is right
-pub round-fits : (cx cy : Centre) (w : Way) (sweep : ℤ) (a : ℕ) → pos 0 <ᶻ cx .width → pos 0 <ᶻ cy .width → roundFits cx cy w ≡ true → arcFits cx cy w sweep a ≡ true
-unfolding arcFits
-round-fits cx cy w sweep a hx hy e = each-fits cx cy w sweep a 1 (partsOf sweep a) (λ j l u. round-small cx cy w (bendOf sweep a j) hx hy e)
+-- so the quick answer is right, whichever vertices are asked for
+pub round-fits : (cx cy : Centre) (w : Way) (sweep : ℤ) (a i n : ℕ) → pos 0 <ᶻ cx .width → pos 0 <ᶻ cy .width → roundFits cx cy w ≡ true → fitsFrom cx cy w sweep a i n ≡ true
+round-fits cx cy w sweep a i n hx hy e = each-fits cx cy w sweep a i n (λ j l u. round-small cx cy w (bendOf sweep a j) hx hy e)
 
 -- and where the way lies along x, the four points at its length are enough: a circle's
 pub ends-fits : (cx cy : Centre) (w : Way) (sweep : ℤ) (a : ℕ) → w .v ≡ pos 0 → pos 0 <ᶻ cx .width → pos 0 <ᶻ cy .width →

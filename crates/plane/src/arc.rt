@@ -1,11 +1,11 @@
 // Arcs: the way from the centre to the position, how many chords, what the way is turned by at each vertex, and whether every vertex is in range.
 // specs/Arc.antt says what, specs/ArcLaws.antt what holds of it. A circle is the arc of a whole turn.
 ghost use mathlib.Core.Path.{_≡_};
-ghost use Prim.Native.Nat.{_*_, _≤_, _<_};
+ghost use Prim.Native.Nat.{_+_, _*_, _≤_, _<_};
 ghost use lib.IntN.{natAbs};
 ghost use Rattle.exact.specs.Fit.{Bd};
 ghost use Rattle.sines.specs.Table.{sines};
-ghost use Rattle.plane.specs.Arc.{wayOf, wayFits, partsOf, bendOf, bothInRange, endsFit, roundFits, arcFits};
+ghost use Rattle.plane.specs.Arc.{wayOf, wayFits, partsOf, bendOf, bothInRange, fitsFrom, endsFit, roundFits, arcFits};
 ghost use Rattle.plane.specs.Bounds.{AxisBounds, Locatable, WayBounds, CentreBounds, mostNumber, mostAngle, mostSweep};
 use super::circle::Centre;
 use super::circle::Way;
@@ -117,14 +117,23 @@ pub fn round_fits(cx: Centre, cy: Centre, w: Way) -> bool
     false
 }
 
-// Whether every vertex after the first is in range, one by one.
-fn each_fits(cx: Centre, cy: Centre, w: Way, table: &[u32], sweep: i64, angle: usize) -> bool
-    requires { ⌜ CentreBounds cx × CentreBounds cy × WayBounds w × (now table ≡ sines) × Bd sweep mostSweep × (0 < angle) × (angle ≤ mostAngle) ⌝ }
-    ensures { λ r. ⌜ r ≡ arcFits cx cy w sweep angle ⌝ }
+// Whether the vertices from one on, so many, are in range, one by one. No arc has more vertices than tenths of a degree in a turn, and the one where it starts.
+pub fn each_fits(
+    cx: Centre,
+    cy: Centre,
+    w: Way,
+    table: &[u32],
+    sweep: i64,
+    angle: usize,
+    from: usize,
+    many: usize,
+) -> bool
+    requires { ⌜ CentreBounds cx × CentreBounds cy × WayBounds w × (now table ≡ sines) × Bd sweep mostSweep × (0 < angle) × (angle ≤ mostAngle) × (from + many ≤ mostSweep + 1) ⌝ }
+    ensures { λ r. ⌜ r ≡ fitsFrom cx cy w sweep angle from many ⌝ }
 {
-    let n = parts(sweep, angle);
-    let mut i = 1;
-    while i <= n {
+    let end = from + many;
+    let mut i = from;
+    while i < end {
         if !both_in_range(vertex_point(cx, cy, w, table, bend(sweep, angle, i))) {
             return false;
         }
@@ -141,5 +150,5 @@ pub fn arc_fits(cx: Centre, cy: Centre, w: Way, table: &[u32], sweep: i64, angle
     if round_fits(cx, cy, w) {
         return true;
     }
-    each_fits(cx, cy, w, table, sweep, angle)
+    each_fits(cx, cy, w, table, sweep, angle, 1, parts(sweep, angle))
 }

@@ -1,4 +1,4 @@
--- The work by its count: what is left of it, the segment that waits first, and the place of its edge. Why: a count is 0, 1 or more.
+-- The work by its count: what is left of it, the segment that waits first, where a chord ends, and the place of an edge. Why: a count is 0, 1 or more.
 use mathlib.Core.Path.{_≡_, refl, ap}
 use Prim.Native.Nat.{ℕ, zero, suc, _+_, _-_, _<_, _≤_}
 use native.Mathlib.Omega.{arith}
@@ -9,9 +9,10 @@ use Rattle.hpgl.specs.declared.Edge.{Edge}
 use Rattle.hpgl.specs.declared.Circle.{Circle}
 use Rattle.hpgl.specs.declared.Work.the-variants.{Nothing, Chords, Edges}
 use Rattle.hpgl.specs.declared.Segment.the-variants as segment
+use Rattle.hpgl.specs.Rules.{origin}
 use Rattle.hpgl.specs.Machine.{workAfter}
 use Rattle.queue.specs.First.{edgePlace}
-use Rattle.queue.specs.Corners.{edgeIn, segmentIn}
+use Rattle.queue.specs.Corners.{vertexAt, nextCornerOf, edgeIn, segmentIn}
 
 pub last-chord : (o : Circle) (i n : ℕ) → n ≤ 1 → workAfter (Chords o i n) ≡ Nothing
 unfolding workAfter
@@ -42,6 +43,16 @@ pub some-chord : (r : Rows) (e : Edge) (o : Circle) (i n : ℕ) (p q : Point) �
 unfolding segmentIn
 some-chord r e o i zero p q h = absurd (h refl)
 some-chord r e o i (suc n) p q h = refl
+
+pub no-corner : (r : Rows) (o : Circle) (i n : ℕ) → n ≡ 0 → nextCornerOf r (Chords o i n) ≡ origin
+unfolding nextCornerOf
+no-corner r o i zero h = refl
+no-corner r o i (suc n) h = absurd (omega arith)
+
+pub some-corner : (r : Rows) (o : Circle) (i n : ℕ) → (n ≡ 0 → ⊥) → nextCornerOf r (Chords o i n) ≡ vertexAt r o (i + 1)
+unfolding nextCornerOf
+some-corner r o i zero h = absurd (h refl)
+some-corner r o i (suc n) h = refl
 
 pub no-edge : (r : Rows) (e : Edge) (i n : ℕ) (p q : Point) → n ≡ 0 → segmentIn r e (Edges i n) p q ≡ segment.Nothing
 unfolding segmentIn

@@ -31,11 +31,12 @@ cornerOf r (Line a b) = origin
 cornerOf r (Chords o i n) = vertexAt r o i
 cornerOf r (Edges i n) = origin
 
--- where it ends
+-- where it ends; the origin also where none waits, since no vertex after i is asked to be in range then
 unfoldable pub nextCornerOf : Rows → Work → Point
 nextCornerOf r Nothing = origin
 nextCornerOf r (Line a b) = origin
-nextCornerOf r (Chords o i n) = vertexAt r o (i + 1)
+nextCornerOf r (Chords o i zero) = origin
+nextCornerOf r (Chords o i (suc n)) = vertexAt r o (i + 1)
 nextCornerOf r (Edges i n) = origin
 
 -- an edge of the store
@@ -73,7 +74,7 @@ unfolding vertexAt cornerOf nextCornerOf edgeIn segmentIn firstSegment chordSegm
 first-small v h Nothing k = tt
 first-small v h (Line a b) k = k
 first-small v h (Chords o i zero) k = tt
-first-small v h (Chords o i (suc n)) k = chord-small v (k .0) i
+first-small v h (Chords o i (suc n)) k = chord-small v (k .0)
 first-small v h (Edges i zero) k = tt
 first-small v h (Edges i (suc n)) k = page-small v h
 

@@ -44,7 +44,7 @@ fn stroke_of(pen: u8, c: Clipped) -> Drawn
 
 // A vertex of a circle, on the page.
 pub fn vertex(rows: Rows, o: Circle, i: u16, sines: &[u32]) -> Point
-    requires { ⌜ UnitRows rows × ValidCircle o × (now sines ≡ T.sines) ⌝ }
+    requires { ⌜ UnitRows rows × ValidCircle o i 0 × (now sines ≡ T.sines) ⌝ }
     ensures { λ r. ⌜ r ≡ C.vertexAt rows o i ⌝ }
 {
     if i == 0 {
@@ -110,7 +110,7 @@ pub fn corner(rows: Rows, w: Work, sines: &[u32]) -> Point
     }
 }
 
-// Where it ends, and the next one begins.
+// Where it ends, and the next one begins; the origin also where none waits.
 pub fn next_corner(rows: Rows, w: Work, sines: &[u32]) -> Point
     requires { ⌜ UnitRows rows × ValidWork w × (now sines ≡ T.sines) ⌝ }
     ensures { λ r. ⌜ r ≡ C.nextCornerOf rows w ⌝ }
@@ -118,7 +118,12 @@ pub fn next_corner(rows: Rows, w: Work, sines: &[u32]) -> Point
     match w {
         Work::Nothing => Point { x: 0, y: 0 },
         Work::Line(_, _) => Point { x: 0, y: 0 },
-        Work::Chords(o, i, _) => vertex(rows, o, i + 1, sines),
+        Work::Chords(o, i, n) => {
+            if n == 0 {
+                return Point { x: 0, y: 0 };
+            }
+            vertex(rows, o, i + 1, sines)
+        }
         Work::Edges(_, _) => Point { x: 0, y: 0 },
     }
 }

@@ -7,7 +7,7 @@ ghost use Rattle.sines.specs.Table as T;
 ghost use Rattle.plane.specs.Bounds.{mostAngle};
 ghost use Rattle.hpgl.specs.Numbers.{leastAngle};
 ghost use Rattle.hpgl.specs.Rules as R;
-ghost use Rattle.hpgl.specs.Valid.{LocatablePosition, ValidCircle, ValidCore};
+ghost use Rattle.hpgl.specs.Valid.{LocatablePosition, WholeCircle, ValidCore};
 use super::circles::angle_or;
 use super::circles::from_to;
 use super::moves::inked;
@@ -98,7 +98,7 @@ fn arc_of(c: Core, centre: Position, sweep: i64, angle: u16) -> Circle
 
 // The position goes to the last vertex, and the chords are drawn if the pen is down and paints.
 fn follow(c: Core, o: Circle, sines: &[u32]) -> Acted
-    requires { ⌜ ValidCircle o × (now sines ≡ T.sines) ⌝ }
+    requires { ⌜ WholeCircle o × (now sines ≡ T.sines) ⌝ }
     ensures { λ r. ⌜ r ≡ R.follow c o ⌝ }
 {
     let carriage = c.carriage;

@@ -3,21 +3,24 @@ ghost use mathlib.Core.Path.{_≡_};
 ghost use Prim.Native.Nat.{_≤_, _<_};
 ghost use Rattle.exact.specs.Fit.{Bd};
 ghost use Rattle.plane.specs.Bounds.{mostAngle, mostSweep, WayBounds, CentreBounds};
+ghost use Rattle.hpgl.specs.Valid.{mostChords};
 ghost use Rattle.wellformed.specs.Sound as S;
 use super::tests::between;
 use super::tests::blank;
 use super::tests::sum_below;
 use hpgl::Circle;
-use plane::arc::arc_fits;
+use plane::arc::each_fits;
 use plane::arc::round_fits;
 use rows::Row;
+use rows::short_of;
 use saving::work::circle_of;
 use sines::table;
 
-// Whether every vertex of a circle after the first is in range.
-fn round(o: Circle) -> bool
-    requires { ⌜ CentreBounds (o .x) × CentreBounds (o .y) × WayBounds (o .radius) × Bd (o .sweep) mostSweep × (0 < o .angle) × (o .angle ≤ mostAngle) ⌝ }
-    ensures { λ t. ⌜ t ≡ S.roundOf o ⌝ }
+// Whether the vertices that n waiting chords of a circle join, from i on, are in range: at a glance, or one by one. Those that were drawn are not asked for, so that
+// a call takes no longer than what waits needs.
+fn round(o: Circle, i: u16, n: u16) -> bool
+    requires { ⌜ CentreBounds (o .x) × CentreBounds (o .y) × WayBounds (o .radius) × Bd (o .sweep) mostSweep × (0 < o .angle) × (o .angle ≤ mostAngle) × (i ≤ mostChords) × (n ≤ mostChords) ⌝ }
+    ensures { λ t. ⌜ t ≡ S.roundOf o i n ⌝ }
 {
     let x = o.x;
     let y = o.y;
@@ -26,7 +29,13 @@ fn round(o: Circle) -> bool
         return true;
     }
     let sines = table();
-    arc_fits(x, y, radius, &sines, o.sweep, o.angle as usize)
+    let angle = o.angle as usize;
+    let from = i as usize;
+    let many = n as usize;
+    if from == 0 {
+        return each_fits(x, y, radius, &sines, o.sweep, angle, 1, many);
+    }
+    each_fits(x, y, radius, &sines, o.sweep, angle, from, many + 1)
 }
 
 fn blanks(across: Row, along: Row, start: Row) -> bool
@@ -89,7 +98,11 @@ fn chords_sound(r: Row, across: Row, along: Row, start: Row) -> bool
     if !ring_sound(across, along, start) {
         return false;
     }
-    round(circle_of(r, across, along, start))
+    round(
+        circle_of(r, across, along, start),
+        short_of(r.a),
+        short_of(r.b),
+    )
 }
 
 // A centre on one axis, with the way from it.

@@ -11,7 +11,7 @@ use lib.ListN.{length}
 use Rattle.exact.specs.Whole.{_≤?_, _≡?_, _≤ᶻ_, ord}
 use Rattle.exact.specs.Fit.{Bd, abs}
 use Rattle.rows.specs.declared.Row.{Row}
-use Rattle.rows.specs.Rows.{row, rowAt}
+use Rattle.rows.specs.Rows.{row, rowAt, smallOf, mostShort}
 use Rattle.seal.specs.Light.{rowCount, headCount, mostAt, LightRow, Light}
 use Rattle.hpgl.specs.ValidFacts.{and-both}
 use Rattle.saved.specs.Places.{limitsPlace, cornersPlace, scalePlace, windowPlace, positionPlace, penPlace, polygonPlace, firstPlace, savedPlace, workPlace, acrossPlace, alongPlace, startPlace, edgesPlace}
@@ -147,7 +147,7 @@ chords-light r across along start e =
     let h = betweenOf centreLow along centreHigh in
     let p = betweenOf startLow start startHigh in
     let q = not (start .c ≡? pos 0) in
-    let f = roundOf (circleOf r across along start) in
+    let f = roundOf (circleOf r across along start) (smallOf mostShort (r .a)) (smallOf mostShort (r .b)) in
     let b = and-both (betweenOf (fiveOf 0 0 5 0 2) r (fiveOf 720 720 1200 0 2)) ((r .a +ℤ r .b ≤? pos 720) && (w && (h && (p && q)) && f)) e in
     let c = and-both (r .a +ℤ r .b ≤? pos 720) (w && (h && (p && q)) && f) (b .1) in
     let d = and-both w (h && (p && q)) (and-both (w && (h && (p && q))) f (c .1) .0) in

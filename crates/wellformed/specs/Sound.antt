@@ -5,13 +5,13 @@ use Prim.Native.Nat.{ℕ, zero, suc, _+_, _-_, _*_, _/_}
 use lib.IntN.{ℤ, pos, negℤ, natAbs, _+ℤ_, _*ℤ_}
 use Rattle.exact.specs.Whole.{_<?_, _≤?_, _≡?_}
 use Rattle.rows.specs.declared.Row.{Row}
-use Rattle.rows.specs.Rows.{row, rowAt, smallOf, mostByte}
+use Rattle.rows.specs.Rows.{row, rowAt, smallOf, mostByte, mostShort}
 use Rattle.mnemonics.specs.Table.{rows, knownInPolygon}
 use Rattle.plane.specs.declared.position.Axis.{Axis}
 use Rattle.plane.specs.declared.position.ExactPosition.{ExactPosition}
 use Rattle.plane.specs.Bounds.{mostProduct}
 use Rattle.plane.specs.Position.{inRangeOf}
-use Rattle.plane.specs.Arc.{arcFits}
+use Rattle.plane.specs.Arc.{fitsFrom}
 use Rattle.hpgl.specs.declared.Position.{Position}
 use Rattle.hpgl.specs.declared.Settings.{Settings}
 use Rattle.hpgl.specs.declared.Circle.{Circle}
@@ -137,9 +137,10 @@ knownSound place polygon =
 
 -- ---- the work
 
--- every vertex of a circle after the first is in range
-unfoldable pub roundOf : Circle → Bool
-roundOf o = arcFits (o .x) (o .y) (o .radius) (o .sweep) (o .angle)
+-- the vertices that n waiting chords of a circle join, from i on, are in range: i to i + n, without the first, which is tested as its start
+unfoldable pub roundOf : Circle → ℕ → ℕ → Bool
+roundOf o zero n = fitsFrom (o .x) (o .y) (o .radius) (o .sweep) (o .angle) 1 n
+roundOf o (suc i) n = fitsFrom (o .x) (o .y) (o .radius) (o .sweep) (o .angle) (suc i) (n + 1)
 
 -- a centre on one axis, and the way from it
 abbrev pub centreLow : Row
@@ -165,7 +166,7 @@ unfoldable pub chordsSound : Row → Row → Row → Row → Bool
 chordsSound r across along start =
     betweenOf (fiveOf 0 0 5 0 2) r (fiveOf 720 720 1200 0 2)
     && ((r .a +ℤ r .b ≤? pos 720)
-    && (ringSound across along start && roundOf (circleOf r across along start)))
+    && (ringSound across along start && roundOf (circleOf r across along start) (smallOf mostShort (r .a)) (smallOf mostShort (r .b))))
 
 unfoldable pub blanksSound : Row → Row → Row → Bool
 blanksSound across along start = blankSound across && (blankSound along && blankSound start)

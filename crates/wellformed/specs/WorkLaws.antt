@@ -24,20 +24,21 @@ use Rattle.clip.specs.declared.Point.{Point}
 use Rattle.clip.specs.Reach.{SmallPoint}
 use Rattle.plane.specs.declared.circle.Centre.{Centre}
 use Rattle.plane.specs.Bounds.{mostAngle, mostSweep, WayBounds, CentreBounds}
-use Rattle.plane.specs.Arc.{arcFits}
+use Rattle.plane.specs.Arc.{arcPoint}
+use Rattle.plane.specs.ArcLaws.{each-small, each-fits}
 use Rattle.hpgl.specs.declared.Edge.{Edge}
 use Rattle.hpgl.specs.declared.Circle.{Circle}
 use Rattle.hpgl.specs.declared.Polygon.{Polygon}
 use Rattle.hpgl.specs.declared.Pen.{Pen}
 use Rattle.hpgl.specs.declared.Work.{Work}
 use Rattle.hpgl.specs.declared.Work.the-variants.{Nothing, Line, Chords, Edges}
-use Rattle.hpgl.specs.Machine.{waiting}
-use Rattle.hpgl.specs.Valid.{SmallEdge, ValidCircle, ValidWork, Every, none, more}
-use Rattle.hpgl.specs.ValidFacts.{and-both}
+use Rattle.hpgl.specs.Machine.{waiting, vertexIn}
+use Rattle.hpgl.specs.Valid.{mostChords, SmallEdge, ValidCircle, ValidWork, Every, none, more}
+use Rattle.hpgl.specs.ValidFacts.{and-both, later-vertex}
 use Rattle.saved.specs.SavedReader.{modeTag, modeOf, placeRow}
 use Rattle.saved.specs.Saved.{flagIn, smallIn, fromOf, toOf, penRow, polygonRow, blankRow, lineRow, chordsRow, edgesRow, acrossRow, alongRow, startRow, workRow, workAcross, workAlong, workStart, centreOf, wayOf, angleIn, circleOf, workOf, edgeRow, edgesNumbers, edgeOf, edgesFrom}
 use Rattle.wellformed.specs.Sound.{betweenOf, fourLow, fourHigh, fiveOf, centreLow, centreHigh, startLow, startHigh, blankSound, boxSound, knownSound, roundOf, startSound, ringSound, chordsSound, blanksSound, lineSound, outlineSound, workSound, inkedSound, edgesSound}
-use Rattle.wellformed.specs.RowTests.{both, between-true, between-of, bd-of, bd-low, bd-high, Four, four-true, four-of, five-of, zero-same, flag-same, small-is, small-same, flag-bounds, blank-same}
+use Rattle.wellformed.specs.RowTests.{both, between-true, between-of, bd-of, bd-low, bd-high, Four, four-true, four-of, five-of, zero-same, flag-same, small-is, small-same, small-most, flag-bounds, blank-same}
 use Rattle.wellformed.specs.PartLaws.{PlaceLaw, box-law, box-of, unless, unless-of, mode-on, mode-off, not-both}
 
 -- ---- what is being read in polygon mode is known there
@@ -130,10 +131,10 @@ start-true r t =
     let x = between-true startLow r startHigh t in
     (record { x = bd-of (x .low .a) (x .high .a); y = bd-of (x .low .b) (x .high .b) }, bd-of (x .low .c) (x .high .c), zero-same (x .low .d) (x .high .d), zero-same (x .low .e) (x .high .e))
 
--- what `arc_fits` asks of such a circle
+-- what `each_fits` asks of such a circle
 pub ring-true : (r across along start : Row) → betweenOf (fiveOf 0 0 5 0 2) r (fiveOf 720 720 1200 0 2) ≡ true → ringSound across along start ≡ true →
     let o = circleOf r across along start in
-    CentreBounds (o .x) × CentreBounds (o .y) × WayBounds (o .radius) × Bd (o .sweep) mostSweep × (0 < o .angle) × (o .angle ≤ mostAngle)
+    CentreBounds (o .x) × CentreBounds (o .y) × WayBounds (o .radius) × Bd (o .sweep) mostSweep × (0 < o .angle) × (o .angle ≤ mostAngle) × (smallOf mostShort (r .a) ≤ mostChords) × (smallOf mostShort (r .b) ≤ mostChords)
 unfolding ringSound startSound circleOf centreOf wayOf angleIn
 ring-true r across along start t u =
     let bs = betweenOf startLow start startHigh in
@@ -146,7 +147,25 @@ ring-true r across along start t u =
     let f = between-true (fiveOf 0 0 5 0 2) r (fiveOf 720 720 1200 0 2) t in
     let c0 : pos 0 ≤ᶻ r .c = omega (arith, ord, f .low .c) in
     let n = small-is (r .c) mostShort c0 (f .high .c) (omega arith) in
-    (x .0, y .0, record { u = x .1; v = y .1 }, z .1, omega (arith, ord, f .low .c, n .1, abs (r .c)), omega (arith, n .1, n .2))
+    (x .0, y .0, record { u = x .1; v = y .1 }, z .1, omega (arith, ord, f .low .c, n .1, abs (r .c)), omega (arith, n .1, n .2), small-most (r .a) mostShort (f .low .a) (f .high .a) (omega arith), small-most (r .b) mostShort (f .low .b) (f .high .b) (omega arith))
+
+-- the test of the vertices that wait is that each is in range, the first as the start
+round-true : (o : Circle) (i n : ℕ) → SmallPoint (o .start) → roundOf o i n ≡ true → (j : ℕ) → i ≤ j → j ≤ i + n → SmallPoint (vertexIn o j)
+unfolding roundOf vertexIn arcPoint
+round-true o zero n s e zero l u = s
+round-true o zero n s e (suc j) l u =
+    rw (later-vertex o (suc j) (omega arith)) (each-small (o .x) (o .y) (o .radius) (o .sweep) (o .angle) 1 _ e (suc j) (omega arith) (omega (arith, u)))
+round-true o (suc i) n s e j l u =
+    rw (later-vertex o j (omega (arith, l))) (each-small (o .x) (o .y) (o .radius) (o .sweep) (o .angle) (suc i) _ e j l (omega (arith, u)))
+
+round-of : (o : Circle) (i n : ℕ) → ValidCircle o i n → roundOf o i n ≡ true
+unfolding roundOf
+round-of o zero n v =
+    each-fits (o .x) (o .y) (o .radius) (o .sweep) (o .angle) 1 n
+    (λ j l u. subst SmallPoint (later-vertex o j (omega (arith, l))) (v .fits j (omega arith) (omega (arith, u))))
+round-of o (suc i) n v =
+    each-fits (o .x) (o .y) (o .radius) (o .sweep) (o .angle) (suc i) (n + 1)
+    (λ j l u. subst SmallPoint (later-vertex o j (omega (arith, l))) (v .fits j l (omega (arith, u))))
 
 -- what a row with this tag is read as
 module _ (r across along start : Row) where
@@ -194,14 +213,16 @@ module _ (r across along start : Row) where
       })
 
   chords-law : chordsSound r across along start ≡ true → WorkIs (workOf r across along start) r across along start
-  unfolding chordsSound ringSound startSound roundOf workOf workRow workAcross workAlong workStart chordsRow acrossRow alongRow startRow circleOf centreOf wayOf angleIn fromOf
+  unfolding chordsSound ringSound startSound workOf workRow workAcross workAlong workStart chordsRow acrossRow alongRow startRow circleOf centreOf wayOf angleIn fromOf
   chords-law t =
       let o = circleOf r across along start in
       let bx = betweenOf centreLow across centreHigh in
       let by = betweenOf centreLow along centreHigh in
       let bs = betweenOf startLow start startHigh in
       let some = not (start .c ≡? pos 0) in
-      let round = arcFits (o .x) (o .y) (o .radius) (o .sweep) (o .angle) in
+      let i = smallOf mostShort (r .a) in
+      let m = smallOf mostShort (r .b) in
+      let round = roundOf o i m in
       let t1 = and-both (betweenOf (fiveOf 0 0 5 0 2) r (fiveOf 720 720 1200 0 2)) ((r .a +ℤ r .b ≤? pos 720) && (bx && (by && (bs && some)) && round)) t in
       let t2 = and-both (r .a +ℤ r .b ≤? pos 720) (bx && (by && (bs && some)) && round) (t1 .1) in
       let t3 = and-both (bx && (by && (bs && some))) round (t2 .1) in
@@ -215,7 +236,7 @@ module _ (r across along start : Row) where
       let k = tag-is r 2 (omega arith) (f .low .e) (f .high .e) in
       let c0 : pos 0 ≤ᶻ r .c = omega (arith, ord, f .low .c) in
       let n = small-is (r .c) mostShort c0 (f .high .c) (omega arith) in
-      read-as {w = Chords (circleOf r across along start) (smallOf mostShort (r .a)) (smallOf mostShort (r .b))} (rw (k .0) refl)
+      read-as {w = Chords o i m} (rw (k .0) refl)
       (record {
         valid = (
           record {
@@ -227,7 +248,7 @@ module _ (r across along start : Row) where
             start = z .0;
             sweep = z .1;
             some = ≡?-false (start .c) (pos 0) (not-true (start .c ≡? pos 0) (t6 .1));
-            fits = t3 .1;
+            fits = round-true o i m (z .0) (t3 .1);
           },
           sum-most 720 mostShort (omega arith) (f .low .a) (f .high .a) (f .low .b) (f .high .b) (≤?-true (r .a +ℤ r .b) (pos 720) (t2 .0)),
         );
@@ -270,7 +291,7 @@ blanks-of : blanksSound blankRow blankRow blankRow ≡ true
 unfolding blanksSound
 blanks-of = both blank-of (both blank-of blank-of)
 
-circle-back : (o : Circle) (i n : ℕ) → ValidCircle o → circleOf (chordsRow o i n) (acrossRow o) (alongRow o) (startRow o) ≡ o
+circle-back : (o : Circle) (i n : ℕ) → ValidCircle o i n → circleOf (chordsRow o i n) (acrossRow o) (alongRow o) (startRow o) ≡ o
 unfolding circleOf centreOf wayOf angleIn fromOf chordsRow acrossRow alongRow startRow
 circle-back o i n v = λ j. record { x = o .x; y = o .y; radius = o .radius; angle = small-back mostShort (o .angle) (omega (arith, v .most)) j; start = o .start; sweep = o .sweep }
 
@@ -285,7 +306,7 @@ centre-of c z h k =
       high = record { a = bd-high (h .base); b = bd-high (h .part); c = bd-high (h .span); d = bd-high (h .width); e = bd-high k };
     })
 
-start-of : (o : Circle) → ValidCircle o → startSound (startRow o) ≡ true
+start-of : (o : Circle) {i n : ℕ} → ValidCircle o i n → startSound (startRow o) ≡ true
 unfolding startSound startRow
 start-of o v =
     both
@@ -320,13 +341,13 @@ line-of : (p q : Point) → SmallPoint p → SmallPoint q → lineSound (lineRow
 unfolding lineSound lineRow
 line-of p q a b = both (four-of 1000000 1 1 (lineRow p q) (record { a = a .x; b = a .y; c = b .x; d = b .y; low = omega (arith, ord); high = omega (arith, ord) })) blanks-of
 
-chords-of : (o : Circle) (i n : ℕ) → ValidCircle o → i + n ≤ 720 → chordsSound (chordsRow o i n) (acrossRow o) (alongRow o) (startRow o) ≡ true
-unfolding chordsSound ringSound chordsRow acrossRow alongRow roundOf
+chords-of : (o : Circle) (i n : ℕ) → ValidCircle o i n → i + n ≤ 720 → chordsSound (chordsRow o i n) (acrossRow o) (alongRow o) (startRow o) ≡ true
+unfolding chordsSound ringSound chordsRow acrossRow alongRow
 chords-of o i n v s =
     both (five-of (omega (arith, s)) (omega (arith, s)) (omega (arith, v .least, v .most)) (omega arith) (omega arith))
     (both (le-≤? (sum-of i n s))
     (both (both (centre-of (o .x) (o .radius .u) (v .x) (v .radius .u)) (both (centre-of (o .y) (o .radius .v) (v .y) (v .radius .v)) (start-of o v)))
-    (ap roundOf (circle-back o i n v) ∙ v .fits)))
+    ((λ j. roundOf (circle-back o i n v j) (small-back mostShort i (omega (arith, s)) j) (small-back mostShort n (omega (arith, s)) j)) ∙ round-of o i n v)))
 
 outline-of : (i n : ℕ) → i + n ≤ 112 → outlineSound (edgesRow i n) blankRow blankRow blankRow ≡ true
 unfolding outlineSound edgesRow

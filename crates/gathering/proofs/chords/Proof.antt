@@ -13,7 +13,7 @@ use Rattle.hpgl.specs.declared.Segment.the-variants as segment
 use Rattle.hpgl.specs.Machine.{waiting}
 use Rattle.hpgl.specs.Segment.{drawnOf, SmallSegment, segment-small}
 use Rattle.hpgl.specs.Valid.{mostChords, Valid}
-use Rattle.hpgl.specs.ValidFacts.{limits-small}
+use Rattle.hpgl.specs.ValidFacts.{limits-small, fewer}
 use Rattle.queue.specs.Corners.{vertexAt}
 use Rattle.gathering.specs.Gather.{whole, chordsLeft}
 use Rattle.gathering.specs.Far.{Batching, Drew}
@@ -78,7 +78,7 @@ drawn-chord : (v : tie.After-vertex2 Inv-loop μ-loop) → let l = turn (v .befo
 drawn-chord v = let l = turn (v .before) in λ j. segment.Line (l .loop .inv .1 j) (v .vertex2 .ensures j)
 
 vertex-requires : tie.Need-vertex-requires Inv-loop μ-loop
-vertex-requires c κs = let s : tie.Start Inv-loop μ-loop = search in (rows-small s, known s .far .valid .work .0, s .pre .2)
+vertex-requires c κs = let s : tie.Start Inv-loop μ-loop = search in (rows-small s, fewer (known s .far .valid .work .0) _ 0 (omega arith) (omega arith), s .pre .2)
 
 loop-holds : tie.Need-loop-holds Inv-loop μ-loop
 loop-holds c =
@@ -115,7 +115,12 @@ sub-left : tie.Need-sub-left Inv-loop μ-loop
 sub-left c = search needs
 
 vertex-requires-2 : tie.Need-vertex-requires-2 Inv-loop μ-loop
-vertex-requires-2 c κs = let l : Loop = search in let s = entry l in (rows-small s, known s .far .valid .work .0, s .pre .2)
+vertex-requires-2 c κs =
+    let e : Turn = search in
+    let l = turn e in
+    let s = entry l in
+    let w = known s .far .valid .work .0 in
+    (rows-small s, fewer w (l .loop .next + 1) 0 (omega (arith, l .loop .inv .2, l .loop .inv .3)) (omega (arith, l .loop .inv .2, some e)), s .pre .2)
 
 drawn-of-requires : tie.Need-drawn-of-requires Inv-loop μ-loop
 drawn-of-requires c κs =

@@ -1,7 +1,9 @@
 -- The proof of `corner`: by its arms.
 use borrow.Author.Needs.{needs}
 use mathlib.Core.Path.{refl, subst}
+use native.Mathlib.Omega.{arith}
 use Rattle.hpgl.specs.Valid.{ValidWork}
+use Rattle.hpgl.specs.ValidFacts.{fewer}
 use Rattle.queue.specs.Corners.{cornerOf}
 use Rattle.queue.proofs.drawing.corner.Statement.{statement}
 use Rattle.queue.proofs.drawing.corner.Tie as tie
@@ -18,7 +20,7 @@ enum-known-w c = search needs
 vertex-requires : tie.Need-vertex-requires
 vertex-requires c κs =
     let s : tie.Start = search in
-    (s .pre .0, subst ValidWork (c .before .w .given .1) (s .pre .1) .0, s .pre .2)
+    (s .pre .0, fewer (subst ValidWork (c .before .w .given .1) (s .pre .1) .0) _ 0 (omega arith) (omega arith), s .pre .2)
 
 enum-told-3 : tie.Need-enum-told-3
 enum-told-3 c = search needs

@@ -1,4 +1,4 @@
--- The proof of `vertex`: every vertex of a valid circle is in range, so it may be turned.
+-- The proof of `vertex`: it is in range, so it may be turned.
 use borrow.Author.Needs.{needs}
 use borrow.Author.Tests.{eq-eqb, ne-eqb}
 use mathlib.Core.Path.{_≡_, refl, sym, ap, _∙_}
@@ -10,7 +10,6 @@ use Rattle.plane.specs.Turn.{turnedBy}
 use Rattle.plane.specs.Circle.{pointFromCentre}
 use Rattle.plane.specs.Arc.{bendOf, arcPoint}
 use Rattle.hpgl.specs.Machine.{vertexIn}
-use Rattle.hpgl.specs.ValidFacts.{vertices}
 use Rattle.queue.specs.Corners.{vertexAt}
 use Rattle.queue.proofs.drawing.vertex.Statement.{statement}
 use Rattle.queue.proofs.drawing.vertex.Tie as tie
@@ -54,7 +53,7 @@ place c =
 turned-by-requires-2 : tie.Need-turned-by-requires-2
 turned-by-requires-2 c κs =
     let s : tie.Start = search in
-    (s .pre .0, rw (place c) (vertices (s .pre .1) (s .args .i)))
+    (s .pre .0, rw (place c) (s .pre .1 .fits (s .args .i) (omega arith) (omega arith)))
 
 returns-2 : tie.Need-returns-2
 unfolding vertexAt

@@ -8,12 +8,12 @@ use mir.Syntax.{w64}
 use Rattle.exact.specs.Fit.{val, sized}
 use Rattle.plane.specs.Arc.{partsOf}
 use Rattle.hpgl.specs.Machine as M
-use Rattle.hpgl.specs.Valid.{mostChords, ValidAction, ValidCircle}
+use Rattle.hpgl.specs.Valid.{mostChords, ValidAction, WholeCircle}
 use Rattle.hpgl.specs.ValidFacts.{chords-most}
 use Rattle.queue.proofs.storing.queued.Statement.{statement}
 use Rattle.queue.proofs.storing.queued.Tie as tie
 
-circle : (c : tie.After-a2) → ValidCircle (c .a2 .given .0 .0)
+circle : (c : tie.After-a2) → WholeCircle (c .a2 .given .0 .0)
 circle c = let s : tie.Start = search in subst (ValidAction 0) (c .a2 .given .1) (s .pre)
 
 enum-told : tie.Need-enum-told

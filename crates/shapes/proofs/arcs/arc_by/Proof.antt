@@ -12,7 +12,7 @@ use Rattle.plane.specs.CircleLaws.{centre-bounds}
 use Rattle.hpgl.specs.declared.Circle.{Circle}
 use Rattle.hpgl.specs.Place.{axisX, axisY}
 use Rattle.hpgl.specs.Rules.{arc, follow, arcBy}
-use Rattle.hpgl.specs.Valid.{ValidCircle}
+use Rattle.hpgl.specs.Valid.{WholeCircle}
 use Rattle.hpgl.specs.ValidFacts.{axis-bounds-x, axis-bounds-y, sweep-size, arc-valid}
 use Rattle.shapes.proofs.arcs.arc_by.Statement.{statement}
 use Rattle.shapes.proofs.arcs.arc_by.Tie as tie
@@ -91,7 +91,7 @@ follow-requires c κs =
     let a = w .before in
     let s = a .before in
     let v = arc-valid (s .args .sweep) (s .pre .0) (s .pre .1) (s .pre .2) (s .pre .3) (s .pre .4) (sym (way w) ∙ t .if1 .taken) (sym (judged f) ∙ u .if2 .taken) in
-    (subst ValidCircle (sym (made a)) v, n .table .ensures)
+    (subst WholeCircle (sym (made a)) v, n .table .ensures)
 
 returns : tie.Need-returns
 unfolding arcBy

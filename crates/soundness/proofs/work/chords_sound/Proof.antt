@@ -4,6 +4,9 @@ use borrow.Author.Tests.{not-true, not-false}
 use mathlib.Core.Path.{_≡_, refl, sym, ap, _∙_}
 use mathlib.Core.Bool.{true, false}
 use lib.IntN.{pos, _+ℤ_}
+use mir.Syntax.{w64}
+use Rattle.exact.specs.Fit.{arg}
+use Rattle.rows.specs.Rows.{smallOf, mostShort}
 use Rattle.exact.specs.Whole.{_≤?_}
 use native.Mathlib.Omega.{arith}
 use Rattle.wellformed.specs.RowTests.{between-true, bd-nat}
@@ -67,6 +70,23 @@ returns-3 c =
 circle-of-requires : tie.Need-circle-of-requires
 circle-of-requires c κs = search needs
 
+short-of-requires : tie.Need-short-of-requires
+short-of-requires c κs = search needs
+
+short-of-requires-2 : tie.Need-short-of-requires-2
+short-of-requires-2 c κs = search needs
+
+-- the chords that wait, as they are read
+waits : (c : tie.After-short-of2) → let s : tie.Start = search in let i : tie.After-short-of = search in
+    (i .short-of .result ≡ smallOf mostShort (s .args .r .a)) × (c .short-of2 .result ≡ smallOf mostShort (s .args .r .b))
+waits c =
+    let s : tie.Start = search in
+    let i : tie.After-short-of = search in
+    let r = s .args .r in (
+      i .short-of .ensures ∙ ap (smallOf mostShort) (arg w64 {z = r .a} (search needs) .is),
+      c .short-of2 .ensures ∙ ap (smallOf mostShort) (arg w64 {z = r .b} (search needs) .is),
+    )
+
 round-requires : tie.Need-round-requires
 round-requires c κs =
     let s : tie.Start = search in
@@ -74,7 +94,8 @@ round-requires c κs =
     let a3 : tie.After-ring-sound = search in
     let t3 : tie.Else3 = search in
     let o : tie.After-circle-of = search in
-    rw (o .circle-of .ensures) (ring-true (s .args .r) (s .args .across) (s .args .along) (s .args .start) (first e) (sym (a3 .ring-sound .ensures) ∙ not-false _ (t3 .if3 .left)))
+    let n : tie.After-short-of2 = search in
+    rw (o .circle-of .ensures, waits n .0, waits n .1) (ring-true (s .args .r) (s .args .across) (s .args .along) (s .args .start) (first e) (sym (a3 .ring-sound .ensures) ∙ not-false _ (t3 .if3 .left)))
 
 returns-4 : tie.Need-returns-4
 unfolding chordsSound
@@ -85,7 +106,8 @@ returns-4 c =
     let t3 : tie.Else3 = search in
     let o : tie.After-circle-of = search in
     let e3 : ringSound (s .args .across) (s .args .along) (s .args .start) ≡ true = sym (a3 .ring-sound .ensures) ∙ not-false _ (t3 .if3 .left) in
-    rw (first e, second e, e3) (c .round .ensures ∙ ap roundOf (o .circle-of .ensures))
+    let n : tie.After-short-of2 = search in
+    rw (first e, second e, e3) (c .round .ensures ∙ (λ j. roundOf (o .circle-of .ensures j) (waits n .0 j) (waits n .1 j)))
 
 pub chords-sound-spec : {M : Type 1} → statement M
 chords-sound-spec =
@@ -98,5 +120,7 @@ chords-sound-spec =
     ring-sound-requires
     returns-3
     circle-of-requires
+    short-of-requires
+    short-of-requires-2
     round-requires
     returns-4)
