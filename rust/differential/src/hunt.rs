@@ -39,6 +39,7 @@ impl Finding {
     fn of<P: Partner>(origin: String, mut limits: [i64; 4], input: &[u8], mut way: Way) -> Self {
         let fails = |limits, input: &[u8], way| run::<P>(limits, input, way).is_err();
         let mut input = shrink(input, |bytes| fails(limits, bytes, way));
+        let before = (limits, way);
         if fails(USUAL, &input, way) {
             limits = USUAL;
         }
@@ -47,7 +48,9 @@ impl Finding {
         if let Some(&plainer) = plain.iter().find(|&&plainer| fails(limits, &input, plainer)) {
             way = plainer;
         }
-        input = shrink(&input, |bytes| fails(limits, bytes, way));
+        if (limits, way) != before {
+            input = shrink(&input, |bytes| fails(limits, bytes, way));
+        }
         let calls = match run::<P>(limits, &input, way) {
             Err(difference) => difference.explain(limits, &input),
             Ok(_) => "not shown again: the answers change from run to run".to_string(),

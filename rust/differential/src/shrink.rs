@@ -7,7 +7,7 @@ pub fn shrink(input: &[u8], mut fails: impl FnMut(&[u8]) -> bool) -> Vec<u8> {
     loop {
         let before = shortest.clone();
         leave_out(&mut shortest, &mut fails);
-        while simplify(&mut shortest, &mut fails) {}
+        simplify(&mut shortest, &mut fails);
         if shortest == before {
             return shortest;
         }
@@ -36,21 +36,18 @@ fn leave_out_chunks(input: &mut Vec<u8>, size: usize, fails: &mut impl FnMut(&[u
     }
 }
 
-/// Puts a simpler number in the place of one; tells whether there was such a place.
-fn simplify(input: &mut Vec<u8>, fails: &mut impl FnMut(&[u8]) -> bool) -> bool {
+/// Makes one number after another as simple as it goes.
+fn simplify(input: &mut Vec<u8>, fails: &mut impl FnMut(&[u8]) -> bool) {
     let in_number = |byte: &u8| byte.is_ascii_digit() || matches!(byte, b'+' | b'-' | b'.');
     let mut at = 0;
     while at < input.len() {
         let end = at + input[at..].iter().take_while(|byte| in_number(byte)).count();
         let put = |number: Vec<u8>| [&input[..at], &number, &input[end..]].concat();
-        let failing = simpler(&input[at..end]).into_iter().map(put).find(|input| fails(input));
-        if let Some(failing) = failing {
-            *input = failing;
-            return true;
+        match simpler(&input[at..end]).into_iter().map(put).find(|input| fails(input)) {
+            Some(failing) => *input = failing,
+            None => at = end + 1,
         }
-        at = end + 1;
     }
-    false
 }
 
 /// Numbers that are shorter than this one or, at the same length, have a smaller sum of digits.

@@ -39,13 +39,15 @@ pub enum Way {
     Mixed(u64),
 }
 
-/// Each way that a stream is put through: rooms 0 to 8 of feed and plot, and a large one.
+/// Each way that a stream is put through: rooms 0 to 8 of feed and plot, and a large one. Calls of one
+/// byte each take longest, and one of the feeds and one of the plots makes them.
 pub fn every_way(dice: &mut Dice) -> Vec<Way> {
     let mut ways = vec![Way::Calls, Way::Lazy(dice.roll()), Way::Mixed(dice.roll())];
+    let (feed, plot) = (dice.below(9), dice.below(9));
+    let mut block = |single| if single { 1 } else { dice.pick(&[7, 64, 700, WHOLE]) };
     for room in 0..=8 {
-        let blocks = [1, 7, 64, 700, WHOLE];
-        ways.push(Way::Feed { block: dice.pick(&blocks), room });
-        ways.push(Way::Plot { block: dice.pick(&blocks), room });
+        ways.push(Way::Feed { block: block(room == feed), room });
+        ways.push(Way::Plot { block: block(room == plot), room });
     }
     ways.push(Way::Plot { block: WHOLE, room: LARGE });
     ways
@@ -162,10 +164,11 @@ impl<'a, P: Partner> Pair<'a, P> {
 
     fn look(&mut self) -> Result<Look, Difference> {
         self.calls.push(Call::Look);
+        let answer = self.answering.look();
         if let Some(exact) = &self.exact {
-            self.same(self.answering.look(), exact.look())?;
+            self.same(answer, exact.look())?;
         }
-        self.same(self.answering.look(), self.due.look())
+        self.same(answer, self.due.look())
     }
 
     fn feed(&mut self, bytes: Range<usize>, room: usize) -> Result<Fed, Difference> {

@@ -148,15 +148,15 @@ fn segment_swallowed() {
 struct Miscounted;
 impl Fault for Miscounted {
     fn look(mut seen: Look) -> Look {
-        seen.bytes -= usize::from(seen.bytes > 500);
+        seen.bytes -= usize::from(seen.bytes > 200);
         seen
     }
 }
 
 #[test]
 fn bytes_miscounted() {
-    // The least that costs 500 bytes: 54 points of 9, "0,0,"; with PM1 alone, of 2, it is 750.
-    found_within::<Miscounted>(Family::Brims, 760);
+    // The least that costs 200 bytes: 22 points of 9, "0,0,"; with PM1 alone, of 2, it is 300.
+    found_within::<Miscounted>(Family::Brims, 310);
 }
 
 /// A feed that also writes the record after those stored.

@@ -1,4 +1,4 @@
-//! Copies of the baseline with one fault each (`build.rs`), in the library's place.
+//! A copy in the library's place.
 
 use differential::hunt::{hunt, Finding};
 use differential::partner::Partner;
@@ -53,7 +53,7 @@ macro_rules! fault {
 
         #[test]
         fn $name() {
-            copies::found::<wrong::$name::machine::Machine>(Family::$family, $most);
+            crate::copies::found::<wrong::$name::machine::Machine>(Family::$family, $most);
         }
     };
 }

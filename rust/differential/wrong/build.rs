@@ -1,5 +1,5 @@
-//! Writes copies of the baseline, each with one fault: in its arcs for `tests/arc_faults.rs`, in the
-//! rounding of numbers for `tests/decimal_faults.rs`.
+//! Writes copies of the baseline, each with one fault: in its arcs for `src/arcs.rs`, in the rounding of
+//! numbers for `src/decimals.rs`.
 
 use std::path::Path;
 use std::{env, fs};
@@ -140,7 +140,7 @@ fn copy(source: &Path, fault: Fault) -> String {
 
 fn main() {
     let here = env::var_os("CARGO_MANIFEST_DIR").expect("cargo says where the crate is");
-    let source = Path::new(&here).join("../baseline/src");
+    let source = Path::new(&here).join("../../baseline/src");
     println!("cargo:rerun-if-changed=build.rs");
     println!("cargo:rerun-if-changed={}", source.display());
     let out = env::var_os("OUT_DIR").expect("cargo says where to write");
