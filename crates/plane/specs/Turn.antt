@@ -39,12 +39,12 @@ unfoldable pub degreesOf : ℕ → ℤ
 degreesOf t = getD (map (λ (r : Turn). r .angle) turns) t (pos 0)
 
 -- the turn that has the number z, of n from place t on; the place after them if none has
-unfoldable pub findFrom : ℤ → ℕ → ℕ → ℕ
-findFrom z t zero = t
-findFrom z t (suc n) = cond (degreesOf t ≡? z) t (findFrom z (t + 1) n)
+unfoldable pub turnFrom : ℤ → ℕ → ℕ → ℕ
+turnFrom z t zero = t
+turnFrom z t (suc n) = cond (degreesOf t ≡? z) t (turnFrom z (t + 1) n)
 
 unfoldable pub findTurn : ℤ → ℕ
-findTurn z = findFrom z 0 turnCount
+findTurn z = turnFrom z 0 turnCount
 
 -- the table of turn t
 abbrev pub tableOf : ℕ → List (List ℤ)

@@ -10,7 +10,7 @@ use lib.IntN.{ℤ, pos, negℤ, natAbs}
 use Rattle.exact.specs.Whole.{_≡?_, ≡?-true}
 use Rattle.exact.specs.Fit.{Bd, bd-lit}
 use Rattle.clip.specs.declared.Point.{Point}
-use Rattle.plane.specs.Turn.{turnCount, turns, upright, degreesOf, findFrom, findTurn, turnOf, turnedOf}
+use Rattle.plane.specs.Turn.{turnCount, turns, upright, degreesOf, turnFrom, findTurn, turnOf, turnedOf}
 use Rattle.plane.specs.TurnLaws.{east, north, west, south, coord-is}
 
 -- ---- what 01 says, and 02
@@ -29,13 +29,13 @@ pub record Images (p : Point) : Type 0 where
 -- ---- what is looked up
 
 -- a turn that is found has the number that was looked for
-found-from : (z : ℤ) (t n : ℕ) → findFrom z t n < t + n → degreesOf (findFrom z t n) ≡ z
-unfolding findFrom
+found-from : (z : ℤ) (t n : ℕ) → turnFrom z t n < t + n → degreesOf (turnFrom z t n) ≡ z
+unfolding turnFrom
 found-from z t zero h = absurd (omega (arith, h))
 found-from z t (suc n) h = go (degreesOf t ≡? z) refl h (found-from z (t + 1) n)
   where
-    go : (b : Bool) → (degreesOf t ≡? z) ≡ b → cond b t (findFrom z (t + 1) n) < t + suc n → (findFrom z (t + 1) n < t + 1 + n → degreesOf (findFrom z (t + 1) n) ≡ z) →
-        degreesOf (cond b t (findFrom z (t + 1) n)) ≡ z
+    go : (b : Bool) → (degreesOf t ≡? z) ≡ b → cond b t (turnFrom z (t + 1) n) < t + suc n → (turnFrom z (t + 1) n < t + 1 + n → degreesOf (turnFrom z (t + 1) n) ≡ z) →
+        degreesOf (cond b t (turnFrom z (t + 1) n)) ≡ z
     go true e k later = ≡?-true (degreesOf t) z e
     go false e k later = later (omega (arith, k))
 
@@ -59,7 +59,7 @@ listed (suc (suc (suc (suc t)))) h = absurd (omega (arith, h))
 
 -- RO knows a number exactly if it is said
 pub said-found : (z : ℤ) → Said z ↔ (findTurn z < turnCount)
-unfolding findTurn findFrom degreesOf turns _≡?_
+unfolding findTurn turnFrom degreesOf turns _≡?_
 said-found z = (known, (λ h. subst Said (found z h) (listed (findTurn z) h .said)))
   where
     at : (y : ℤ) → z ≡ y → findTurn y < turnCount → findTurn z < turnCount
@@ -83,7 +83,7 @@ unfolding turnedOf turnOf turns
 turned-none p = λ i. record { x = coord-is east (p .x) (p .y) i; y = coord-is north (p .x) (p .y) i }
 
 pub images : (p : Point) → Images p
-unfolding findTurn findFrom degreesOf turnedOf turnOf turns _≡?_
+unfolding findTurn turnFrom degreesOf turnedOf turnOf turns _≡?_
 images p = record {
   none = turned-none p;
   quarter = λ i. record { x = coord-is south (p .x) (p .y) i; y = coord-is east (p .x) (p .y) i };

@@ -9,23 +9,23 @@ use mir.Syntax.{w64}
 use mir.Val.{SFits, ofZ, toZ}
 use Rattle.exact.specs.Fit.{arg, eq64-t, eq64-f}
 use Rattle.exact.specs.Whole.{_≡?_}
-use Rattle.plane.specs.Turn.{turnCount, degreesOf, findFrom, findTurn}
+use Rattle.plane.specs.Turn.{turnCount, degreesOf, turnFrom, findTurn}
 use Rattle.plane.proofs.turn.find_turn.Statement.{statement}
 use Rattle.plane.proofs.turn.find_turn.Tie as tie
 
 abbrev Inv-loop : tie.InvT-loop
-Inv-loop degrees turn₀ turn = (turn ≤ turnCount) × (findTurn (toZ w64 degrees) ≡ findFrom (toZ w64 degrees) turn (turnCount - turn))
+Inv-loop degrees turn₀ turn = (turn ≤ turnCount) × (findTurn (toZ w64 degrees) ≡ turnFrom (toZ w64 degrees) turn (turnCount - turn))
 
 abbrev μ-loop : tie.MeasureT-loop
 μ-loop degrees turn₀ turn = turnCount - turn
 
 -- the search ends at t, or goes on after it
-here : (z : ℤ) (t n : ℕ) → (degreesOf t ≡? z) ≡ true → findFrom z t (suc n) ≡ t
-unfolding findFrom
+here : (z : ℤ) (t n : ℕ) → (degreesOf t ≡? z) ≡ true → turnFrom z t (suc n) ≡ t
+unfolding turnFrom
 here z t n e = simp e
 
-later : (z : ℤ) (t n : ℕ) → (degreesOf t ≡? z) ≡ false → findFrom z t (suc n) ≡ findFrom z (t + 1) n
-unfolding findFrom
+later : (z : ℤ) (t n : ℕ) → (degreesOf t ≡? z) ≡ false → turnFrom z t (suc n) ≡ turnFrom z (t + 1) n
+unfolding turnFrom
 later z t n e = simp e
 
 loop-holds : tie.Need-loop-holds Inv-loop μ-loop
@@ -69,7 +69,7 @@ loop-again c =
     (search needs, (at .loop .inv .1 ∙ rw left (later (asked s) t (turnCount - (t + 1)) e)))
 
 returns-2 : tie.Need-returns-2 Inv-loop μ-loop
-unfolding findFrom
+unfolding turnFrom
 returns-2 c =
     let at = c .before in
     let none : turnCount - at .loop .turn ≡ 0 = omega arith in
