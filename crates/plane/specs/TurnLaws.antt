@@ -1,15 +1,18 @@
 -- The laws of the turn, argued once for all turns: each row of a table, and each column, is a unit along x or y, forth or back. That this is so is the test of
--- the table, `units`; no law and no proof but it has a case for one turn.
+-- the table, `units`, which is computed; no law and no proof has a case for one turn.
 use mathlib.Core.Path.{_≡_, refl, sym, ap, _∙_, subst}
+use mathlib.Core.Bool.{Bool, true, false, cond, _&&_, false≢true}
+use mathlib.Core.List.{List, [], _∷_, map}
 use Prim.Native.Nat.{ℕ, zero, suc, _<_}
 use native.Mathlib.Omega.{arith}
 use lib.IntN.{ℤ, pos, negsuc, negℤ}
-use Rattle.exact.specs.Whole.{is, Z}
+use lib.ListN.{length, getD}
+use Rattle.exact.specs.Whole.{is, Z, _≡?_, ≡?-true}
 use Rattle.exact.specs.Fit.{Bd, lit, bd-le, bd-neg}
 use Rattle.clip.specs.Reach.{reach, SmallPoint}
 use Rattle.clip.specs.declared.Point.{Point}
 use Rattle.plane.specs.Bounds.{UnitRows}
-use Rattle.plane.specs.Turn.{turnCount, turns, turnOf, rowsOf, alongOf, turnedBy, turnedOf, turnedBackOf, rebasedOf}
+use Rattle.plane.specs.Turn.{Turn, turnCount, turns, tableOf, turnOf, rowsOf, alongOf, turnedBy, turnedOf, turnedBackOf, rebasedOf}
 
 -- ---- units along x and y, and the tables that are made of them
 pub data Row : ℤ → ℤ → Type 0 where
@@ -46,14 +49,58 @@ pub by-rows : (p : Point) (t : ℕ) → turnedBy (rowsOf t) p ≡ turnedOf p t
 unfolding rowsOf turnedBy turnedOf
 by-rows p t = refl
 
--- ---- the test of the table: what all laws of the turn rest on. A turn more is a clause more of it, and of nothing else
+-- ---- the test of the table, computed: every row and every column is such a unit. All laws of the turn rest on it, and a turn more is a row more of the table alone
+abbrev same : ℤ → ℤ → ℤ → ℤ → Bool
+same a b u v = (a ≡? u) && (b ≡? v)
+
+abbrev isRow : ℤ → ℤ → Bool
+isRow a b = cond (same a b (pos 1) (pos 0)) true (cond (same a b (pos 0) (pos 1)) true (cond (same a b (negsuc 0) (pos 0)) true (same a b (pos 0) (negsuc 0))))
+
+abbrev cell : List (List ℤ) → ℕ → ℕ → ℤ
+cell m i j = getD (getD m i []) j (pos 0)
+
+abbrev ofUnits : List (List ℤ) → Bool
+ofUnits m = isRow (cell m 0 0) (cell m 0 1) && (isRow (cell m 1 0) (cell m 1 1) && (isRow (cell m 0 0) (cell m 1 0) && isRow (cell m 0 1) (cell m 1 1)))
+
+abbrev each : List (List (List ℤ)) → Bool
+each [] = true
+each (m ∷ ms) = ofUnits m && each ms
+
+-- what it shows of a row, of a table, and of each table of a list
+and-both : (a b : Bool) → a && b ≡ true → (a ≡ true) × (b ≡ true)
+and-both true b e = (refl, e)
+and-both false b e = absurd (false≢true e)
+
+row-is : (a b u v : ℤ) → Row u v → same a b u v ≡ true → Row a b
+row-is a b u v w e =
+    let h = and-both (a ≡? u) (b ≡? v) e in
+    subst (λ (x : ℤ). Row x b) (sym (≡?-true a u (h .0))) (subst (Row u) (sym (≡?-true b v (h .1))) w)
+
+row-of : (a b : ℤ) → isRow a b ≡ true → Row a b
+row-of a b = go (same a b (pos 1) (pos 0)) (same a b (pos 0) (pos 1)) (same a b (negsuc 0) (pos 0)) refl refl refl
+  where
+    go : (p q r : Bool) → same a b (pos 1) (pos 0) ≡ p → same a b (pos 0) (pos 1) ≡ q → same a b (negsuc 0) (pos 0) ≡ r →
+        cond p true (cond q true (cond r true (same a b (pos 0) (negsuc 0)))) ≡ true → Row a b
+    go true q r e f g h = row-is a b (pos 1) (pos 0) east e
+    go false true r e f g h = row-is a b (pos 0) (pos 1) north f
+    go false false true e f g h = row-is a b (negsuc 0) (pos 0) west g
+    go false false false e f g h = row-is a b (pos 0) (negsuc 0) south h
+
+units-of : (m : List (List ℤ)) → ofUnits m ≡ true → Units (cell m 0 0) (cell m 0 1) (cell m 1 0) (cell m 1 1)
+units-of m e =
+    let h = and-both (isRow (cell m 0 0) (cell m 0 1)) _ e in
+    let k = and-both (isRow (cell m 1 0) (cell m 1 1)) _ (h .1) in
+    let l = and-both (isRow (cell m 0 0) (cell m 1 0)) (isRow (cell m 0 1) (cell m 1 1)) (k .1) in
+    record { row-x = row-of _ _ (h .0); row-y = row-of _ _ (k .0); column-x = row-of _ _ (l .0); column-y = row-of _ _ (l .1) }
+
+each-at : (ms : List (List (List ℤ))) → each ms ≡ true → (t : ℕ) → t < length ms → ofUnits (getD ms t []) ≡ true
+each-at [] e t h = absurd (omega (arith, h))
+each-at (m ∷ ms) e zero h = and-both (ofUnits m) (each ms) e .0
+each-at (m ∷ ms) e (suc t) h = each-at ms (and-both (ofUnits m) (each ms) e .1) t (omega (arith, h))
+
 pub units : (t : ℕ) → t < turnCount → Units (turnOf t 0 0) (turnOf t 0 1) (turnOf t 1 0) (turnOf t 1 1)
-unfolding turnOf turns
-units zero h = record { row-x = east; row-y = north; column-x = east; column-y = north }
-units (suc zero) h = record { row-x = south; row-y = east; column-x = north; column-y = west }
-units (suc (suc zero)) h = record { row-x = west; row-y = south; column-x = west; column-y = south }
-units (suc (suc (suc zero))) h = record { row-x = north; row-y = west; column-x = south; column-y = east }
-units (suc (suc (suc (suc t)))) h = absurd (omega arith)
+unfolding turnOf turns _≡?_
+units t h = units-of (tableOf t) (each-at (map (λ (r : Turn). r .table) turns) refl t h)
 
 -- ---- back after forth, and forth after back: what a column takes of the rows
 neg-neg : (x : ℤ) → negℤ (negℤ x) ≡ x

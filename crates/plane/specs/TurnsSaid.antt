@@ -28,6 +28,19 @@ pub record Images (p : Point) : Type 0 where
 
 -- ---- what is looked up
 
+pub turned-none : (p : Point) → turnedOf p upright ≡ p
+unfolding turnedOf turnOf turns
+turned-none p = λ i. record { x = coord-is east (p .x) (p .y) i; y = coord-is north (p .x) (p .y) i }
+
+pub images : (p : Point) → Images p
+unfolding findTurn turnFrom degreesOf turnedOf turnOf turns _≡?_
+images p = record {
+  none = turned-none p;
+  quarter = λ i. record { x = coord-is south (p .x) (p .y) i; y = coord-is east (p .x) (p .y) i };
+  half = λ i. record { x = coord-is west (p .x) (p .y) i; y = coord-is south (p .x) (p .y) i };
+  three-quarters = λ i. record { x = coord-is north (p .x) (p .y) i; y = coord-is west (p .x) (p .y) i };
+}
+
 -- a turn that is found has the number that was looked for
 found-from : (z : ℤ) (t n : ℕ) → turnFrom z t n < t + n → degreesOf (turnFrom z t n) ≡ z
 unfolding turnFrom
@@ -66,10 +79,10 @@ said-found z = (known, (λ h. subst Said (found z h) (listed (findTurn z) h .sai
     at y e h = subst (λ (x : ℤ). findTurn x < turnCount) (sym e) h
 
     known : Said z → findTurn z < turnCount
-    known (inl e) = at (pos 0) e (ltb→lt 0 4 tt)
-    known (inr (inl e)) = at (pos 90) e (ltb→lt 1 4 tt)
-    known (inr (inr (inl e))) = at (pos 180) e (ltb→lt 2 4 tt)
-    known (inr (inr (inr e))) = at (pos 270) e (ltb→lt 3 4 tt)
+    known (inl e) = at (pos 0) e (ltb→lt (findTurn (pos 0)) turnCount tt)
+    known (inr (inl e)) = at (pos 90) e (ltb→lt (findTurn (pos 90)) turnCount tt)
+    known (inr (inr (inl e))) = at (pos 180) e (ltb→lt (findTurn (pos 180)) turnCount tt)
+    known (inr (inr (inr e))) = at (pos 270) e (ltb→lt (findTurn (pos 270)) turnCount tt)
 
 -- and its turn is so many quarters
 pub quarters-found : (z : ℤ) → findTurn z < turnCount → natAbs z / 90 ≡ findTurn z
@@ -77,16 +90,3 @@ quarters-found z h = subst (λ (y : ℤ). natAbs y / 90 ≡ findTurn z) (found z
 
 pub degrees-size : (t : ℕ) → t < turnCount → Bd (degreesOf t) 270
 degrees-size t h = listed t h .size
-
-pub turned-none : (p : Point) → turnedOf p upright ≡ p
-unfolding turnedOf turnOf turns
-turned-none p = λ i. record { x = coord-is east (p .x) (p .y) i; y = coord-is north (p .x) (p .y) i }
-
-pub images : (p : Point) → Images p
-unfolding findTurn turnFrom degreesOf turnedOf turnOf turns _≡?_
-images p = record {
-  none = turned-none p;
-  quarter = λ i. record { x = coord-is south (p .x) (p .y) i; y = coord-is east (p .x) (p .y) i };
-  half = λ i. record { x = coord-is west (p .x) (p .y) i; y = coord-is south (p .x) (p .y) i };
-  three-quarters = λ i. record { x = coord-is north (p .x) (p .y) i; y = coord-is west (p .x) (p .y) i };
-}
