@@ -26,7 +26,7 @@ use Rattle.hpgl.specs.declared.Position.{Position}
 use Rattle.hpgl.specs.declared.Settings.{Settings}
 use Rattle.hpgl.specs.declared.Core.{Core}
 use Rattle.hpgl.specs.declared.Acted.{Acted}
-use Rattle.hpgl.specs.Place.{point, rounded, axisX, axisY, exactPosition, location, inRange, absolutePosition, restAt, pagePoint, limits}
+use Rattle.hpgl.specs.Place.{point, axisX, axisY, exactPosition, location, inRange, absolutePosition, restAt, pagePoint, limits}
 use Rattle.hpgl.specs.Change.{withRelative, withCarriage}
 use Rattle.hpgl.specs.Rules.{done, refuse, freshSettings, freshCarriage, rebased, inRule, dfRule, goodCorners, setCorners, ipRule, scRule, setTurn, turnTo, roRule, setWindow, iwRule, endRule}
 use Rattle.hpgl.specs.Related.{Sound}

@@ -1,6 +1,5 @@
 -- The rules answer the numbers of Refusals.antt. Each test of a rule tells whether a need is met (`Tells`), and a rule is a chain of tests (`needs`).
 use mathlib.Core.Path.{_≡_, refl, sym, ap, _∙_, subst}
-use mathlib.Core.Logic.{_⊎_, inl, inr}
 use mathlib.Core.Bool.{Bool, true, false, cond, not, _&&_, true≢false}
 use Prim.Native.Nat.{ℕ, _+_, _≤_, _<_}
 use native.Mathlib.Omega.{arith}

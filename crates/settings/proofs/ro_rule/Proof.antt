@@ -1,7 +1,7 @@
 -- The proof of `ro_rule`: by its count, and the number rounded.
 use borrow.Author.Needs.{needs}
 use borrow.Author.Tests.{eq-eqb, ne-eqb}
-use mathlib.Core.Path.{_≡_, refl, sym, ap, _∙_}
+use mathlib.Core.Path.{_≡_, refl, ap, _∙_}
 use mir.Syntax.{w64}
 use Rattle.exact.specs.Fit.{m64, val, got}
 use Rattle.hpgl.specs.Place.{rounded}
