@@ -97,7 +97,10 @@ pub fn turned(p: Point, turn: usize) -> Point
     requires { ⌜ SmallPoint p × (turn < turnCount) ⌝ }
     ensures { λ r. ⌜ r ≡ turnedOf p turn ⌝ }
 {
-    turned_by(rows_of(turn), p)
+    let t = table_of(turn);
+    let x = along(t[0][0], t[0][1], p);
+    let y = along(t[1][0], t[1][1], p);
+    Point { x: x, y: y }
 }
 
 // The point of a page point: by the transposed table.
