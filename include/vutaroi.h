@@ -49,7 +49,7 @@ extern "C" {
 #define VUTAROI_VERSION 100
 
 /* The version of a machine's form, which is its first number. */
-#define VUTAROI_FORM 3
+#define VUTAROI_FORM 4
 
 /* The numbers of a machine, and of a record: a stroke is pen, x0, y0, x1, y1. */
 #define VUTAROI_NUMBERS 645

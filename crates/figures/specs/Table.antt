@@ -452,7 +452,8 @@ scales =
     stops "IP0,0,10,10;SC0,1,0,1;SC2,2,0,5;PA1,1;" 3 32 (up 10 10 0 0) ∷
     []
 
--- "RO: 0 or 90; none is 0", rounded first. "point (x, y) goes to page (−y, x). The page point stays, the window turns along"; P1, P2 and scale stay
+-- "RO: 0 or 90; none is 0", rounded first. "point (x, y) goes to page (−y, x). The page point stays, the window turns along"; P1, P2 and scale stay. The images of all four turns,
+-- and a window under each, stand under CR 3
 abbrev turns : List Row
 turns =
     ends "PA3,5;RO90;" (seen (pos 5) (minus 3) 0 false 0) ∷
@@ -470,15 +471,11 @@ turns =
     stops "RO.5;" 3 5 (up 0 0 0 0) ∷
     stops "RO-.5001;" 3 9 (up 0 0 0 0) ∷
     stops "RO45;" 3 5 (up 0 0 0 0) ∷
-    stops "RO180;" 3 6 (up 0 0 0 0) ∷
-    stops "RO270;" 3 6 (up 0 0 0 0) ∷
     stops "RO360;" 3 6 (up 0 0 0 0) ∷
     stops "RO-90;" 3 6 (up 0 0 0 0) ∷
     ends "IP0,0,10,20;SC0,1,0,1;RO90;PA1,1;" (up 10 20 0 0) ∷
-    take "SP1;RO90;PU1,2;PD3,5;" (stroke 1 (minus 2) (pos 1) (minus 5) (pos 3) ∷ down 3 5 1 0 ∷ []) ∷
     take "SP1;IW0,0,5,10;RO90;PA0,0;PD100,100;" (stroke 1 (pos 0) (pos 0) (minus 5) (pos 5) ∷ down 100 100 1 0 ∷ []) ∷
     take "SP1;RO90;IW0,0,5,10;PD100,100;" (stroke 1 (pos 0) (pos 0) (minus 5) (pos 5) ∷ down 100 100 1 0 ∷ []) ∷
-    take "SP1;IW1,2,5,10;RO90;PU3,0;PD3,100;PU0,4;PD100,4;" (stroke 1 (minus 2) (pos 3) (minus 10) (pos 3) ∷ stroke 1 (minus 4) (pos 1) (minus 4) (pos 5) ∷ down 100 4 1 0 ∷ []) ∷
     []
 
 -- "IW: two corners in current units, in absolute sense, rounded, each within ±1,000,000 or 3, and put in order; none removes it": each row has a line across the window, and one up
@@ -893,6 +890,101 @@ fifthDecimal =
     ends "IP0,0,10000,10000;SC0,1,0,1;PR.00005,0,.00005,0;" (up 2 0 0 0) ∷
     []
 
+-- ---- Document 02, CR 3: half and three-quarter turns
+
+-- "Halls with the gate on the far side want RO180 and RO270. .. RO with other values remains 3": rounded first, as document 01 has it, from the ten-thousandths (CR 2); counts and polygon mode are as they were
+abbrev turnNumbers : List Row
+turnNumbers =
+    ends "PA3,5;RO179.5;" (seen (minus 3) (minus 5) 0 false 0) ∷
+    ends "PA3,5;RO180.4999;" (seen (minus 3) (minus 5) 0 false 0) ∷
+    ends "PA3,5;RO179.49995;" (seen (minus 3) (minus 5) 0 false 0) ∷
+    ends "PA3,5;RO269.5;" (seen (minus 5) (pos 3) 0 false 0) ∷
+    ends "PA3,5;RO270.4999;" (seen (minus 5) (pos 3) 0 false 0) ∷
+    stops "PA3,5;RO180;RO179.4999;" 3 23 (seen (minus 3) (minus 5) 0 false 0) ∷
+    stops "PA3,5;RO180;RO180.5;" 3 20 (seen (minus 3) (minus 5) 0 false 0) ∷
+    stops "PA3,5;RO180;RO179.499949;" 3 25 (seen (minus 3) (minus 5) 0 false 0) ∷
+    stops "PA3,5;RO180;RO181;" 3 18 (seen (minus 3) (minus 5) 0 false 0) ∷
+    stops "PA3,5;RO180;RO269.4999;" 3 23 (seen (minus 3) (minus 5) 0 false 0) ∷
+    stops "PA3,5;RO180;RO270.5;" 3 20 (seen (minus 3) (minus 5) 0 false 0) ∷
+    stops "PA3,5;RO180;RO271;" 3 18 (seen (minus 3) (minus 5) 0 false 0) ∷
+    stops "PA3,5;RO180;RO360;" 3 18 (seen (minus 3) (minus 5) 0 false 0) ∷
+    stops "PA3,5;RO180;RO-90;" 3 18 (seen (minus 3) (minus 5) 0 false 0) ∷
+    stops "PA3,5;RO180;RO-180;" 3 19 (seen (minus 3) (minus 5) 0 false 0) ∷
+    stops "PA3,5;RO180;RO-270;" 3 19 (seen (minus 3) (minus 5) 0 false 0) ∷
+    stops "PA3,5;RO180;RO135;" 3 18 (seen (minus 3) (minus 5) 0 false 0) ∷
+    ends "PA3,5;RO180;RO;" (up 3 5 0 0) ∷
+    stops "PA3,5;RO180,0;" 2 14 (up 3 5 0 0) ∷
+    stops "PM0;RO180;PM2;" 1 6 (up 0 0 0 11) ∷
+    []
+
+-- "Page point (−x, −y) and (y, −x) are the new images": one line under each of the four turns; a location is rounded, and then turned; the limits of the machine, P1 and P2 do not turn
+abbrev turnImages : List Row
+turnImages =
+    take "SP1;RO0;PU1,2;PD3,5;" (line 1 1 2 3 5 ∷ down 3 5 1 0 ∷ []) ∷
+    take "SP1;RO90;PU1,2;PD3,5;" (stroke 1 (minus 2) (pos 1) (minus 5) (pos 3) ∷ down 3 5 1 0 ∷ []) ∷
+    take "SP1;RO180;PU1,2;PD3,5;" (stroke 1 (minus 1) (minus 2) (minus 3) (minus 5) ∷ down 3 5 1 0 ∷ []) ∷
+    take "SP1;RO270;PU1,2;PD3,5;" (stroke 1 (pos 2) (minus 1) (pos 5) (minus 3) ∷ down 3 5 1 0 ∷ []) ∷
+    take "SP1;RO180;PU2.5,-2.5;PD-.5,1.5;" (stroke 1 (minus 3) (pos 2) (pos 0) (minus 2) ∷ down 0 2 1 0 ∷ []) ∷
+    take "SP1;RO270;PU2.5,-2.5;PD-.5,1.5;" (stroke 1 (minus 2) (minus 3) (pos 2) (pos 0) ∷ down 0 2 1 0 ∷ []) ∷
+    taken ten "SP1;RO180;PU-5,-5;PD-15,-5;" (line 1 5 5 10 5 ∷ seen (minus 15) (minus 5) 1 true 0 ∷ []) ∷
+    taken ten "SP1;RO270;PU-5,5;PD-5,20;" (line 1 5 5 10 5 ∷ seen (minus 5) (pos 20) 1 true 0 ∷ []) ∷
+    ends "RO180;IP;SC0,1,0,1;PA1,1;" (up 10000 7000 0 0) ∷
+    ends "RO270;IP;SC0,1,0,1;PA1,1;" (up 10000 7000 0 0) ∷
+    []
+
+-- document 01, "The page point stays": round by quarters, and from each turn to each other; so it does where IN turns back. B becomes the location
+abbrev turnChanges : List Row
+turnChanges =
+    ends "PA3,5;RO90;RO180;" (seen (minus 3) (minus 5) 0 false 0) ∷
+    ends "PA3,5;RO90;RO180;RO270;" (seen (minus 5) (pos 3) 0 false 0) ∷
+    ends "PA3,5;RO90;RO180;RO270;RO0;" (up 3 5 0 0) ∷
+    ends "RO0;PA1,2;RO90;" (seen (pos 2) (minus 1) 0 false 0) ∷
+    ends "RO0;PA1,2;RO180;" (seen (minus 1) (minus 2) 0 false 0) ∷
+    ends "RO0;PA1,2;RO270;" (seen (minus 2) (pos 1) 0 false 0) ∷
+    ends "RO90;PA1,2;RO0;" (seen (minus 2) (pos 1) 0 false 0) ∷
+    ends "RO90;PA1,2;RO180;" (seen (pos 2) (minus 1) 0 false 0) ∷
+    ends "RO90;PA1,2;RO270;" (seen (minus 1) (minus 2) 0 false 0) ∷
+    ends "RO180;PA1,2;RO0;" (seen (minus 1) (minus 2) 0 false 0) ∷
+    ends "RO180;PA1,2;RO90;" (seen (minus 2) (pos 1) 0 false 0) ∷
+    ends "RO180;PA1,2;RO270;" (seen (pos 2) (minus 1) 0 false 0) ∷
+    ends "RO270;PA1,2;RO0;" (seen (pos 2) (minus 1) 0 false 0) ∷
+    ends "RO270;PA1,2;RO90;" (seen (minus 1) (minus 2) 0 false 0) ∷
+    ends "RO270;PA1,2;RO180;" (seen (minus 2) (pos 1) 0 false 0) ∷
+    ends "RO180;PA1,2;IN;" (seen (minus 1) (minus 2) 0 false 0) ∷
+    ends "RO180;PA1,2;DF;" (up 1 2 0 0) ∷
+    ends "RO270;PA1,2;IN;" (seen (pos 2) (minus 1) 0 false 0) ∷
+    ends "RO270;PA1,2;DF;" (up 1 2 0 0) ∷
+    ends "PR.4,0;RO180;PR-.4,0;" (up 0 0 0 0) ∷
+    []
+
+-- document 01, "the window turns along": a line across the window and one up, under each turn; and a window that was set under another turn
+abbrev turnWindows : List Row
+turnWindows =
+    take "SP1;IW1,2,5,10;RO0;PU3,0;PD3,100;PU0,4;PD100,4;" (line 1 3 2 3 10 ∷ line 1 1 4 5 4 ∷ down 100 4 1 0 ∷ []) ∷
+    take "SP1;IW1,2,5,10;RO90;PU3,0;PD3,100;PU0,4;PD100,4;" (stroke 1 (minus 2) (pos 3) (minus 10) (pos 3) ∷ stroke 1 (minus 4) (pos 1) (minus 4) (pos 5) ∷ down 100 4 1 0 ∷ []) ∷
+    take "SP1;IW1,2,5,10;RO180;PU3,0;PD3,100;PU0,4;PD100,4;" (stroke 1 (minus 3) (minus 2) (minus 3) (minus 10) ∷ stroke 1 (minus 1) (minus 4) (minus 5) (minus 4) ∷ down 100 4 1 0 ∷ []) ∷
+    take "SP1;IW1,2,5,10;RO270;PU3,0;PD3,100;PU0,4;PD100,4;" (stroke 1 (pos 2) (minus 3) (pos 10) (minus 3) ∷ stroke 1 (pos 4) (minus 1) (pos 4) (minus 5) ∷ down 100 4 1 0 ∷ []) ∷
+    take "SP1;RO180;IW1,2,5,10;RO90;PU3,0;PD3,100;PU0,4;PD100,4;" (stroke 1 (minus 2) (pos 3) (minus 10) (pos 3) ∷ stroke 1 (minus 4) (pos 1) (minus 4) (pos 5) ∷ down 100 4 1 0 ∷ []) ∷
+    take "SP1;RO270;IW1,2,5,10;RO90;PU3,0;PD3,100;PU0,4;PD100,4;" (stroke 1 (minus 2) (pos 3) (minus 10) (pos 3) ∷ stroke 1 (minus 4) (pos 1) (minus 4) (pos 5) ∷ down 100 4 1 0 ∷ []) ∷
+    []
+
+-- what is drawn under each turn: EP "by the turn then in force", a circle, a rectangle, an arc
+abbrev turnShapes : List Row
+turnShapes =
+    take "SP1;PM0;PD10,0,10,10;PM2;RO0;EP;" (line 1 0 0 10 0 ∷ line 1 10 0 10 10 ∷ line 1 10 10 0 0 ∷ up 0 0 1 40 ∷ []) ∷
+    take "SP1;PM0;PD10,0,10,10;PM2;RO90;EP;" (line 1 0 0 0 10 ∷ stroke 1 (pos 0) (pos 10) (minus 10) (pos 10) ∷ stroke 1 (minus 10) (pos 10) (pos 0) (pos 0) ∷ up 0 0 1 40 ∷ []) ∷
+    take "SP1;PM0;PD10,0,10,10;PM2;RO180;EP;" (stroke 1 (pos 0) (pos 0) (minus 10) (pos 0) ∷ stroke 1 (minus 10) (pos 0) (minus 10) (minus 10) ∷ stroke 1 (minus 10) (minus 10) (pos 0) (pos 0) ∷ up 0 0 1 40 ∷ []) ∷
+    take "SP1;PM0;PD10,0,10,10;PM2;RO270;EP;" (stroke 1 (pos 0) (pos 0) (pos 0) (minus 10) ∷ stroke 1 (pos 0) (minus 10) (pos 10) (minus 10) ∷ stroke 1 (pos 10) (minus 10) (pos 0) (pos 0) ∷ up 0 0 1 40 ∷ []) ∷
+    take "SP1;RO0;PA5,7;CI4,90;" (line 1 9 7 5 11 ∷ line 1 5 11 1 7 ∷ line 1 1 7 5 3 ∷ line 1 5 3 9 7 ∷ up 5 7 1 0 ∷ []) ∷
+    take "SP1;RO90;PA5,7;CI4,90;" (stroke 1 (minus 7) (pos 9) (minus 11) (pos 5) ∷ stroke 1 (minus 11) (pos 5) (minus 7) (pos 1) ∷ stroke 1 (minus 7) (pos 1) (minus 3) (pos 5) ∷ stroke 1 (minus 3) (pos 5) (minus 7) (pos 9) ∷ up 5 7 1 0 ∷ []) ∷
+    take "SP1;RO180;PA5,7;CI4,90;" (stroke 1 (minus 9) (minus 7) (minus 5) (minus 11) ∷ stroke 1 (minus 5) (minus 11) (minus 1) (minus 7) ∷ stroke 1 (minus 1) (minus 7) (minus 5) (minus 3) ∷ stroke 1 (minus 5) (minus 3) (minus 9) (minus 7) ∷ up 5 7 1 0 ∷ []) ∷
+    take "SP1;RO270;PA5,7;CI4,90;" (stroke 1 (pos 7) (minus 9) (pos 11) (minus 5) ∷ stroke 1 (pos 11) (minus 5) (pos 7) (minus 1) ∷ stroke 1 (pos 7) (minus 1) (pos 3) (minus 5) ∷ stroke 1 (pos 3) (minus 5) (pos 7) (minus 9) ∷ up 5 7 1 0 ∷ []) ∷
+    take "SP1;RO180;EA5,9;" (stroke 1 (pos 0) (pos 0) (minus 5) (pos 0) ∷ stroke 1 (minus 5) (pos 0) (minus 5) (minus 9) ∷ stroke 1 (minus 5) (minus 9) (pos 0) (minus 9) ∷ stroke 1 (pos 0) (minus 9) (pos 0) (pos 0) ∷ up 0 0 1 49 ∷ []) ∷
+    take "SP1;RO270;EA5,9;" (stroke 1 (pos 0) (pos 0) (pos 0) (minus 5) ∷ stroke 1 (pos 0) (minus 5) (pos 9) (minus 5) ∷ stroke 1 (pos 9) (minus 5) (pos 9) (pos 0) ∷ line 1 9 0 0 0 ∷ up 0 0 1 49 ∷ []) ∷
+    take "SP1;RO180;PU100,0;PD;AA0,0,90,90;" (stroke 1 (minus 100) (pos 0) (pos 0) (minus 100) ∷ down 0 100 1 0 ∷ []) ∷
+    take "SP1;RO270;PU100,0;PD;AA0,0,90,90;" (stroke 1 (pos 0) (minus 100) (pos 100) (pos 0) ∷ down 0 100 1 0 ∷ []) ∷
+    []
+
 -- ---- the table, heading by heading
 
 abbrev pub table : List Row
@@ -908,3 +1000,4 @@ table =
     ++ checked
     ++ arcForms ++ arcSweeps ++ arcWays ++ arcVertices ++ arcEnds ++ arcChords ++ arcRanges
     ++ fifthDecimal
+    ++ turnNumbers ++ turnImages ++ turnChanges ++ turnWindows ++ turnShapes

@@ -4,7 +4,8 @@ use mathlib.Core.Path.{_≡_, refl, sym, ap, _∙_}
 use mathlib.Core.Bool.{Bool, true, false, cond, not, _&&_, true≢false}
 use Prim.Native.Nat.{ℕ, _+_, _/_, _<_}
 use native.Mathlib.Omega.{arith}
-use lib.Dec.{leb, eqb}
+use borrow.Author.Tests.{ltb-true}
+use lib.Dec.{leb, ltb, eqb}
 use lib.IntN.{ℤ, pos, natAbs}
 use Rattle.exact.specs.Whole.{_≡?_, _≤?_, ≡?-true, eq-≡?, ne-≡?}
 use Rattle.clip.specs.declared.Point.{Point}
@@ -14,8 +15,9 @@ use Rattle.reader.specs.declared.Event.{Event}
 use Rattle.mnemonics.specs.Table as code
 use Rattle.mnemonics.specs.Table.{knownInPolygon}
 use Rattle.plane.specs.Bounds.{mostAngle}
-use Rattle.plane.specs.Turn.{turnCount, turnedBackOf}
+use Rattle.plane.specs.Turn.{turnCount, findTurn, turnedBackOf}
 use Rattle.plane.specs.TurnLaws.{back-forth}
+use Rattle.plane.specs.TurnsSaid.{quarters-found}
 use Rattle.plane.specs.CircleLaws.{vertex-point-split}
 use Rattle.hpgl.specs.Cases.{pick, choose, whether}
 use Rattle.hpgl.specs.declared.Position.{Position}
@@ -27,10 +29,10 @@ use Rattle.hpgl.specs.declared.Settings.{Settings}
 use Rattle.hpgl.specs.declared.Core.{Core}
 use Rattle.hpgl.specs.declared.Action.the-variants.{Keep, Rectangle}
 use Rattle.hpgl.specs.declared.Acted.{Acted}
-use Rattle.hpgl.specs.Numbers.{unknown, outOfRange, tooFar, polygonFull, polygonBytes, modeBytes, pointBytes, mostPen, quarterAngle, leastAngle}
+use Rattle.hpgl.specs.Numbers.{unknown, outOfRange, tooFar, polygonFull, polygonBytes, modeBytes, pointBytes, mostPen, leastAngle}
 use Rattle.hpgl.specs.Place.{rounded, axisX, axisY, location, inRange, restAt, pagePoint}
 use Rattle.hpgl.specs.Change.{withPosition, withRelative, withPolygon, withCarriage, withCorners, withScale, withWindow}
-use Rattle.hpgl.specs.Rules.{done, refuse, unscaled, noWindow, inked, freshSettings, noPolygon, freshCarriage, letters, nameRule, rebased, inRule, dfRule, goodCorners, setCorners, carried, ipRule, scRule, setTurn, roRule, setWindow, iwRule, setPen, spRule, moveTo, pointCost, longer, edgeTo, storePoint, aimed, goTo, pairRule, begun, pm0, closes, endedWith, ended, pm1In, pm1, leave, pm2In, pm2, pmRule, epRule, rectangular, rectangleTo, eaRule, erRule, circleFits, circleWith, chordAngle, ciRule, sweptAngle, wayFrom, arc, lastVertex, follow, arcAbout, aaRule, arRule, endRule, actOn}
+use Rattle.hpgl.specs.Rules.{done, refuse, unscaled, noWindow, inked, freshSettings, noPolygon, freshCarriage, letters, nameRule, rebased, inRule, dfRule, goodCorners, setCorners, carried, ipRule, scRule, setTurn, turnTo, roRule, setWindow, iwRule, setPen, spRule, moveTo, pointCost, longer, edgeTo, storePoint, aimed, goTo, pairRule, begun, pm0, closes, endedWith, ended, pm1In, pm1, leave, pm2In, pm2, pmRule, epRule, rectangular, rectangleTo, eaRule, erRule, circleFits, circleWith, chordAngle, ciRule, sweptAngle, wayFrom, arc, lastVertex, follow, arcAbout, aaRule, arRule, endRule, actOn}
 use Rattle.hpgl.specs.Instruction.{Instruction, IN, DF, EP, IP, SC, IW, RO, SP, PM, CI, EA, ER, AA, AR, PU, PD, PA, PR}
 use Rattle.hpgl.specs.Related.{Sound}
 use Rattle.hpgl.specs.ArcCases.{by-arc}
@@ -106,19 +108,21 @@ module _ (c : Core) where
   unfolding iwRule setWindow windowed
   sets-iw n = choose (Sets windowed) (eqb (n .count) 0) (sets windowed _ _ refl) (pick (Sets windowed _) (inRange _ && inRange _) (sets windowed _ _ refl) (leaves windowed _))
 
+  toTurn : ℕ → Core
+  toTurn t = c ▸ turn t ▸ position (restAt (turnedBackOf (effects.page c) t))
+
   turned : ℤ → Core
-  turned k = c ▸ turn (natAbs k / 90) ▸ position (restAt (turnedBackOf (effects.page c) (natAbs k / 90)))
+  turned k = toTurn (natAbs k / 90)
+
+  sets-turn : (z : ℤ) → Sets turned z (turnTo c z)
+  unfolding turnTo setTurn rebased toTurn turned
+  sets-turn z =
+      whether (Sets turned z) (ltb (findTurn z) turnCount) (λ e. sets turned z _ (sym (ap toTurn (quarters-found z (ltb-true (findTurn z) turnCount e)))))
+      (λ e. leaves turned z)
 
   sets-ro : (n : Numbers) → Sets turned (asked n) (roRule c n)
-  unfolding roRule setTurn rebased turned
-  sets-ro n =
-      choose (Sets turned) (eqb (n .count) 0) (sets turned (pos 0) _ refl)
-      (whether (Sets turned k) (k ≡? pos 0) (λ e. sets turned k _ (sym (ap turned (≡?-true k (pos 0) e)))) λ e.
-      whether (Sets turned k) (k ≡? pos quarterAngle) (λ e. sets turned k _ (sym (ap turned (≡?-true k (pos 90) e)))) λ e.
-      leaves turned k)
-    where
-      k : ℤ
-      k = rounded (n .first)
+  unfolding roRule
+  sets-ro n = choose (Sets turned) (eqb (n .count) 0) (sets-turn (pos 0)) (sets-turn _)
 
   penned : ℤ → Core
   penned k = c ▸ penNumber (natAbs k)
@@ -288,7 +292,7 @@ module _ (c : Core) where
       either false = refl
 
   obeys-end : {op : ℕ} (i : Instruction op) (n : Numbers) → Sound (c .settings) → Obeys (end i n) (endRule c op n)
-  unfolding endRule eaRule erRule epRule aaRule arRule done windowed turned penned scaled
+  unfolding endRule eaRule erRule epRule aaRule arRule done windowed toTurn turned penned scaled
   obeys-end IN n h = obeys-in n
   obeys-end DF n h = obeys-df (h .turn) n
   obeys-end EP n h = record { is = refl }

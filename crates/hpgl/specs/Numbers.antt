@@ -43,13 +43,10 @@ rectangleBytes = 49
 abbrev pub mostEdges : ℕ
 mostEdges = 112
 
--- ---- "SP: 0 to 8"; "RO: 0 or 90"
+-- ---- "SP: 0 to 8"
 
 abbrev pub mostPen : ℕ
 mostPen = 8
-
-abbrev pub quarterAngle : ℕ
-quarterAngle = 90
 
 -- ---- "the angle in tenths of a degree, rounded, 5 to 1200, default 50"
 

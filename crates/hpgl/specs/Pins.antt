@@ -6,8 +6,8 @@ use mathlib.Core.Bool.{Bool, true, false, cond, not, _&&_}
 use Prim.Native.Nat.{ℕ, zero, suc, _+_, _≤_}
 use native.Mathlib.Omega.{arith}
 use borrow.Author.Tests.{ne-eqb}
-use lib.Dec.{T, leb, leb→le, eqb}
-use lib.IntN.{pos}
+use lib.Dec.{T, leb, ltb, leb→le, eqb}
+use lib.IntN.{ℤ, pos}
 use Rattle.exact.specs.Whole.{_≡?_, _≤?_, ≡?-true}
 use Rattle.clip.specs.declared.Point.{Point}
 use Rattle.reader.specs.declared.Coordinates.{Coordinates}
@@ -22,6 +22,7 @@ use Rattle.reader.specs.Sizes.{isCause, Caused}
 use Rattle.reader.specs.CauseLaws.{step-caused}
 use Rattle.reader.specs.Reader.{goOnOf, quietOf, labelEnd}
 use Rattle.reader.specs.Step.{labelOf, byMode, stepOf}
+use Rattle.plane.specs.Turn.{turnCount, findTurn}
 use Rattle.plane.specs.Bounds.{mostAngle}
 use Rattle.hpgl.specs.Cases.{pick}
 use Rattle.hpgl.specs.declared.Position.{Position}
@@ -31,13 +32,13 @@ use Rattle.hpgl.specs.declared.Action.the-variants.{Keep}
 use Rattle.hpgl.specs.declared.Acted.{Acted}
 use Rattle.hpgl.specs.declared.Work.the-variants as work
 use Rattle.hpgl.specs.declared.State.{State}
-use Rattle.hpgl.specs.Numbers.{unknown, outOfRange, tooFar, polygonFull, busy, polygonBytes, modeBytes, pointBytes, mostPen, quarterAngle, leastAngle}
+use Rattle.hpgl.specs.Numbers.{unknown, outOfRange, tooFar, polygonFull, busy, polygonBytes, modeBytes, pointBytes, mostPen, leastAngle}
 use Rattle.hpgl.specs.Place.{rounded, location, inRange, absolutePosition, relativePosition}
 use Rattle.hpgl.specs.Ends as ends
 use Rattle.hpgl.specs.Ends.{Works, by-end}
 use Rattle.hpgl.specs.ArcCases.{by-arc}
 use Rattle.hpgl.specs.Change.{withWork}
-use Rattle.hpgl.specs.Rules.{done, refuse, nameRule, inRule, dfRule, goodCorners, setCorners, ipRule, scRule, setTurn, roRule, setWindow, iwRule, setPen, spRule, moveTo, pointCost, storePoint, aimed, goTo, pairRule, pm0, closes, ended, pm1In, pm1, leave, pm2In, pm2, pmRule, epRule, rectangleTo, firstTwo, eaRule, erRule, circleFits, circleWith, chordAngle, ciRule, follow, arcAbout, aaRule, arRule, endRule, actOn}
+use Rattle.hpgl.specs.Rules.{done, refuse, nameRule, inRule, dfRule, goodCorners, setCorners, ipRule, scRule, setTurn, turnTo, roRule, setWindow, iwRule, setPen, spRule, moveTo, pointCost, storePoint, aimed, goTo, pairRule, pm0, closes, ended, pm1In, pm1, leave, pm2In, pm2, pmRule, epRule, rectangleTo, firstTwo, eaRule, erRule, circleFits, circleWith, chordAngle, ciRule, follow, arcAbout, aaRule, arRule, endRule, actOn}
 use Rattle.hpgl.specs.Machine.{waiting, stored, queued, readerAfter, applied, acted, takeState, takeNumber}
 
 -- ---- what is claimed of an event
@@ -136,11 +137,13 @@ module _ (c : Core) (e : Event) where
     unfolding scRule
     pin-sc h = pick (Pinned c e) (eqb (n .count) 0) (sets _ h) (pick (Pinned c e) (n .first ≡? n .second) (refuses range) (pick (Pinned c e) (n .third ≡? n .fourth) (refuses range) (sets _ h)))
 
+    pin-turn : (z : ℤ) → changesSettings op ≡ true → Pinned c e (turnTo c z)
+    unfolding turnTo setTurn
+    pin-turn z h = pick (Pinned c e) (ltb (findTurn z) turnCount) (sets _ h) (refuses range)
+
     pin-ro : changesSettings op ≡ true → Pinned c e (roRule c n)
-    unfolding roRule setTurn
-    pin-ro h =
-        pick (Pinned c e) (eqb (n .count) 0) (sets _ h)
-        (pick (Pinned c e) (rounded (n .first) ≡? pos 0) (sets _ h) (pick (Pinned c e) (rounded (n .first) ≡? pos quarterAngle) (sets _ h) (refuses range)))
+    unfolding roRule
+    pin-ro h = pick (Pinned c e) (eqb (n .count) 0) (pin-turn _ h) (pin-turn _ h)
 
     pin-iw : changesSettings op ≡ true → Pinned c e (iwRule c n)
     unfolding iwRule setWindow

@@ -7,7 +7,7 @@ use mathlib.Core.List.{List, [], _∷_, _++_}
 use Prim.Native.Nat.{ℕ, zero, suc, _+_, _≤_}
 use native.Mathlib.Omega.{arith}
 use borrow.Author.Tests.{ne-eqb, leb-true}
-use lib.Dec.{leb, eqb}
+use lib.Dec.{leb, ltb, eqb}
 use lib.IntN.{ℤ, pos}
 use Rattle.exact.specs.Whole.{_≡?_, _≤?_, eq-≡?}
 use Rattle.clip.specs.declared.Point.{Point}
@@ -17,6 +17,7 @@ use Rattle.reader.specs.declared.Numbers.{Numbers}
 use Rattle.reader.specs.declared.Event.{Event}
 use Rattle.reader.specs.declared.Event.the-variants.{Nothing, Named, Pair, Ended, Refused}
 use Rattle.mnemonics.specs.Table.{IN, DF, EP, IP, SC, IW, RO, SP, PM, CI, EA, ER, PU, PD, PA, PR, AA, AR, knownInPolygon}
+use Rattle.plane.specs.Turn.{turnCount, findTurn}
 use Rattle.plane.specs.Bounds.{mostAngle}
 use Rattle.hpgl.specs.Cases.{never, pick, choose, cond-true}
 use Rattle.hpgl.specs.declared.Position.{Position}
@@ -28,11 +29,11 @@ use Rattle.hpgl.specs.declared.Action.{Action}
 use Rattle.hpgl.specs.ArcCases.{by-arc}
 use Rattle.hpgl.specs.declared.Action.the-variants.{Keep}
 use Rattle.hpgl.specs.declared.Acted.{Acted}
-use Rattle.hpgl.specs.Numbers.{outOfRange, polygonFull, polygonBytes, modeBytes, pointBytes, penBytes, mostPen, quarterAngle, leastAngle}
+use Rattle.hpgl.specs.Numbers.{outOfRange, polygonFull, polygonBytes, modeBytes, pointBytes, penBytes, mostPen, leastAngle}
 use Rattle.hpgl.specs.Place.{rounded, location, inRange}
 use Rattle.hpgl.specs.Ends as ends
 use Rattle.hpgl.specs.Ends.{Works, Rests, other, by-end}
-use Rattle.hpgl.specs.Rules.{done, refuse, noPolygon, freshCarriage, freshCore, letters, nameRule, rebased, inRule, dfRule, goodCorners, setCorners, ipRule, scRule, setTurn, roRule, setWindow, iwRule, setPen, spRule, moveTo, pointCost, longer, storePoint, aimed, goTo, pairRule, begun, pm0, closes, endedWith, ended, pm1In, pm1, leave, pm2In, pm2, pmRule, epRule, rectangular, rectangleTo, eaRule, erRule, circleFits, circleWith, chordAngle, ciRule, follow, arcAbout, aaRule, arRule, endRule, actOn}
+use Rattle.hpgl.specs.Rules.{done, refuse, noPolygon, freshCarriage, freshCore, letters, nameRule, rebased, inRule, dfRule, goodCorners, setCorners, ipRule, scRule, setTurn, turnTo, roRule, setWindow, iwRule, setPen, spRule, moveTo, pointCost, longer, storePoint, aimed, goTo, pairRule, begun, pm0, closes, endedWith, ended, pm1In, pm1, leave, pm2In, pm2, pmRule, epRule, rectangular, rectangleTo, eaRule, erRule, circleFits, circleWith, chordAngle, ciRule, follow, arcAbout, aaRule, arRule, endRule, actOn}
 use Rattle.hpgl.specs.PinsPosition.{after}
 
 abbrev pub bytesOf : Core → ℕ
@@ -232,11 +233,13 @@ module _ (c : Core) (h : List Stored) (is : bytesOf c ≡ costs h) (fits : bytes
       pick (Counts h) (eqb (n .count) 0) (keeps _ _ refl)
       (pick (Counts h) (n .first ≡? n .second) (refuses h _ _ refl) (pick (Counts h) (n .third ≡? n .fourth) (refuses h _ _ refl) (keeps _ _ refl)))
 
+  counts-turn : (z : ℤ) → Counts h (turnTo c z)
+  unfolding turnTo setTurn rebased
+  counts-turn z = pick (Counts h) (ltb (findTurn z) turnCount) (keeps _ _ refl) (refuses h _ _ refl)
+
   counts-ro : (n : Numbers) → Counts h (roRule c n)
-  unfolding roRule setTurn rebased
-  counts-ro n =
-      pick (Counts h) (eqb (n .count) 0) (keeps _ _ refl)
-      (pick (Counts h) (rounded (n .first) ≡? pos 0) (keeps _ _ refl) (pick (Counts h) (rounded (n .first) ≡? pos quarterAngle) (keeps _ _ refl) (refuses h _ _ refl)))
+  unfolding roRule
+  counts-ro n = pick (Counts h) (eqb (n .count) 0) (counts-turn _) (counts-turn _)
 
   counts-iw : (n : Numbers) → Counts h (iwRule c n)
   unfolding iwRule setWindow

@@ -5,8 +5,8 @@ use mathlib.Core.Bool.{true, false, _&&_}
 use Prim.Native.Nat.{ℕ, zero, suc, _+_, _*_, _/_, _<_}
 use native.Mathlib.Nat.{div-eq-of-lt}
 use native.Mathlib.Omega.{arith}
-use lib.Dec.{eqb}
-use borrow.Author.Tests.{eq-eqb, ne-eqb}
+use lib.Dec.{ltb, eqb}
+use borrow.Author.Tests.{eq-eqb, ne-eqb, ltb-true}
 use lib.IntN.{ℤ, pos, negsuc, _+ℤ_, _*ℤ_}
 use Rattle.exact.specs.Whole.{_≡?_, is, Z}
 use Rattle.exact.specs.Divide.{nearestDiv}
@@ -17,18 +17,18 @@ use Rattle.reader.specs.declared.Numbers.{Numbers}
 use Rattle.mnemonics.specs.Table.{IN, DF, IP, SC, RO}
 use Rattle.plane.specs.declared.position.Axis.{Axis}
 use Rattle.plane.specs.Position.{locationOf}
-use Rattle.plane.specs.Turn.{turnCount, turnedOf, turnedBackOf, orderedOf, turnedBoxOf}
-use Rattle.plane.specs.TurnLaws.{turned-none, back-forth, forth-back}
+use Rattle.plane.specs.Turn.{turnCount, findTurn, turnedOf, turnedBackOf, orderedOf, turnedBoxOf}
+use Rattle.plane.specs.TurnLaws.{back-forth, forth-back}
+use Rattle.plane.specs.TurnsSaid.{turned-none}
 use Rattle.plane.specs.Limits.{intersectionOf, limitsOf}
-use Rattle.hpgl.specs.Cases.{pick}
+use Rattle.hpgl.specs.Cases.{pick, whether}
 use Rattle.hpgl.specs.declared.Position.{Position}
 use Rattle.hpgl.specs.declared.Settings.{Settings}
 use Rattle.hpgl.specs.declared.Core.{Core}
 use Rattle.hpgl.specs.declared.Acted.{Acted}
-use Rattle.hpgl.specs.Numbers.{quarterAngle}
-use Rattle.hpgl.specs.Place.{point, rounded, axisX, axisY, exactPosition, location, inRange, absolutePosition, restAt, pagePoint, limits}
+use Rattle.hpgl.specs.Place.{point, axisX, axisY, exactPosition, location, inRange, absolutePosition, restAt, pagePoint, limits}
 use Rattle.hpgl.specs.Change.{withRelative, withCarriage}
-use Rattle.hpgl.specs.Rules.{done, refuse, freshSettings, freshCarriage, rebased, inRule, dfRule, goodCorners, setCorners, ipRule, scRule, setTurn, roRule, setWindow, iwRule, endRule}
+use Rattle.hpgl.specs.Rules.{done, refuse, freshSettings, freshCarriage, rebased, inRule, dfRule, goodCorners, setCorners, ipRule, scRule, setTurn, turnTo, roRule, setWindow, iwRule, endRule}
 use Rattle.hpgl.specs.Related.{Sound}
 use Rattle.hpgl.specs.PolygonLinked.{location-nearest}
 use Rattle.hpgl.specs.PinsPosition.{StandsFor, placed}
@@ -137,12 +137,13 @@ module _ (c : Core) (h : c .settings .turn < turnCount) where
       (pick (Settles SameLocation) (n .first ≡? n .second) (refuses SameLocation _ _)
       (pick (Settles SameLocation) (n .third ≡? n .fourth) (refuses SameLocation _ _) (λ e. unturned c h _ refl)))
 
+  settles-turn : (z : ℤ) → Settles SamePage (turnTo c z)
+  unfolding turnTo setTurn done
+  settles-turn z = whether (Settles SamePage) (ltb (findTurn z) turnCount) (λ t e. turned c _ (ltb-true (findTurn z) turnCount t)) (λ t. refuses SamePage _ _)
+
   settles-ro : (n : Numbers) → Settles SamePage (roRule c n)
-  unfolding roRule setTurn done
-  settles-ro n =
-      pick (Settles SamePage) (eqb (n .count) 0) (λ e. turned c _ (omega arith))
-      (pick (Settles SamePage) (rounded (n .first) ≡? pos 0) (λ e. turned c _ (omega arith))
-      (pick (Settles SamePage) (rounded (n .first) ≡? pos quarterAngle) (λ e. turned c _ (omega arith)) (refuses SamePage _ _)))
+  unfolding roRule
+  settles-ro n = pick (Settles SamePage) (eqb (n .count) 0) (settles-turn _) (settles-turn _)
 
   -- IN, DF, IP, SC and RO, carried out
   pub settled : {op : ℕ} (k : Rebasing op) (n : Numbers) → endRule c op n .number ≡ 0 → Rested (Stays k) c (endRule c op n .core)
@@ -213,12 +214,11 @@ pub record TurnedAlong (c d : Core) : Type 0 where
   pub limits : c .settings .window .set ≡ true → limits (d .settings) ≡ intersectionOf (c .settings .hard) (turnedBoxOf (c .settings .window .area) (d .settings .turn))
 
 pub turned-along : (c : Core) (n : Numbers) → roRule c n .number ≡ 0 → TurnedAlong c (roRule c n .core)
-unfolding roRule setTurn rebased done refuse limits limitsOf
-turned-along c n =
-    pick P (eqb (n .count) 0) (along 0) (pick P (rounded (n .first) ≡? pos 0) (along 0) (pick P (rounded (n .first) ≡? pos quarterAngle) (along 1) (λ e. absurd (omega arith))))
+unfolding roRule turnTo setTurn rebased done refuse limits limitsOf
+turned-along c n = pick P (eqb (n .count) 0) (along _) (along _)
   where
     P : Acted → Type 0
     P t = t .number ≡ 0 → TurnedAlong c (t .core)
 
-    along : (t : ℕ) → P (setTurn c t)
-    along t e = record { hard = refl; window = refl; limits = λ s. rw s refl }
+    along : (z : ℤ) → P (turnTo c z)
+    along z = pick P (ltb (findTurn z) turnCount) (λ e. record { hard = refl; window = refl; limits = λ s. rw s refl }) (λ e. absurd (omega arith))

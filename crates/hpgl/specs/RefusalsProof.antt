@@ -1,11 +1,10 @@
 -- The rules answer the numbers of Refusals.antt. Each test of a rule tells whether a need is met (`Tells`), and a rule is a chain of tests (`needs`).
 use mathlib.Core.Path.{_≡_, refl, sym, ap, _∙_, subst}
-use mathlib.Core.Logic.{_⊎_, inl, inr}
 use mathlib.Core.Bool.{Bool, true, false, cond, not, _&&_, true≢false}
 use Prim.Native.Nat.{ℕ, _+_, _≤_, _<_}
 use native.Mathlib.Omega.{arith}
-use borrow.Author.Tests.{eqb-true, eqb-false, leb-true, leb-false}
-use lib.Dec.{leb, eqb}
+use borrow.Author.Tests.{eqb-true, eqb-false, leb-true, leb-false, ltb-true, ltb-false}
+use lib.Dec.{leb, ltb, eqb}
 use lib.IntN.{ℤ, pos, negℤ, natAbs, _+ℤ_, _-ℤ_, _*ℤ_}
 use Rattle.exact.specs.Whole.{_≤ᶻ_, _<ᶻ_, is, Z, ord, _<?_, _≤?_, _≡?_, <?-true, <?-false, ≤?-true, ≤?-false, ≡?-true, ≡?-false}
 use Rattle.exact.specs.Fit.{Bd, abs}
@@ -22,6 +21,8 @@ use Rattle.mnemonics.specs.Among.{among, none, _⨾_, listed}
 use Rattle.mnemonics.specs.Said as said
 use Rattle.mnemonics.specs.Said.{known-said}
 use Rattle.plane.specs.declared.position.ExactPosition.{ExactPosition}
+use Rattle.plane.specs.Turn.{turnCount, findTurn}
+use Rattle.plane.specs.TurnsSaid.{Said, said-found}
 use Rattle.plane.specs.Position.{relativeOf, locationOf, inRangeOf}
 use Rattle.plane.specs.declared.position.Axis.{Axis}
 use Rattle.plane.specs.declared.circle.Way.{Way}
@@ -39,7 +40,7 @@ use Rattle.hpgl.specs.declared.Acted.{Acted}
 use Rattle.hpgl.specs.Numbers.{badLimits, outOfRange, polygonFull}
 use Rattle.hpgl.specs.Place.{point, rounded, axisX, axisY, location, inRange, relativePosition}
 use Rattle.hpgl.specs.Change.{withPolygon, withCarriage}
-use Rattle.hpgl.specs.Rules.{done, refuse, freshSettings, carried, nameRule, inRule, dfRule, int16, goodCorners, setCorners, ipRule, scRule, setTurn, roRule, setWindow, iwRule, setPen, spRule, chordAngle, moveTo, pointCost, storePoint, aimed, goTo, pairRule, begun, edgeTo, pm0, differ, closes, ended, leave, pm1In, pm1, pm2In, pm2, pmRule, epRule, rectangleTo, eaRule, erRule, circleFits, goodAngle, angleOr, circleWith, ciRule, goodSweep, sweptAngle, arcAngle, wayFrom, arc, follow, arcBy, arcAbout, aaRule, arRule, endRule, actOn}
+use Rattle.hpgl.specs.Rules.{done, refuse, freshSettings, carried, nameRule, inRule, dfRule, int16, goodCorners, setCorners, ipRule, scRule, setTurn, turnTo, roRule, setWindow, iwRule, setPen, spRule, chordAngle, moveTo, pointCost, storePoint, aimed, goTo, pairRule, begun, edgeTo, pm0, differ, closes, ended, leave, pm1In, pm1, pm2In, pm2, pmRule, epRule, rectangleTo, eaRule, erRule, circleFits, goodAngle, angleOr, circleWith, ciRule, goodSweep, sweptAngle, arcAngle, wayFrom, arc, follow, arcBy, arcAbout, aaRule, arRule, endRule, actOn}
 use Rattle.hpgl.specs.Machine.{rect, goodLimits, hardLimits, freshNumber}
 use Rattle.hpgl.specs.Related.{Sound, Spanned}
 use Rattle.hpgl.specs.Instruction.{Instruction, IN, DF, EP, IP, SC, IW, RO, SP, PM, CI, EA, ER, AA, AR, PU, PD, PA, PR}
@@ -308,24 +309,23 @@ module _ (c : Core) where
   of-asked n P p k h = subst P (sym (asked-one n k h)) p
 
   abbrev Turning : ℤ → Acted → Type 0
-  Turning k t = Needs ((k ≡ pos 0) ⊎ (k ≡ pos 90)) 3 (t .number) (t .number ≡ 0)
+  Turning k t = Needs (Said k) 3 (t .number) (t .number ≡ 0)
+
+  judged-turn : (z : ℤ) → Turning z (turnTo c z)
+  unfolding turnTo setTurn done refuse
+  judged-turn z = go (ltb (findTurn z) turnCount) refl
+    where
+      go : (b : Bool) → ltb (findTurn z) turnCount ≡ b → Turning z (cond b (setTurn c (findTurn z)) (refuse c outOfRange))
+      go true e = record { met = λ p. refl; unmet = λ f. absurd (f (said-found z .1 (ltb-true (findTurn z) turnCount e))) }
+      go false e = record { met = λ p. absurd (omega (arith, said-found z .0 p, ltb-false (findTurn z) turnCount e)); unmet = λ f. refl }
 
   judged-ro : (n : Numbers) → Turning (asked n) (roRule c n)
-  unfolding roRule setTurn done refuse
-  judged-ro n = by (eqb (n .count) 0) (rounded (n .first))
+  unfolding roRule
+  judged-ro n = by (eqb (n .count) 0)
     where
-      by : (b : Bool) (k : ℤ) → Turning (cond b (pos 0) k) (cond b (setTurn c 0) (cond (k ≡? pos 0) (setTurn c 0) (cond (k ≡? pos 90) (setTurn c 1) (refuse c outOfRange))))
-      by true k = record { met = λ p. refl; unmet = λ f. absurd (f (inl refl)) }
-      by false k = go (k ≡? pos 0) (same-tells k (pos 0)) (k ≡? pos 90) (same-tells k (pos 90))
-        where
-          go : (r : Bool) → Tells r (k ≡ pos 0) → (s : Bool) → Tells s (k ≡ pos 90) → Turning k (cond r (setTurn c 0) (cond s (setTurn c 1) (refuse c outOfRange)))
-          go true u s v = record { met = λ p. refl; unmet = λ f. absurd (f (inl (u .yes refl))) }
-          go false u true v = record { met = λ p. refl; unmet = λ f. absurd (f (inr (v .yes refl))) }
-          go false u false v = record { met = neither; unmet = λ f. refl }
-            where
-              neither : (k ≡ pos 0) ⊎ (k ≡ pos 90) → _≡_ {A = ℕ} 3 0
-              neither (inl e) = absurd (u .no refl e)
-              neither (inr e) = absurd (v .no refl e)
+      by : (b : Bool) → Turning (cond b (pos 0) (rounded (n .first))) (cond b (turnTo c (pos 0)) (turnTo c (rounded (n .first))))
+      by true = judged-turn (pos 0)
+      by false = judged-turn (rounded (n .first))
 
   abbrev Penned : ℤ → Acted → Type 0
   Penned k t = Needs (Between (pos 0) k (pos 8)) 3 (t .number) (t .number ≡ 0)

@@ -2,7 +2,7 @@
 -- Nothing here looks at the store or at the waiting work, and a refusal leaves the core as it is.
 use Prim.Native.Nat.{ℕ, _+_}
 use mathlib.Core.Bool.{Bool, true, false, cond, not, _&&_, _||_}
-use lib.Dec.{leb, eqb}
+use lib.Dec.{leb, ltb, eqb}
 use lib.IntN.{ℤ, pos, negsuc, negℤ, natAbs, _+ℤ_, _-ℤ_}
 use Rattle.exact.specs.Whole.{_≡?_, _≤?_}
 unfoldable pub use Rattle.exact.specs.Int16.{int16}
@@ -15,7 +15,7 @@ use Rattle.reader.specs.declared.Event.{Event}
 use Rattle.reader.specs.declared.Event.the-variants.{Nothing, Named, Pair, Ended, Refused}
 use Rattle.mnemonics.specs.Table.{IN, DF, EP, IP, SC, IW, RO, SP, PM, CI, EA, ER, PU, PD, PA, PR, AA, AR, knownInPolygon}
 use Rattle.plane.specs.declared.position.ExactPosition.{ExactPosition}
-use Rattle.plane.specs.Turn.{upright, quarter, turnedBackOf, orderedOf}
+use Rattle.plane.specs.Turn.{turnCount, upright, findTurn, turnedBackOf, orderedOf}
 use Rattle.plane.specs.Bounds.{mostAngle}
 use Rattle.plane.specs.Circle.{centreOf, pointFromCentre}
 use Rattle.plane.specs.Arc.{wayOf, wayFits, arcFits}
@@ -34,7 +34,7 @@ use Rattle.hpgl.specs.declared.Circle.{Circle}
 use Rattle.hpgl.specs.declared.Action.{Action}
 use Rattle.hpgl.specs.declared.Action.the-variants.{Keep, Line, Chords, Join, Outline, Rectangle}
 use Rattle.hpgl.specs.declared.Acted.{Acted}
-use Rattle.hpgl.specs.Numbers.{unknown, outOfRange, tooFar, polygonFull, polygonBytes, modeBytes, pointBytes, penBytes, rectangleBytes, mostPen, quarterAngle, leastAngle, defaultAngle, tenth, wholeTurn}
+use Rattle.hpgl.specs.Numbers.{unknown, outOfRange, tooFar, polygonFull, polygonBytes, modeBytes, pointBytes, penBytes, rectangleBytes, mostPen, leastAngle, defaultAngle, tenth, wholeTurn}
 use Rattle.hpgl.specs.Place.{point, rounded, axisX, axisY, location, inRange, absolutePosition, relativePosition, restAt, pagePoint}
 use Rattle.hpgl.specs.Change.{withPosition, withPen, withRelative, withPolygon, withSettings, withCarriage, withCorners, withScale, withTurn, withWindow}
 
@@ -169,13 +169,13 @@ scRule c n =
 unfoldable pub setTurn : Core → ℕ → Acted
 setTurn c t = done (rebased c (withTurn (c .settings) t)) Keep
 
--- "RO: 0 or 90; none is 0"
+-- a number of degrees is looked up in the table of turns: "RO with other values remains 3" (document 02, CR 3)
+unfoldable pub turnTo : Core → ℤ → Acted
+turnTo c z = cond (ltb (findTurn z) turnCount) (setTurn c (findTurn z)) (refuse c outOfRange)
+
+-- "RO: 0 or 90; none is 0"; "RO180 and RO270" (document 02, CR 3)
 unfoldable pub roRule : Core → Numbers → Acted
-roRule c n =
-    cond (eqb (n .count) 0) (setTurn c upright)
-    (cond (rounded (n .first) ≡? pos 0) (setTurn c upright)
-    (cond (rounded (n .first) ≡? pos quarterAngle) (setTurn c quarter)
-    (refuse c outOfRange)))
+roRule c n = cond (eqb (n .count) 0) (turnTo c (pos 0)) (turnTo c (rounded (n .first)))
 
 unfoldable pub setWindow : Core → Point → Point → Acted
 setWindow c p q =

@@ -4,7 +4,8 @@ use mathlib.Core.Path.{_≡_, refl, sym}
 use mathlib.Core.Bool.{Bool, true, false, not, _&&_}
 use Prim.Native.Nat.{ℕ, _≤_, _<_}
 use native.Mathlib.Omega.{arith}
-use lib.Dec.{eqb}
+use borrow.Author.Tests.{ltb-true}
+use lib.Dec.{ltb, eqb}
 use lib.IntN.{ℤ, pos, natAbs}
 use Rattle.exact.specs.Whole.{_≤?_, _<ᶻ_, _≡?_, ≡?-false, ord}
 use Rattle.exact.specs.Int16.{int16-size}
@@ -15,7 +16,7 @@ use Rattle.clip.specs.Reach.{SmallRect}
 use Rattle.reader.specs.declared.Numbers.{Numbers}
 use Rattle.reader.specs.Sizes.{Small}
 use Rattle.mnemonics.specs.Table.{PU, PD, PA, PR, knownInPolygon}
-use Rattle.plane.specs.Turn.{turnCount}
+use Rattle.plane.specs.Turn.{turnCount, findTurn}
 use Rattle.plane.specs.Bounds.{mostPoint}
 use Rattle.plane.specs.BoxLaws.{ordered-small}
 use Rattle.hpgl.specs.declared.Position.{Position}
@@ -24,10 +25,10 @@ use Rattle.hpgl.specs.declared.Window.{Window}
 use Rattle.hpgl.specs.declared.Settings.{Settings}
 use Rattle.hpgl.specs.declared.Carriage.{Carriage}
 use Rattle.hpgl.specs.declared.Core.{Core}
-use Rattle.hpgl.specs.Numbers.{unknown, outOfRange, mostPen, quarterAngle}
+use Rattle.hpgl.specs.Numbers.{unknown, outOfRange, mostPen}
 use Rattle.hpgl.specs.Place.{rounded, axisX, axisY, location, inRange, restAt}
 use Rattle.hpgl.specs.Change.{withSettings, withCarriage, withCorners, withScale, withTurn, withWindow, withRelative}
-use Rattle.hpgl.specs.Rules.{origin, unscaled, noWindow, freshSettings, noPolygon, freshCarriage, letters, nameRule, rebased, inRule, dfRule, int16, goodCorners, setCorners, ipRule, scRule, setTurn, roRule, setWindow, iwRule, setPen, spRule}
+use Rattle.hpgl.specs.Rules.{origin, unscaled, noWindow, freshSettings, noPolygon, freshCarriage, letters, nameRule, rebased, inRule, dfRule, int16, goodCorners, setCorners, ipRule, scRule, setTurn, turnTo, roRule, setWindow, iwRule, setPen, spRule}
 use Rattle.hpgl.specs.Valid.{ShortPoint, ShortRect, ValidRange, ValidSettings, Placed, KeptPosition, ValidPolygon, ValidCore, ValidActed}
 use Rattle.hpgl.specs.ValidFacts.{and-both, from-to, in-range-small, rest-placed, page-small, back-small, relative-valid}
 use Rattle.hpgl.specs.Cases.{never, pick, whether}
@@ -214,13 +215,13 @@ module _ {c : Core} (w : ValidCore c) (o : c .carriage .polygon .mode ≡ false)
   unfolding setTurn
   valid-turn t h = keeps c _ (rebased-valid c w o (with-turn (w .settings) h))
 
+  pub valid-to : (z : ℤ) → ValidActed c (turnTo c z)
+  unfolding turnTo
+  valid-to z = whether (ValidActed c) (ltb (findTurn z) turnCount) (λ e. valid-turn (findTurn z) (ltb-true (findTurn z) turnCount e)) (λ e. refuses c c outOfRange (omega arith) w)
+
   pub valid-ro : (n : Numbers) → ValidActed c (roRule c n)
   unfolding roRule
-  valid-ro n =
-      pick (ValidActed c) (eqb (n .count) 0) (valid-turn 0 (omega arith))
-      (pick (ValidActed c) (rounded (n .first) ≡? pos 0) (valid-turn 0 (omega arith))
-      (pick (ValidActed c) (rounded (n .first) ≡? pos quarterAngle) (valid-turn 1 (omega arith))
-      (refuses c c outOfRange (omega arith) w)))
+  valid-ro n = pick (ValidActed c) (eqb (n .count) 0) (valid-to _) (valid-to _)
 
   pub valid-window : (p q : Point) → ValidActed c (setWindow c p q)
   unfolding setWindow

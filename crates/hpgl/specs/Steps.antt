@@ -5,8 +5,8 @@ use mathlib.Core.Bool.{Bool, true, false, cond, not, _&&_}
 use mathlib.Core.List.{List, [], _∷_}
 use Prim.Native.Nat.{ℕ, zero, suc, _+_, _*_, _≤_, _<_}
 use native.Mathlib.Omega.{arith}
-use borrow.Author.Tests.{leb-true}
-use lib.Dec.{leb, eqb}
+use borrow.Author.Tests.{leb-true, ltb-true}
+use lib.Dec.{leb, ltb, eqb}
 use lib.IntN.{ℤ, pos, natAbs, +ℤ-idr, _-ℤ_}
 use Rattle.exact.specs.Whole.{_≡?_, _≤?_, is, Z, ≡?-false}
 use Rattle.clip.specs.Line.{nearest}
@@ -19,7 +19,7 @@ use Rattle.reader.specs.declared.Event.the-variants.{Nothing, Named, Pair, Ende
 use Rattle.mnemonics.specs.Table.{IN, DF, EP, IP, SC, IW, RO, SP, PM, CI, EA, ER, PU, PD, PA, PR, AA, AR, cellOf, knownInPolygon}
 use Rattle.plane.specs.Bounds.{mostAngle}
 use Rattle.plane.specs.Position.{axisOf, exactOf, relativeOf, locationOf}
-use Rattle.plane.specs.Turn.{turnCount, turnedOf, orderedOf}
+use Rattle.plane.specs.Turn.{turnCount, findTurn, turnedOf, orderedOf}
 use Rattle.plane.specs.declared.circle.Way.{Way}
 use Rattle.plane.specs.declared.circle.Centre.{Centre}
 use Rattle.plane.specs.Circle.{chordsOf, angleOf, rotatedOf, vertexPointOf, centreOf, pointFromCentre}
@@ -39,12 +39,12 @@ use Rattle.hpgl.specs.declared.Action.{Action}
 use Rattle.hpgl.specs.declared.Action.the-variants.{Keep, Line, Chords, Outline}
 use Rattle.hpgl.specs.declared.Acted.{Acted}
 use Rattle.hpgl.specs.declared.Work.the-variants as work
-use Rattle.hpgl.specs.Numbers.{polygonBytes, modeBytes, pointBytes, mostPen, quarterAngle, leastAngle, wholeTurn}
+use Rattle.hpgl.specs.Numbers.{polygonBytes, modeBytes, pointBytes, mostPen, leastAngle, wholeTurn}
 use Rattle.hpgl.specs.Place.{point, rounded, axisX, axisY, exactPosition, location, inRange, absolutePosition, relativePosition, pagePoint}
 use Rattle.hpgl.specs.Change.{withPosition, withPen, withPolygon, withSettings, withCarriage, withCorners, withScale, withTurn, withWindow}
 use Rattle.hpgl.specs.Ends as ends
 use Rattle.hpgl.specs.Ends.{Works, Rests, other, by-end}
-use Rattle.hpgl.specs.Rules.{done, refuse, unscaled, noWindow, freshSettings, noPolygon, freshCarriage, letters, nameRule, rebased, inRule, dfRule, goodCorners, setCorners, ipRule, scRule, setTurn, roRule, setWindow, iwRule, setPen, spRule, inked, spent, moveTo, pointCost, longer, edgeTo, storePoint, aimed, goTo, pairRule, begun, pm0, differ, closes, endedWith, ended, pm1In, pm1, leave, pm2In, pm2, pmRule, epRule, rectangular, rectangleTo, firstTwo, eaRule, erRule, circleFits, circle, circleWith, chordAngle, ciRule, sweptAngle, arcAngle, wayFrom, arc, follow, arcAbout, aaRule, arRule, endRule, actOn}
+use Rattle.hpgl.specs.Rules.{done, refuse, unscaled, noWindow, freshSettings, noPolygon, freshCarriage, letters, nameRule, rebased, inRule, dfRule, goodCorners, setCorners, ipRule, scRule, setTurn, turnTo, roRule, setWindow, iwRule, setPen, spRule, inked, spent, moveTo, pointCost, longer, edgeTo, storePoint, aimed, goTo, pairRule, begun, pm0, differ, closes, endedWith, ended, pm1In, pm1, leave, pm2In, pm2, pmRule, epRule, rectangular, rectangleTo, firstTwo, eaRule, erRule, circleFits, circle, circleWith, chordAngle, ciRule, sweptAngle, arcAngle, wayFrom, arc, follow, arcAbout, aaRule, arRule, endRule, actOn}
 use Rattle.hpgl.specs.Machine.{vertexIn, vertex, rectangleEdges, stored, queued}
 use Rattle.hpgl.specs.ExactModel.{ExactPolygon, ExactSegment, exactSegment, outline, vertexAt, arcVertex, path, lastOf, rectangle, polygonMode, afterEnd, polygonAfter, inkedOnly, move, arcMoves, instructed, added}
 use Rattle.hpgl.specs.Related.{Sound, Fit, edgesFrom, edgesOf, edgesAfter, allEdges, polygonEdges, some, Linked, turnedEdges, chordsFrom, view, onPage}
@@ -250,13 +250,13 @@ module _ (c : Core) (es : List Edge) (g : ExactPolygon) (f : Fit (c .settings) (
   unfolding setTurn rebased polygonAfter afterEnd added instructed
   keeps-turn n t h o = settles (Ended RO n) _ refl refl o refl (sound-turn (c .settings) t h (f .sound))
 
+  keeps-to : (n : Numbers) (z : ℤ) → c .carriage .polygon .mode ≡ false → Keeps c es g (Ended RO n) (turnTo c z)
+  unfolding turnTo
+  keeps-to n z o = when (ltb (findTurn z) turnCount) (λ e. keeps-turn n (findTurn z) (ltb-true (findTurn z) turnCount e) o) (λ e. stays (Ended RO n) _ 2 o refl refl)
+
   keeps-ro : (n : Numbers) → c .carriage .polygon .mode ≡ false → Keeps c es g (Ended RO n) (roRule c n)
   unfolding roRule
-  keeps-ro n o =
-      both (eqb (n .count) 0) (keeps-turn n 0 (omega arith) o)
-      (both (rounded (n .first) ≡? pos 0) (keeps-turn n 0 (omega arith) o)
-      (both (rounded (n .first) ≡? pos quarterAngle) (keeps-turn n 1 (omega arith) o)
-      (stays (Ended RO n) _ 2 o refl refl)))
+  keeps-ro n o = both (eqb (n .count) 0) (keeps-to n _ o) (keeps-to n _ o)
 
   keeps-window : (n : Numbers) (k : Window) → c .carriage .polygon .mode ≡ false →
       Keeps c es g (Ended IW n) (done (withSettings c (withWindow (c .settings) k)) Keep)

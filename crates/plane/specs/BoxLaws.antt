@@ -15,7 +15,7 @@ use Rattle.clip.specs.declared.Rect.{Rect}
 use Rattle.plane.specs.Turn.{turnCount, alongOf, turnedOf, lesserOf, greaterOf, orderedOf, turnedBoxOf, alongF, turnedExact}
 use Rattle.plane.specs.Fractions.{Same}
 use Rattle.plane.specs.FractionLaws.{back, inside-same, rounds-same, negF, inside-neg, inside-unneg, rounds-neg}
-use Rattle.plane.specs.TurnLaws.{Row, east, north, west, south, Quarter, none, one, two, three, quarter, row-x, row-y, coord, coord-is, turned-small}
+use Rattle.plane.specs.TurnLaws.{Row, east, north, west, south, Units, units, coord, coord-is, turned-small}
 
 -- ---- the lesser and the greater: one of the two, and which
 weak : {a b : ℤ} → a <ᶻ b → a ≤ᶻ b
@@ -161,12 +161,24 @@ forth north h = h .y
 forth west h = inside-neg (h .x)
 forth south h = inside-neg (h .y)
 
-home : {a b a' b' : ℤ} {r : Rect} {c : ℕ} {e : Exact} (q : Quarter a b a' b') →
-    Inside (lowest (row-x q) r) (highest (row-x q) r) c (coordF (row-x q) e) → Inside (lowest (row-y q) r) (highest (row-y q) r) c (coordF (row-y q) e) → Within r c e
-home none h k = record { x = h; y = k }
-home one h k = record { x = k; y = inside-unneg h }
-home two h k = record { x = inside-unneg h; y = inside-unneg k }
-home three h k = record { x = inside-unneg k; y = h }
+-- home again: a column tells which row has the coordinate
+home-x : {a b a' b' : ℤ} (r : Rect) (c : ℕ) (e : Exact) → Row a a' → (w : Row a b) (v : Row a' b') →
+    Inside (lowest w r) (highest w r) c (coordF w e) → Inside (lowest v r) (highest v r) c (coordF v e) → Inside (r .left) (r .right) c (e .x)
+home-x r c e east east v h k = h
+home-x r c e west west v h k = inside-unneg h
+home-x r c e north w east h k = k
+home-x r c e south w west h k = inside-unneg k
+
+home-y : {a b a' b' : ℤ} (r : Rect) (c : ℕ) (e : Exact) → Row b b' → (w : Row a b) (v : Row a' b') →
+    Inside (lowest w r) (highest w r) c (coordF w e) → Inside (lowest v r) (highest v r) c (coordF v e) → Inside (r .bottom) (r .top) c (e .y)
+home-y r c e east north v h k = h
+home-y r c e west south v h k = inside-unneg h
+home-y r c e north w north h k = k
+home-y r c e south w south h k = inside-unneg k
+
+home : {a b a' b' : ℤ} (r : Rect) (c : ℕ) (e : Exact) (u : Units a b a' b') →
+    Inside (lowest (u .row-x) r) (highest (u .row-x) r) c (coordF (u .row-x) e) → Inside (lowest (u .row-y) r) (highest (u .row-y) r) c (coordF (u .row-y) e) → Within r c e
+home r c e u h k = record { x = home-x r c e (u .column-x) (u .row-x) (u .row-y) h k; y = home-y r c e (u .column-y) (u .row-x) (u .row-y) h k }
 
 moved : {lo lo' hi hi' : ℤ} {c : ℕ} {f : Frac} → lo ≡ lo' → hi ≡ hi' → Inside lo hi c f → Inside lo' hi' c f
 moved {lo' = lo'} {hi = hi} {c = c} {f = f} d e h = subst (λ (z : ℤ). Inside lo' z c f) e (subst (λ (z : ℤ). Inside z hi c f) d h)
@@ -185,9 +197,9 @@ inward {r = r} e w o h = let k = edges w r o in inside-same (back (row-same w e)
 pub turned-within : (r : Rect) (c : ℕ) (e : Exact) (t : ℕ) → t < turnCount → Ordered r → Within r c e ↔ Within (turnedBoxOf r t) c (turnedExact e t)
 unfolding turnedBoxOf orderedOf turnedOf turnedExact
 turned-within r c e t l o =
-    let q = quarter t l in (
-      (λ h. record { x = outward (row-x q) o h; y = outward (row-y q) o h }),
-      (λ h. home q (inward e (row-x q) o (h .x)) (inward e (row-y q) o (h .y))),
+    let u = units t l in (
+      (λ h. record { x = outward (u .row-x) o h; y = outward (u .row-y) o h }),
+      (λ h. home r c e u (inward e (u .row-x) o (h .x)) (inward e (u .row-y) o (h .y))),
     )
 
 -- ---- what rounds stays so. A half that went to the larger number may now lie at the smaller: the turn comes after the rounding
@@ -202,4 +214,4 @@ row-rounds {a} {b} e p w h = subst (Rounds (alongF a b e)) (sym (coord-is w (p .
 
 pub turned-rounds : (e : Exact) (p : Point) (t : ℕ) → t < turnCount → RoundsTo e p → RoundsTo (turnedExact e t) (turnedOf p t)
 unfolding turnedExact turnedOf
-turned-rounds e p t l h = let q = quarter t l in record { x = row-rounds e p (row-x q) h; y = row-rounds e p (row-y q) h }
+turned-rounds e p t l h = let u = units t l in record { x = row-rounds e p (u .row-x) h; y = row-rounds e p (u .row-y) h }

@@ -6,6 +6,7 @@ use lib.IntN.{ℤ, pos, negsuc}
 use Rattle.exact.specs.Whole.{_<?_}
 use Rattle.exact.specs.Divide.{nearestDiv}
 use Rattle.clip.specs.declared.Point.{Point}
+use Rattle.clip.specs.declared.Rect.{Rect}
 use Rattle.sines.specs.Table.{sines, sineAt}
 use Rattle.sines.specs.Angle.{sineIn, restOf, sineOf, cosineOf}
 use Rattle.plane.specs.declared.position.Axis.{Axis}
@@ -81,10 +82,15 @@ pub turned-half : turnedOf (record { x = locationOf plain (absoluteOf plain (pos
 unfolding axisOf absoluteOf locationOf nearestDiv turnedOf turnOf turns
 turned-half = refl
 
--- A turned window is put in order again: IW0,0,5,10;RO90.
-pub turned-window : turnedBoxOf (record { left = pos 0; bottom = pos 0; right = pos 5; top = pos 10 }) 1 ≡ record { left = negsuc 9; bottom = pos 0; right = pos 0; top = pos 5 }
+-- A turned window is put in order again: IW0,0,5,10 and RO90, RO180, RO270.
+abbrev window : ℕ → Rect
+window t = turnedBoxOf (record { left = pos 0; bottom = pos 0; right = pos 5; top = pos 10 }) t
+
+pub turned-window : (window 1 ≡ record { left = negsuc 9; bottom = pos 0; right = pos 0; top = pos 5 }) ×
+    (window 2 ≡ record { left = negsuc 4; bottom = negsuc 9; right = pos 0; top = pos 0 }) ×
+    (window 3 ≡ record { left = pos 0; bottom = negsuc 4; right = pos 10; top = pos 0 })
 unfolding turnedBoxOf orderedOf lesserOf greaterOf turnedOf turnOf turns _<?_
-turned-window = refl
+turned-window = (refl, refl, refl)
 
 -- A vertex is rounded once: CI.5,90 at (0,0) has the vertices (1,0), (0,1), (0,0), (0,0), and (1,0) again.
 abbrev small : ℕ → Point

@@ -7,6 +7,7 @@ pub mod Arc
 pub mod Limits
 pub mod FractionLaws
 pub mod TurnLaws
+pub mod TurnsSaid
 pub mod BoxLaws
 pub mod PositionLaws
 pub mod CircleLaws

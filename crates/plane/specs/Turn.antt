@@ -1,36 +1,54 @@
 -- The turn of the paper: "The quarter turn is a two by two table of whole numbers: point (x, y) goes to page (−y, x)."
--- Definitions only: TurnLaws.antt and BoxLaws.antt have what follows of them.
+-- Document 02, CR 3: "RO180 and RO270. Page point (−x, −y) and (y, −x) are the new images."
+-- Definitions only: TurnLaws.antt, BoxLaws.antt and TurnsSaid.antt have what follows of them.
 use mathlib.Core.Bool.{cond}
-use mathlib.Core.List.{List, [], _∷_}
-use Prim.Native.Nat.{ℕ}
+use mathlib.Core.List.{List, [], _∷_, map}
+use Prim.Native.Nat.{ℕ, zero, suc, _+_}
 use lib.IntN.{ℤ, pos, negsuc, _+ℤ_, _*ℤ_}
 use lib.ListN.{getD}
-use Rattle.exact.specs.Whole.{_<?_}
+use Rattle.exact.specs.Whole.{_<?_, _≡?_}
 use Rattle.clip.specs.Line.{Frac, Exact}
 use Rattle.plane.specs.Fractions.{timesF, sumF}
 use Rattle.clip.specs.declared.Point.{Point}
 use Rattle.clip.specs.declared.Rect.{Rect}
 use Rattle.plane.specs.declared.turn.Rows.{Rows}
 
--- the tables, row by row: `upright` leaves a point in its place, `quarter` is the quarter turn
-unfoldable pub turns : List (List (List ℤ))
+-- a turn: the number by which RO asks for it, in degrees, and its table, row by row
+pub record Turn : Type 0 where
+  pub angle : ℤ
+  pub table : List (List ℤ)
+
+-- the table of turns. A turn is its place in it; another would be another row
+unfoldable pub turns : List Turn
 turns =
-    ((pos 1 ∷ pos 0 ∷ []) ∷ (pos 0 ∷ pos 1 ∷ []) ∷ []) ∷
-    ((pos 0 ∷ negsuc 0 ∷ []) ∷ (pos 1 ∷ pos 0 ∷ []) ∷ []) ∷
+    (record { angle = pos 0; table = (pos 1 ∷ pos 0 ∷ []) ∷ (pos 0 ∷ pos 1 ∷ []) ∷ [] }) ∷
+    (record { angle = pos 90; table = (pos 0 ∷ negsuc 0 ∷ []) ∷ (pos 1 ∷ pos 0 ∷ []) ∷ [] }) ∷
+    (record { angle = pos 180; table = (negsuc 0 ∷ pos 0 ∷ []) ∷ (pos 0 ∷ negsuc 0 ∷ []) ∷ [] }) ∷
+    (record { angle = pos 270; table = (pos 0 ∷ pos 1 ∷ []) ∷ (negsuc 0 ∷ pos 0 ∷ []) ∷ [] }) ∷
     []
 
+abbrev pub turnCount : ℕ
+turnCount = 4
+
+-- "RO 0": a point stays in its place
 abbrev pub upright : ℕ
 upright = 0
 
-abbrev pub quarter : ℕ
-quarter = 1
+-- the number of turn t
+unfoldable pub degreesOf : ℕ → ℤ
+degreesOf t = getD (map (λ (r : Turn). r .angle) turns) t (pos 0)
 
-abbrev pub turnCount : ℕ
-turnCount = 2
+-- the turn that has the number z, of n from place t on; the place after them if none has
+unfoldable pub turnFrom : ℤ → ℕ → ℕ → ℕ
+turnFrom z t zero = t
+turnFrom z t (suc n) = cond (degreesOf t ≡? z) t (turnFrom z (t + 1) n)
+
+unfoldable pub findTurn : ℤ → ℕ
+findTurn z = turnFrom z 0 turnCount
 
 -- the table of turn t
 abbrev pub tableOf : ℕ → List (List ℤ)
-tableOf t = getD turns t []
+tableOf t = getD (map (λ (r : Turn). r .table) turns) t []
 
 -- the number in its row i and column j
 unfoldable pub turnOf : ℕ → ℕ → ℕ → ℤ

@@ -1,15 +1,45 @@
-// The turn of the paper: an index into a table of two by two tables of whole numbers.
+// The turn of the paper: an index into a table of two by two tables of whole numbers, each beside the number by which RO asks for it.
 ghost use mathlib.Core.Path.{_≡_};
 ghost use Prim.Native.Nat.{_<_};
 ghost use Rattle.exact.specs.Fit.{Bd};
 ghost use Rattle.clip.specs.Reach.{SmallPoint, SmallRect};
-ghost use Rattle.plane.specs.Turn.{turnCount, tableOf, alongOf, rowsOf, turnedBy, turnedOf, turnedBackOf, rebasedOf, lesserOf, greaterOf, orderedOf, turnedBoxOf};
+ghost use Rattle.plane.specs.Turn.{turnCount, degreesOf, findTurn, tableOf, alongOf, rowsOf, turnedBy, turnedOf, turnedBackOf, rebasedOf, lesserOf, greaterOf, orderedOf, turnedBoxOf};
 ghost use Rattle.plane.specs.Bounds.{UnitRows};
 use clip::Point;
 use clip::Rect;
 
-// Turn 0 leaves a point in its place, turn 1 is the quarter turn.
-const TURNS: [[[i64; 2]; 2]; 2] = [[[1, 0], [0, 1]], [[0, -1], [1, 0]]];
+pub const TURN_COUNT: usize = 4;
+
+// RO's number for each turn, and its table: the definition has the two in one row.
+const DEGREES: [i64; TURN_COUNT] = [0, 90, 180, 270];
+
+const TURNS: [[[i64; 2]; 2]; TURN_COUNT] = [
+    [[1, 0], [0, 1]],
+    [[0, -1], [1, 0]],
+    [[-1, 0], [0, -1]],
+    [[0, 1], [-1, 0]],
+];
+
+fn degrees_of(turn: usize) -> i64
+    requires { ⌜ turn < turnCount ⌝ }
+    ensures { λ r. ⌜ r ≡ degreesOf turn ⌝ }
+{
+    DEGREES[turn]
+}
+
+// The turn that RO asks for by a number; TURN_COUNT if none has it.
+pub fn find_turn(degrees: i64) -> usize
+    ensures { λ r. ⌜ r ≡ findTurn degrees ⌝ }
+{
+    let mut turn: usize = 0;
+    while turn < TURN_COUNT {
+        if degrees_of(turn) == degrees {
+            return turn;
+        }
+        turn += 1;
+    }
+    TURN_COUNT
+}
 
 // A turn's table, looked up once for many points: its first row is xx, xy.
 pub struct Rows {
@@ -67,7 +97,10 @@ pub fn turned(p: Point, turn: usize) -> Point
     requires { ⌜ SmallPoint p × (turn < turnCount) ⌝ }
     ensures { λ r. ⌜ r ≡ turnedOf p turn ⌝ }
 {
-    turned_by(rows_of(turn), p)
+    let t = table_of(turn);
+    let x = along(t[0][0], t[0][1], p);
+    let y = along(t[1][0], t[1][1], p);
+    Point { x: x, y: y }
 }
 
 // The point of a page point: by the transposed table.

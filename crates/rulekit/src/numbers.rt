@@ -26,10 +26,8 @@ pub const PEN_BYTES: u16 = 2;
 
 pub const RECTANGLE_BYTES: u16 = 49;
 
-// The last pen, and the angle of RO that is a quarter turn.
+// The last pen.
 pub const MOST_PEN: i64 = 8;
-
-pub const QUARTER_ANGLE: i64 = 90;
 
 // The chord angle, in tenths of a degree: its range, and what it is where none is given.
 pub const LEAST_ANGLE: i64 = 5;

@@ -9,7 +9,7 @@ use rows::put_row;
 use rows::row_at;
 
 // The version of the form.
-pub const VERSION: i64 = 3;
+pub const VERSION: i64 = 4;
 
 // The numbers in a row, and the rows after the header.
 const ROW: usize = 5;

@@ -29,6 +29,8 @@ use hpgl::State;
 use hpgl::Store;
 use hpgl::Window;
 use hpgl::Work;
+use plane::turn::TURN_COUNT;
+use plane::turn::find_turn;
 use plane::turn::ordered;
 use plane::turn::turned_back;
 use reader::Coordinates;
@@ -48,7 +50,6 @@ use rulekit::changes::with_turn;
 use rulekit::changes::with_window;
 use rulekit::numbers::MOST_PEN;
 use rulekit::numbers::OUT_OF_RANGE;
-use rulekit::numbers::QUARTER_ANGLE;
 use rulekit::places::absolute_position;
 use rulekit::places::located;
 use rulekit::places::page_point;
@@ -56,10 +57,8 @@ use rulekit::places::reachable;
 use rulekit::places::rest_at;
 use rulekit::places::rounded;
 
-// The turns, by their places in the table.
+// The turn that is none, by its place in the table.
 const UPRIGHT: usize = 0;
-
-const QUARTER: usize = 1;
 
 // Pens are numbered from 0, which paints nothing.
 const NO_PEN: u8 = 0;
@@ -410,22 +409,27 @@ fn set_turn(c: Core, turn: usize) -> Acted
     settled(c, with_turn(settings, turn))
 }
 
+// The turn of so many degrees, if the table of turns has one.
+fn turn_to(c: Core, degrees: i64) -> Acted
+    requires { ⌜ ValidCore c ⌝ }
+    ensures { λ r. ⌜ r ≡ R.turnTo c degrees ⌝ }
+{
+    let turn = find_turn(degrees);
+    if turn < TURN_COUNT {
+        return set_turn(c, turn);
+    }
+    refuse(c, OUT_OF_RANGE)
+}
+
 // RO: no number is 0.
 pub fn ro_rule(c: Core, n: Numbers) -> Acted
     requires { ⌜ ValidCore c × Small n ⌝ }
     ensures { λ r. ⌜ r ≡ R.roRule c n ⌝ }
 {
     if n.count == 0 {
-        return set_turn(c, UPRIGHT);
+        return turn_to(c, 0);
     }
-    let angle = rounded(n.first);
-    if angle == 0 {
-        return set_turn(c, UPRIGHT);
-    }
-    if angle == QUARTER_ANGLE {
-        return set_turn(c, QUARTER);
-    }
-    refuse(c, OUT_OF_RANGE)
+    turn_to(c, rounded(n.first))
 }
 
 // A window of two corners, not turned.

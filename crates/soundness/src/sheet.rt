@@ -2,7 +2,11 @@
 ghost use mathlib.Core.Path.{_≡_};
 ghost use Rattle.wellformed.specs.Sound as S;
 use super::tests::between;
+use plane::turn::TURN_COUNT;
 use rows::Row;
+
+// The last turn of the table.
+const LAST_TURN: i64 = TURN_COUNT as i64 - 1;
 
 fn limits_sound(r: Row) -> bool
     ensures { λ t. ⌜ t ≡ S.limitsSound r ⌝ }
@@ -19,7 +23,7 @@ fn limits_sound(r: Row) -> bool
         b: 32_768,
         c: 32_768,
         d: 32_768,
-        e: 1,
+        e: LAST_TURN,
     };
     if between(low, r, high) {
         if r.a < r.c {

@@ -16,7 +16,7 @@ use Rattle.seal.specs.Light.{rowCount, headCount, mostAt, LightRow, Light}
 use Rattle.hpgl.specs.ValidFacts.{and-both}
 use Rattle.saved.specs.Places.{limitsPlace, cornersPlace, scalePlace, windowPlace, positionPlace, penPlace, polygonPlace, firstPlace, savedPlace, workPlace, acrossPlace, alongPlace, startPlace, edgesPlace}
 use Rattle.saved.specs.Saved.{stateNumbers, positionOf, circleOf, settingsAt}
-use Rattle.wellformed.specs.Sound.{betweenOf, fourLow, fourHigh, fiveOf, blankSound, last, placeSound, numbersSound, numberSound, readerSound, limitsSound, cornersSound, scaleSound, boxSound, settingsSound, placedOf, positionLow, positionHigh, positionSound, penSound, polygonSound, keptSound, positionsSound, partsSound, carriageSound, knownSound, roundOf, centreLow, centreHigh, startLow, startHigh, startSound, ringSound, chordsSound, blanksSound, lineSound, outlineSound, workSound, inkedSound, edgesSound, soundOf}
+use Rattle.wellformed.specs.Sound.{betweenOf, fourLow, fourHigh, fiveOf, blankSound, last, placeSound, numbersSound, numberSound, readerSound, lastTurn, limitsSound, cornersSound, scaleSound, boxSound, settingsSound, placedOf, positionLow, positionHigh, positionSound, penSound, polygonSound, keptSound, positionsSound, partsSound, carriageSound, knownSound, roundOf, centreLow, centreHigh, startLow, startHigh, startSound, ringSound, chordsSound, blanksSound, lineSound, outlineSound, workSound, inkedSound, edgesSound, soundOf}
 use Rattle.wellformed.specs.RowTests.{between-true}
 
 -- the largest number of the rows before the edges
@@ -82,7 +82,7 @@ number-light r e = light most (fiveOf 0 0 0 0 0) r (fiveOf 1 1 1 7 3276800009) r
 
 limits-light : (r : Row) → limitsSound r ≡ true → LightRow most r
 unfolding limitsSound
-limits-light r e = light most (fourLow 32768 0) r (fourHigh 32768 1) refl refl (and-both (betweenOf (fourLow 32768 0) r (fourHigh 32768 1)) _ e .0)
+limits-light r e = light most (fourLow 32768 0) r (fourHigh 32768 lastTurn) refl refl (and-both (betweenOf (fourLow 32768 0) r (fourHigh 32768 lastTurn)) _ e .0)
 
 corners-light : (r : Row) → cornersSound r ≡ true → LightRow most r
 unfolding cornersSound

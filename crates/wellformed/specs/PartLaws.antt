@@ -29,7 +29,7 @@ use Rattle.hpgl.specs.Valid.{ValidSettings, Placed, KeptPosition, ValidPolygon,
 use Rattle.hpgl.specs.ValidFacts.{and-both, axis-bounds-x, axis-bounds-y, placed-locatable, placed-kept, located-placed}
 use Rattle.saved.specs.SavedReader.{modeTag, modeLetter, modeOf, placeRow, numbersRow, numbersOf, numberRow, numberOf}
 use Rattle.saved.specs.Saved.{flagIn, smallIn, limitsRow, cornersRow, scaleRow, windowRow, boxOf, fromOf, toOf, rangeX, rangeY, settingsOf, positionRow, penRow, polygonRow, positionOf, penOf, pm0Of, polygonOf, carriageOf}
-use Rattle.wellformed.specs.Sound.{betweenOf, fourLow, fourHigh, fiveOf, last, placeSound, numbersSound, numberSound, limitsSound, cornersSound, scaleSound, boxSound, settingsSound, roomOf, locatableOf, placedOf, positionLow, positionHigh, positionSound, penSound, polygonSound, keptSound, positionsSound, partsSound, carriageSound}
+use Rattle.wellformed.specs.Sound.{betweenOf, fourLow, fourHigh, fiveOf, last, placeSound, numbersSound, numberSound, lastTurn, limitsSound, cornersSound, scaleSound, boxSound, settingsSound, roomOf, locatableOf, placedOf, positionLow, positionHigh, positionSound, penSound, polygonSound, keptSound, positionsSound, partsSound, carriageSound}
 use Rattle.wellformed.specs.RowTests.{both, Between, between-true, between-of, bd-of, bd-low, bd-high, Four, four-true, four-of, five-of, zero-same, flag-same, small-is, small-same, small-most, place-is, place-same, flag-bounds, flag-zero}
 
 -- ---- the reader
@@ -143,16 +143,16 @@ unfolding boxSound
 box-of r f = four-of 1000000 0 1 r f
 
 record LimitsLaw (r : Row) : Type 0 where
-  four : Four 32768 0 1 r
+  four : Four 32768 0 lastTurn r
   across : r .a <ᶻ r .c
   upward : r .b <ᶻ r .d
 
 limits-law : (r : Row) → limitsSound r ≡ true → LimitsLaw r
 unfolding limitsSound
 limits-law r t =
-    let b = and-both (betweenOf (fourLow 32768 0) r (fourHigh 32768 1)) ((r .a <? r .c) && (r .b <? r .d)) t in
+    let b = and-both (betweenOf (fourLow 32768 0) r (fourHigh 32768 lastTurn)) ((r .a <? r .c) && (r .b <? r .d)) t in
     let o = and-both (r .a <? r .c) (r .b <? r .d) (b .1) in
-    record { four = four-true 32768 0 1 r (b .0); across = <?-true (r .a) (r .c) (o .0); upward = <?-true (r .b) (r .d) (o .1) }
+    record { four = four-true 32768 0 lastTurn r (b .0); across = <?-true (r .a) (r .c) (o .0); upward = <?-true (r .b) (r .d) (o .1) }
 
 -- two tests that two pairs differ
 differ : (s t : Bool) → cond s false (cond t false true) ≡ true → (s ≡ false) × (t ≡ false)
@@ -239,12 +239,12 @@ settings-law l c s w t =
 pub settings-of : (s : Settings) → ValidSettings s → settingsSound (limitsRow (s .hard) (s .turn)) (cornersRow (s .p1) (s .p2)) (scaleRow (s .scale)) (windowRow (s .window)) ≡ true
 unfolding settingsSound limitsSound cornersSound scaleSound limitsRow cornersRow scaleRow windowRow flagNumber _≡?_
 settings-of s v =
-    both (both (four-of 32768 0 1 _ hard) (both (lt-<? (v .hard-x)) (lt-<? (v .hard-y))))
+    both (both (four-of 32768 0 lastTurn _ hard) (both (lt-<? (v .hard-x)) (lt-<? (v .hard-y))))
     (both (both (four-of 32768 0 0 _ points) (differ-of (ne-≡? (v .apart-x)) (ne-≡? (v .apart-y))))
     (both (both (four-of 327680000 0 1 _ ranges) (on (s .scale .on) (v .x .differ) (v .y .differ)))
     (box-of _ window)))
   where
-    hard : Four 32768 0 1 (limitsRow (s .hard) (s .turn))
+    hard : Four 32768 0 lastTurn (limitsRow (s .hard) (s .turn))
     hard =
         let e = place-is (s .turn) (omega (arith, v .turn)) in
         record { a = v .hard .left; b = v .hard .bottom; c = v .hard .right; d = v .hard .top; low = rw e (omega (arith, ord)); high = rw e (omega (arith, ord, v .turn)) }

@@ -12,6 +12,7 @@ use Rattle.plane.specs.declared.position.ExactPosition.{ExactPosition}
 use Rattle.plane.specs.Bounds.{mostProduct}
 use Rattle.plane.specs.Position.{inRangeOf}
 use Rattle.plane.specs.Arc.{fitsFrom}
+use Rattle.plane.specs.Turn.{turnCount}
 use Rattle.hpgl.specs.declared.Position.{Position}
 use Rattle.hpgl.specs.declared.Settings.{Settings}
 use Rattle.hpgl.specs.declared.Circle.{Circle}
@@ -70,8 +71,12 @@ readerSound place numbers number = placeSound place && (numbersSound numbers && 
 
 -- ---- the settings
 
+-- the last turn of the table
+abbrev pub lastTurn : ℕ
+lastTurn = turnCount - 1
+
 unfoldable pub limitsSound : Row → Bool
-limitsSound r = betweenOf (fourLow 32768 0) r (fourHigh 32768 1) && ((r .a <? r .c) && (r .b <? r .d))
+limitsSound r = betweenOf (fourLow 32768 0) r (fourHigh 32768 lastTurn) && ((r .a <? r .c) && (r .b <? r .d))
 
 unfoldable pub cornersSound : Row → Bool
 cornersSound r = betweenOf (fourLow 32768 0) r (fourHigh 32768 0) && cond (r .a ≡? r .c) false (cond (r .b ≡? r .d) false true)

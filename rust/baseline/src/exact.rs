@@ -111,6 +111,8 @@ fn reachable(spot: &Spot) -> bool {
 type Table = [[i128; 2]; 2];
 const STRAIGHT: Table = [[1, 0], [0, 1]];
 const QUARTER: Table = [[0, -1], [1, 0]];
+const HALF: Table = [[-1, 0], [0, -1]];
+const THREE_QUARTERS: Table = [[0, 1], [-1, 0]];
 
 fn turned(table: &Table, p: &Spot) -> Spot {
     [0, 1].map(|row| p[0].times(table[row][0]).plus(p[1].times(table[row][1])))
@@ -585,6 +587,8 @@ impl Exact {
                 let table = match rounded(first) {
                     0 => STRAIGHT,
                     90 => QUARTER,
+                    180 => HALF,
+                    270 => THREE_QUARTERS,
                     _ => return Err(3),
                 };
                 let page = turned(&self.turn, &spot(&location(&self.position)));

@@ -1,4 +1,4 @@
-//! Rounding, scaling, the quarter turn and the clip, all in whole numbers.
+//! Rounding, scaling, the turns and the clip, all in whole numbers.
 //!
 //! Magnitudes: locations are within ±1,000,000, the products of the clip below 1e13, an
 //! offset times its span below 1.4e15. All of it fits i64 with room to spare.
@@ -241,6 +241,10 @@ pub enum Turn {
     None,
     /// RO 90.
     Quarter,
+    /// RO 180.
+    Half,
+    /// RO 270.
+    ThreeQuarters,
 }
 
 impl Turn {
@@ -249,6 +253,8 @@ impl Turn {
         match self {
             Turn::None => [[1, 0], [0, 1]],
             Turn::Quarter => [[0, -1], [1, 0]],
+            Turn::Half => [[-1, 0], [0, -1]],
+            Turn::ThreeQuarters => [[0, 1], [-1, 0]],
         }
     }
 

@@ -419,6 +419,8 @@ impl Machine {
                 let turn = match round_number(if count > 0 { n[0] } else { 0 }) {
                     0 => Turn::None,
                     90 => Turn::Quarter,
+                    180 => Turn::Half,
+                    270 => Turn::ThreeQuarters,
                     _ => return Err(number::RANGE),
                 };
                 self.set_turn(turn);

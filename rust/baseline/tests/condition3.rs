@@ -84,7 +84,7 @@ impl Dice {
                 let count = if self.one_in(3) { 0 } else { 4 };
                 format!("IW{}", self.numbers(count, size))
             }
-            7 => format!("RO{}", self.pick(&["", "0", "90", "90", "90.4", "45"])),
+            7 => format!("RO{}", self.pick(&["", "0", "90", "180", "270", "269.5", "90.4", "45"])),
             8 => "EP".into(),
             9 => format!("CI{},{}", self.number(size), 5 + self.below(120)),
             10 => format!("EA{}", self.numbers(2, size)),
@@ -309,7 +309,7 @@ fn extremes() {
         for name in ["PA", "PR", "PD", "PU"] {
             moves += &format!("{name}{pair};CI32767.9999,.5;CI-32768,119.9;CI.0001,90;");
             moves += &format!("EA{pair};ER{pair};PM0;PD{pair},{pair};PM1;PR{pair};PM2;EP;");
-            moves += &format!("IW{pair},{pair};RO90;");
+            moves += &format!("IW{pair},{pair};RO{};", [0, 90, 180, 270][moves.len() % 4]);
         }
     }
     let mut tally = [0usize; 32];

@@ -82,7 +82,7 @@ pub fn hunt<P: Partner>(
     seed: u64,
     bytes: usize,
 ) -> Result<(usize, Tally), Box<Finding>> {
-    let mut dice = Dice::new(seed.wrapping_mul(8).wrapping_add(family as u64));
+    let mut dice = Dice::new(seed.wrapping_mul(16).wrapping_add(family as u64));
     let mut tally = Tally::default();
     let (mut generated, mut streams) = (0, 0);
     while generated < bytes {

@@ -30,7 +30,7 @@ pub struct Load {
 }
 
 /// Every load.
-pub const LOADS: [Load; 9] = [
+pub const LOADS: [Load; 10] = [
     Load { name: "pd", about: "PD moves", setup: "IN;SP1;", size: MOVES, part: pen_down },
     Load { name: "pu", about: "PU moves", setup: "IN;SP1;", size: MOVES, part: pen_up },
     Load {
@@ -40,6 +40,7 @@ pub const LOADS: [Load; 9] = [
         size: MOVES,
         part: six_decimals,
     },
+    Load { name: "turned", about: "turned moves", setup: "IN;SP1;PD;", size: MOVES, part: turned },
     Load {
         name: "relative",
         about: "relative chains under SC",
@@ -100,6 +101,12 @@ fn pen_up(dice: &mut Dice) -> String {
 fn six_decimals(dice: &mut Dice) -> String {
     let (x, y) = (dice.within(-9_999, 9_999), dice.within(-6_999, 6_999));
     format!("PD{x}.{:06},{y}.{:06};", dice.below(1_000_000), dice.below(1_000_000))
+}
+
+/// Eight moves under each of the half and the three-quarter turn.
+fn turned(dice: &mut Dice) -> String {
+    let mut eight = || (0..8).map(|_| format!("PD{};", pair(dice))).collect::<String>();
+    format!("RO180;{}RO270;{}", eight(), eight())
 }
 
 /// Eight small moves from a place within the scale.

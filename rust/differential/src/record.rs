@@ -1,8 +1,8 @@
 //! Every answer of a library on fixed streams, as a line for each stream, so that two versions of
 //! it can be compared though no program can link both.
 //!
-//! The streams are without what a change is about ([`Without`]): whether a library knows arcs, or
-//! rounds the fifth decimal, makes no difference to them.
+//! The streams are without what a change is about ([`Without`]): whether a library knows arcs, rounds
+//! the fifth decimal, or turns by more than a quarter, makes no difference to them.
 
 use crate::dice::Dice;
 use crate::partner::{Partner, Record};
@@ -12,10 +12,12 @@ use baseline::{number, Drawn, Fed, Look};
 /// What the streams of a record are without.
 #[derive(Clone, Copy, PartialEq, Eq, Debug)]
 pub enum Without {
-    /// AA and AR are made names that are not known, and there are none of the two last families.
+    /// AA and AR are made names that are not known, and there are none of the families from arcs on.
     Arcs,
-    /// No number has more than four decimals.
+    /// No number has more than four decimals, and there are no turns by more than a quarter.
     FifthDecimals,
+    /// No RO has a number that rounds to 180 or 270.
+    FurtherTurns,
 }
 
 impl Without {
@@ -23,7 +25,8 @@ impl Without {
     pub fn families(self) -> &'static [Family] {
         match self {
             Without::Arcs => &Family::ALL[..6],
-            Without::FifthDecimals => &Family::ALL,
+            Without::FifthDecimals => &Family::ALL[..8],
+            Without::FurtherTurns => &Family::ALL,
         }
     }
 
@@ -32,6 +35,7 @@ impl Without {
         match self {
             Without::Arcs => without_arcs(stream),
             Without::FifthDecimals => four_decimals(stream),
+            Without::FurtherTurns => quarter_turns(stream),
         }
     }
 }
@@ -63,6 +67,27 @@ pub fn four_decimals(mut stream: Vec<u8>) -> Vec<u8> {
         decimals.is_none_or(|count| count <= 4)
     });
     stream
+}
+
+/// The stream with each RO whose number is near 180 or 270 made a name that is not known. Near is what
+/// rounds to it, and a little beside: numbers of any length are read as floats.
+pub fn quarter_turns(mut stream: Vec<u8>) -> Vec<u8> {
+    for at in 1..stream.len() {
+        let name = [stream[at - 1], stream[at]].map(|byte| byte.to_ascii_uppercase());
+        if name == *b"RO" && is_further_turn(&stream[at + 1..]) {
+            stream[at] = b'Z';
+        }
+    }
+    stream
+}
+
+/// Whether the first number after a name is near 180 or 270.
+fn is_further_turn(after: &[u8]) -> bool {
+    let blanks = after.iter().take_while(|byte| b"\t\n\r ,".contains(byte)).count();
+    let in_number = |byte: &&u8| byte.is_ascii_digit() || b"+-.".contains(byte);
+    let number: Vec<u8> = after[blanks..].iter().take_while(in_number).copied().collect();
+    let value = String::from_utf8_lossy(&number).parse::<f64>();
+    value.is_ok_and(|value| [180.0, 270.0].iter().any(|turn| (value - turn).abs() < 0.51))
 }
 
 /// A sum over all answers in order.

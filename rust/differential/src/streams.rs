@@ -21,6 +21,8 @@ pub enum Family {
     Arcs,
     /// Numbers of five to thirty decimals, at ties and next to them, in every instruction.
     Decimals,
+    /// Every value of RO, one after another, with windows, and all figures under each turn.
+    Turns,
 }
 
 /// Drawings of real writers (`crates/drawings/data`), to be changed.
@@ -61,7 +63,7 @@ const EDGES: [&str; 6] =
 
 impl Family {
     /// Every family.
-    pub const ALL: [Family; 8] = [
+    pub const ALL: [Family; 9] = [
         Family::Drawings,
         Family::Mutations,
         Family::Bytes,
@@ -70,12 +72,13 @@ impl Family {
         Family::Digits,
         Family::Arcs,
         Family::Decimals,
+        Family::Turns,
     ];
 
     /// How many of a hundred bytes are of this family.
     pub fn share(self) -> usize {
         match self {
-            Family::Drawings => 36,
+            Family::Drawings => 32,
             Family::Mutations => 20,
             Family::Bytes => 13,
             Family::Brims => 13,
@@ -83,6 +86,7 @@ impl Family {
             Family::Digits => 7,
             Family::Arcs => 4,
             Family::Decimals => 4,
+            Family::Turns => 4,
         }
     }
 
@@ -97,6 +101,7 @@ impl Family {
             Family::Digits => digits(dice),
             Family::Arcs => arcs(dice),
             Family::Decimals => decimals(dice),
+            Family::Turns => turns(dice),
         }
     }
 }
@@ -701,6 +706,137 @@ fn decimals(dice: &mut Dice) -> Vec<u8> {
             _ => fine_moves(dice),
         };
     }
+    let mut text = text.into_bytes();
+    if dice.one_in(6) {
+        (0..1 + dice.below(6)).for_each(|_| mutate(&mut text, dice));
+    }
+    text
+}
+
+/// Values of RO: the four turns, those that round to them, those next to these, and others.
+const TURNS: [&str; 48] = [
+    "0",
+    "90",
+    "180",
+    "270",
+    "",
+    "90",
+    "180",
+    "270",
+    "180",
+    "270",
+    "180",
+    "270",
+    "-.5",
+    "-.5001",
+    ".4999",
+    ".5",
+    "89.5",
+    "89.4999",
+    "90.4999",
+    "90.5",
+    "179.5",
+    "179.4999",
+    "179.49995",
+    "179.499949",
+    "180.4999",
+    "180.49995",
+    "180.5",
+    "269.5",
+    "269.4999",
+    "269.49995",
+    "270.4999",
+    "270.49994",
+    "270.5",
+    "+180.",
+    "000270",
+    "360",
+    "359.5",
+    "450",
+    "-90",
+    "-180",
+    "-270",
+    "45",
+    "135",
+    "181",
+    "32767.9999",
+    "270-",
+    "180,0",
+    "90 270",
+];
+
+/// Windows of which no two turns look alike, and none.
+const WINDOWS: [&str; 8] = [
+    "IW0,0,5,10;",
+    "IW-3,2,40,90;",
+    "IW7,-9,-30,4;",
+    "IW-200,-10,-20,150;",
+    "IW.5,-.5,9.5,-20.5;",
+    "IW3,3,3,3;",
+    "IW-12000,-50,12000,9;",
+    "IW;",
+];
+
+/// What stands between turns.
+const BETWEEN: [&str; 10] = [
+    "IN;SP1;PD;",
+    "DF;",
+    "IP;",
+    "IP0,0,200,-100;SC0,4,0,4;",
+    "IP10,20;",
+    "SC0,3,3,0;",
+    "SC1,1,0,3;",
+    "SC;",
+    "SP3;",
+    "PR.4,-.3;",
+];
+
+fn turn(dice: &mut Dice) -> String {
+    format!("{}{};", dice.pick(&["RO", "RO", "RO", "ro"]), dice.pick(&TURNS))
+}
+
+/// Moves that end on halves, where it counts whether a place is rounded before it is turned.
+fn half_moves(dice: &mut Dice) -> String {
+    let pair = |dice: &mut Dice| format!("{}.5,{}.5", dice.within(-9, 9), dice.within(-9, 9));
+    let list: Vec<String> = (0..1 + dice.below(4)).map(|_| pair(dice)).collect();
+    format!("{}{};", dice.pick(&["PD", "PD;PA", "PD;PR", "PU"]), list.join(","))
+}
+
+/// A polygon whose edges are drawn under one turn after another.
+fn turned_polygon(dice: &mut Dice, reach: i64) -> String {
+    let (pairs, more) = (2 * (1 + dice.below(4)), 2 * dice.below(3));
+    let (first, then) = (numbers(dice, pairs, reach), numbers(dice, more, reach));
+    let mut text = format!("PM0;PD{first};PM1;PU{then};PM2;EP;");
+    text.extend((0..1 + dice.below(3)).map(|_| turn(dice) + "EP;"));
+    text
+}
+
+/// A turn, what it turns, or what stands between turns.
+fn turned_figure(dice: &mut Dice) -> String {
+    let reach = dice.pick(&[3, 12, 90, 300, 12_000, 32_767]);
+    match dice.below(20) {
+        0..=3 => turn(dice),
+        4 => (0..2 + dice.below(5)).map(|_| turn(dice)).collect(),
+        5 | 6 => dice.pick(&WINDOWS).to_string(),
+        7 => dice.pick(&BETWEEN).to_string(),
+        8 => setting(dice, reach),
+        9 | 10 => turned_polygon(dice, reach),
+        11 => {
+            let radius = number(dice, reach / 2);
+            circle(dice, &radius)
+        }
+        12 => format!("{}{};", dice.pick(&["EA", "ER"]), numbers(dice, 2, reach)),
+        13 => placed_arc(dice, reach),
+        14 => format!("{HUNDRED}PA{};{}PD{};", dice.pick(&EDGES), turn(dice), dice.pick(&EDGES)),
+        15 => format!("PD;PR.4,.3;{}PR-.4,.2,.7,-.6;", turn(dice)),
+        16 | 17 => half_moves(dice),
+        _ => moves(dice, reach),
+    }
+}
+
+fn turns(dice: &mut Dice) -> Vec<u8> {
+    let mut text = format!("SP{};PD;", 1 + dice.below(8));
+    text.extend((0..8 + dice.below(24)).map(|_| turned_figure(dice)));
     let mut text = text.into_bytes();
     if dice.one_in(6) {
         (0..1 + dice.below(6)).for_each(|_| mutate(&mut text, dice));

@@ -93,6 +93,11 @@ fn decimals() {
 }
 
 #[test]
+fn turns() {
+    search(Family::Turns, &[0, 1, 2, 3, 6, 20, 21]);
+}
+
+#[test]
 fn shares_make_a_whole() {
     assert_eq!(Family::ALL.iter().map(|family| family.share()).sum::<usize>(), 100);
 }

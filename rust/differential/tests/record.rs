@@ -1,8 +1,11 @@
-//! The record tells two versions of a library apart, and has no arcs, or no fifth decimal.
+//! The record tells two versions of a library apart, and has no arcs, no fifth decimal, or no turn by
+//! more than a quarter.
 
+use baseline::geometry::round_number;
+use baseline::reader::{Event, Op, Reader};
 use baseline::{number, Drawn, Fed, Look, Machine};
 use differential::partner::{Partner, Record};
-use differential::record::{four_decimals, lines, recorded, without_arcs, Without};
+use differential::record::{four_decimals, lines, quarter_turns, recorded, without_arcs, Without};
 use differential::streams::Family;
 
 const BYTES: usize = 20_000;
@@ -40,6 +43,38 @@ fn no_fifth_decimal() {
     assert!(arcs > 100, "{arcs}");
 }
 
+/// The names and numbers of RO in a stream, as the baseline's reader tells them.
+fn turns(stream: &[u8]) -> Vec<i64> {
+    let mut reader = Reader::new();
+    let mut found = Vec::new();
+    for &byte in stream {
+        if reader.step(byte) == Event::Perform && reader.op() == Op::Ro {
+            found.extend(reader.given().iter().map(|&number| round_number(number)));
+        }
+    }
+    found
+}
+
+#[test]
+fn no_further_turn() {
+    let (all, some) = (
+        b"RO180;ro 270.4;RO+0269.49995;RO90;RO-180;RO;RO,,179.5\nRO360;PRO180;RO179;RO181;RO180",
+        b"RZ180;rZ 270.4;RZ+0269.49995;RO90;RO-180;RO;RZ,,179.5\nRO360;PRZ180;RO179;RO181;RZ180",
+    );
+    assert_eq!(quarter_turns(all.to_vec()), some);
+    let (mut further, mut kept) = (0, 0);
+    for &family in Without::FurtherTurns.families() {
+        let streams = recorded(Without::FurtherTurns, family, BYTES);
+        assert!(streams.iter().map(|(_, stream)| stream.len()).sum::<usize>() >= BYTES);
+        for (_, stream) in streams {
+            let turns = turns(&stream);
+            kept += turns.len();
+            further += turns.iter().filter(|&turn| [180, 270].contains(turn)).count();
+        }
+    }
+    assert!(further == 0 && kept > 100, "{further} {kept}");
+}
+
 /// The proved library and the baseline have the same lines.
 fn same_lines(without: Without) {
     for &family in without.families() {
@@ -56,6 +91,11 @@ fn same_lines_without_arcs() {
 #[test]
 fn same_lines_without_fifth_decimals() {
     same_lines(Without::FifthDecimals);
+}
+
+#[test]
+fn same_lines_without_further_turns() {
+    same_lines(Without::FurtherTurns);
 }
 
 /// The baseline with one answer changed.

@@ -1,5 +1,5 @@
 //! Writes copies of the baseline, each with one fault: in its arcs for `src/arcs.rs`, in the rounding of
-//! numbers for `src/decimals.rs`.
+//! numbers for `src/decimals.rs`, in its turns for `src/turns.rs`.
 
 use std::path::Path;
 use std::{env, fs};
@@ -119,6 +119,78 @@ const DECIMALS: [Fault; 12] = [
     ),
 ];
 
+/// Where a move is queued, and the same with its end turned first and then rounded: where a coordinate
+/// changes its sign, a half goes to what was the smaller number.
+const QUEUED: &str = "self.work = Work::Line(from, self.turn.to_page(to.at()));";
+const TURNED_FIRST: &str = "\
+    let (at, [first, second]) = (to.at(), self.turn.table());
+    let x = self.x.relative(Axis::whole(-at.x), -self.x.way(Axis::whole(at.x), to.x)).at();
+    let y = self.y.relative(Axis::whole(-at.y), -self.y.way(Axis::whole(at.y), to.y)).at();
+    let page = |[a, b]: [i64; 2]| {
+        (if a < 0 { x } else { a * at.x }) + (if b < 0 { y } else { b * at.y })
+    };
+    self.work = Work::Line(from, Point::new(page(first), page(second)));";
+
+/// Where the page point is kept.
+const KEPT: &str = "Position::whole(turn.from_page(page))";
+
+const TURNS: [Fault; 17] = [
+    ("half_for_three_quarters", "machine", "270 => Turn::ThreeQuarters,", "270 => Turn::Half,"),
+    ("three_quarters_for_half", "machine", "180 => Turn::Half,", "180 => Turn::ThreeQuarters,"),
+    (
+        "window_left_at_half",
+        "machine",
+        "self.hard.meet(&window.turned(self.turn))",
+        "self.hard.meet(&if self.turn == Turn::Half { *window } else { window.turned(self.turn) })",
+    ),
+    (
+        "window_not_put_in_order",
+        "geometry",
+        "Bounds::of_corners(
+            turn.to_page(Point::new(self.left, self.bottom)),
+            turn.to_page(Point::new(self.right, self.top)),
+        )",
+        "{
+            let a = turn.to_page(Point::new(self.left, self.bottom));
+            let b = turn.to_page(Point::new(self.right, self.top));
+            Bounds { left: a.x, bottom: a.y, right: b.x, top: b.y }
+        }",
+    ),
+    ("hard_limits_turned", "machine", "None => self.hard,", "None => self.hard.turned(self.turn),"),
+    ("page_point_moved", "machine", KEPT, "Position::whole(self.position.at())"),
+    ("not_turned_back", "machine", KEPT, "Position::whole(turn.to_page(page))"),
+    (
+        "whole_turn_accepted",
+        "machine",
+        "0 => Turn::None,\n                    90",
+        "0 | 360 => Turn::None,\n                    90",
+    ),
+    ("minus_90_accepted", "machine", "270 => Turn::Three", "270 | -90 => Turn::Three"),
+    (
+        "value_not_rounded",
+        "machine",
+        "let turn = match round_number(if count > 0 { n[0] } else { 0 }) {",
+        "let turn = match (if count > 0 { n[0] } else { 0 }).div_euclid(10_000) {",
+    ),
+    ("half_of_x_alone", "geometry", "[[-1, 0], [0, -1]]", "[[-1, 0], [0, 1]]"),
+    ("half_of_y_alone", "geometry", "[[-1, 0], [0, -1]]", "[[1, 0], [0, -1]]"),
+    ("three_quarters_mirrored_in_y", "geometry", "[[0, 1], [-1, 0]]", "[[0, 1], [1, 0]]"),
+    ("three_quarters_mirrored_in_x", "geometry", "[[0, 1], [-1, 0]]", "[[0, -1], [-1, 0]]"),
+    ("turned_before_rounding", "machine", QUEUED, TURNED_FIRST),
+    (
+        "edges_not_turned",
+        "machine",
+        "self.show(self.turn.to_page(from.at), self.turn.to_page(to.at))",
+        "self.show(from.at, to.at)",
+    ),
+    (
+        "ended_by_df",
+        "machine",
+        "self.relative = false;\n                self.rebase();",
+        "self.relative = false;\n                self.set_turn(Turn::None);",
+    ),
+];
+
 /// The text of a part with the fault in it, if it is the one.
 fn part(source: &Path, part: &str, (name, at, right, wrong): Fault) -> String {
     let file = source.join(part).with_extension("rs");
@@ -144,7 +216,12 @@ fn main() {
     println!("cargo:rerun-if-changed=build.rs");
     println!("cargo:rerun-if-changed={}", source.display());
     let out = env::var_os("OUT_DIR").expect("cargo says where to write");
-    for (file, faults) in [("wrong_arcs.rs", &ARCS[..]), ("wrong_decimals.rs", &DECIMALS[..])] {
+    let files = [
+        ("wrong_arcs.rs", &ARCS[..]),
+        ("wrong_decimals.rs", &DECIMALS[..]),
+        ("wrong_turns.rs", &TURNS[..]),
+    ];
+    for (file, faults) in files {
         let copies: String = faults.iter().map(|&fault| copy(&source, fault)).collect();
         fs::write(Path::new(&out).join(file), copies).expect("the folder of the build");
     }

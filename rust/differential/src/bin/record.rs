@@ -2,7 +2,8 @@
 //!
 //! `record` writes a line for each stream with sums over all answers of the linked library;
 //! `record FILE` compares them with the lines that another build wrote. The streams have no arcs;
-//! with `--four-decimals` before FILE they have, and no number of more than four decimals.
+//! with `--four-decimals` before FILE they have, and no number of more than four decimals; with
+//! `--quarter-turns` they have these too, and no RO by more than a quarter.
 
 use differential::record::{lines, Without, BYTES};
 use std::process::ExitCode;
@@ -28,9 +29,12 @@ fn compare(without: Without, file: &str) -> Result<usize, String> {
 
 fn main() -> ExitCode {
     let mut arguments: Vec<String> = std::env::args().skip(1).collect();
-    let four_decimals = arguments.first().is_some_and(|word| word == "--four-decimals");
-    let without = if four_decimals { Without::FifthDecimals } else { Without::Arcs };
-    arguments.drain(..usize::from(four_decimals));
+    let without = match arguments.first().map(String::as_str) {
+        Some("--four-decimals") => Without::FifthDecimals,
+        Some("--quarter-turns") => Without::FurtherTurns,
+        _ => Without::Arcs,
+    };
+    arguments.drain(..usize::from(without != Without::Arcs));
     let Some(file) = arguments.first() else {
         all(without).iter().for_each(|line| println!("{line}"));
         return ExitCode::SUCCESS;

@@ -9,3 +9,5 @@ mod copies;
 mod arcs;
 #[cfg(test)]
 mod decimals;
+#[cfg(test)]
+mod turns;

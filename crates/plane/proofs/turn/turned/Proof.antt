@@ -1,26 +1,78 @@
--- The proof of `turned`: a turn is its table.
+-- The proof of `turned`: a row times the point, twice.
 use borrow.Author.Needs.{needs}
-use mathlib.Core.Path.{ap, sym, subst, _∙_}
-use Rattle.plane.specs.declared.turn.Rows.{Rows}
-use Rattle.plane.specs.Bounds.{UnitRows}
-use Rattle.plane.specs.Turn.{turnedBy}
-use Rattle.plane.specs.TurnLaws.{rows-unit, by-rows}
+use mathlib.Core.List.{[]}
+use Prim.Native.Nat.{ℕ}
+use lib.Dec.{T, ltb}
+use lib.IntN.{pos}
+use lib.ListN.{getD}
+use Rattle.exact.specs.Fit.{Num, m64, sized}
+use Rattle.plane.specs.Turn.{turnOf, turnedOf}
+use Rattle.plane.proofs.Rows.{number, along-is}
 use Rattle.plane.proofs.turn.turned.Statement.{statement}
 use Rattle.plane.proofs.turn.turned.Tie as tie
 
-rows-of-requires : tie.Need-rows-of-requires
-rows-of-requires c κs = search needs
+entry : (a : tie.After-table-of) (i j : ℕ) → T (ltb i 2) → T (ltb j 2) → Num (m64 (getD (getD (a .table-of .result) i []) j (pos 0))) (turnOf (a .before .args .turn) i j) 1
+entry a i j h k = number i j (a .table-of .ensures) (a .before .pre .1) h k
 
-turned-by-requires : tie.Need-turned-by-requires
-turned-by-requires c κs =
-    let s : tie.Start = search in
-    (subst UnitRows (sym (c .rows-of .ensures)) (rows-unit (s .pre .1)), s .pre .0)
+table-of-requires : tie.Need-table-of-requires
+table-of-requires c κs = search needs
+
+index-1-along : tie.Need-index-1-along
+index-1-along c = search needs
+
+index-2-along : tie.Need-index-2-along
+index-2-along c = search needs
+
+index-1-along-2 : tie.Need-index-1-along-2
+index-1-along-2 c = search needs
+
+index-2-along-2 : tie.Need-index-2-along-2
+index-2-along-2 c = search needs
+
+along-requires : tie.Need-along-requires
+along-requires c κs =
+    let a : tie.After-table-of = search in
+    (sized (entry a 0 0 tt tt) tt, sized (entry a 0 1 tt tt) tt, a .before .pre .0)
+
+index-1-along-3 : tie.Need-index-1-along-3
+index-1-along-3 c = search needs
+
+index-2-along-3 : tie.Need-index-2-along-3
+index-2-along-3 c = search needs
+
+index-1-along-4 : tie.Need-index-1-along-4
+index-1-along-4 c = search needs
+
+index-2-along-4 : tie.Need-index-2-along-4
+index-2-along-4 c = search needs
+
+along-requires-2 : tie.Need-along-requires-2
+along-requires-2 c κs =
+    let a : tie.After-table-of = search in
+    (sized (entry a 1 0 tt tt) tt, sized (entry a 1 1 tt tt) tt, a .before .pre .0)
 
 returns : tie.Need-returns
+unfolding turnedOf
 returns c =
-    let s : tie.Start = search in
-    let a : tie.After-rows-of = search in
-    c .turned-by .ensures ∙ ap (λ (t : Rows). turnedBy t (s .args .p)) (a .rows-of .ensures) ∙ by-rows (s .args .p) (s .args .turn)
+    let a : tie.After-table-of = search in
+    let x : tie.After-along = search in
+    let ex = along-is (a .before .args .p) (entry a 0 0 tt tt) (entry a 0 1 tt tt) (x .along .ok) (x .along .ensures) in
+    let ey = along-is (a .before .args .p) (entry a 1 0 tt tt) (entry a 1 1 tt tt) (c .along2 .ok) (c .along2 .ensures) in
+    λ i. record { x = ex i; y = ey i }
 
 pub turned-spec : {M : Type 1} → statement M
-turned-spec = tie.close (tie.spec rows-of-requires turned-by-requires returns)
+turned-spec =
+    tie.close
+    (tie.spec
+    table-of-requires
+    index-1-along
+    index-2-along
+    index-1-along-2
+    index-2-along-2
+    along-requires
+    index-1-along-3
+    index-2-along-3
+    index-1-along-4
+    index-2-along-4
+    along-requires-2
+    returns)

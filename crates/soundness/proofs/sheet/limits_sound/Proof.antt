@@ -5,7 +5,7 @@ use mathlib.Core.Bool.{true, false}
 use mir.Syntax.{w64}
 use mir.Val.{SFits}
 use Rattle.exact.specs.Fit.{arg, lt?-is}
-use Rattle.wellformed.specs.Sound.{betweenOf, fourLow, fourHigh, limitsSound}
+use Rattle.wellformed.specs.Sound.{betweenOf, fourLow, fourHigh, lastTurn, limitsSound}
 use Rattle.soundness.proofs.sheet.limits_sound.Statement.{statement}
 use Rattle.soundness.proofs.sheet.limits_sound.Tie as tie
 
@@ -30,7 +30,7 @@ returns c =
     let s : tie.Start = search in
     let a1 : tie.After-between = search in
     let t1 : tie.Then1 = search in
-    let e1 : betweenOf (fourLow 32768 0) (s .args .r) (fourHigh 32768 1) ≡ true = sym (a1 .between .ensures) ∙ t1 .if1 .taken in
+    let e1 : betweenOf (fourLow 32768 0) (s .args .r) (fourHigh 32768 lastTurn) ≡ true = sym (a1 .between .ensures) ∙ t1 .if1 .taken in
     let t2 : tie.Then2 = search in
     rw (e1, lt?-is (arg w64 (fra s)) (arg w64 (frc s)) (t2 .if2 .taken)) (sym (lt?-is (arg w64 (frb s)) (arg w64 (frd s)) refl))
 
@@ -40,7 +40,7 @@ returns-2 c =
     let s : tie.Start = search in
     let a1 : tie.After-between = search in
     let t1 : tie.Then1 = search in
-    let e1 : betweenOf (fourLow 32768 0) (s .args .r) (fourHigh 32768 1) ≡ true = sym (a1 .between .ensures) ∙ t1 .if1 .taken in
+    let e1 : betweenOf (fourLow 32768 0) (s .args .r) (fourHigh 32768 lastTurn) ≡ true = sym (a1 .between .ensures) ∙ t1 .if1 .taken in
     let t2 : tie.Else2 = search in
     rw (e1, lt?-is (arg w64 (fra s)) (arg w64 (frc s)) (t2 .if2 .left)) refl
 
@@ -50,7 +50,7 @@ returns-3 c =
     let s : tie.Start = search in
     let a1 : tie.After-between = search in
     let t1 : tie.Else1 = search in
-    let e1 : betweenOf (fourLow 32768 0) (s .args .r) (fourHigh 32768 1) ≡ false = sym (a1 .between .ensures) ∙ t1 .if1 .left in
+    let e1 : betweenOf (fourLow 32768 0) (s .args .r) (fourHigh 32768 lastTurn) ≡ false = sym (a1 .between .ensures) ∙ t1 .if1 .left in
     rw (e1) refl
 
 pub limits-sound-spec : {M : Type 1} → statement M
