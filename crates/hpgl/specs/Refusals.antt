@@ -2,7 +2,6 @@
 -- list of what an event needs, in 01's order for one byte, each with the number that it gives where it is not met; where all is met the number is 0.
 -- Nothing here calls a rule; RefusalsProof.antt proves that the rules answer just these numbers.
 use mathlib.Core.Path.{_≡_}
-use mathlib.Core.Logic.{_⊎_}
 use mathlib.Core.Bool.{Bool, true, false}
 use Prim.Native.Nat.{ℕ, _+_, _≤_, _<_}
 use lib.IntN.{ℤ, pos, negℤ, natAbs, _+ℤ_, _-ℤ_, _*ℤ_}
@@ -15,6 +14,7 @@ use Rattle.mnemonics.specs.Table as code
 use Rattle.plane.specs.declared.circle.Way.{Way}
 use Rattle.plane.specs.Circle.{vertexPointOf}
 use Rattle.plane.specs.Arc.{exactWay, partsOf, bendOf}
+use Rattle.plane.specs.TurnsSaid.{Said}
 use Rattle.hpgl.specs.declared.Position.{Position}
 use Rattle.hpgl.specs.declared.Core.{Core}
 use Rattle.hpgl.specs.Place.{axisX, axisY, location, absolutePosition, relativePosition}
@@ -123,7 +123,7 @@ Arc c q n t =
     (Needs (Vertices c q w s (natAbs a)) 6 t
     (t ≡ 0))))
 
--- ---- the numbers of an instruction that ends
+-- ---- the numbers of an instruction that ends. RO's are those that 01 and 02 say, 0, 90, 180 and 270: `Said` in TurnsSaid.antt of plane
 
 abbrev pub Judged : {op : ℕ} → Instruction op → Core → Numbers → ℕ → Type 0
 Judged IN c n t = t ≡ 0
@@ -132,7 +132,7 @@ Judged EP c n t = t ≡ 0
 Judged IP c n t = Needs (GoodCorners (newP1 c n) (newP2 c n)) 3 t (t ≡ 0)
 Judged SC c n t = Needs ((n .count ≡ 0 → ⊥) → (n .first ≡ n .second → ⊥) × (n .third ≡ n .fourth → ⊥)) 3 t (t ≡ 0)
 Judged IW c n t = Needs ((n .count ≡ 0 → ⊥) → InRange (firstCorner c n) × InRange (secondCorner c n)) 3 t (t ≡ 0)
-Judged RO c n t = (k : ℤ) → Asked n k → Needs ((k ≡ pos 0) ⊎ (k ≡ pos 90) ⊎ (k ≡ pos 180) ⊎ (k ≡ pos 270)) 3 t (t ≡ 0)
+Judged RO c n t = (k : ℤ) → Asked n k → Needs (Said k) 3 t (t ≡ 0)
 Judged SP c n t = (k : ℤ) → Asked n k → Needs (Between (pos 0) k (pos 8)) 3 t (t ≡ 0)
 Judged PM c n t = (k : ℤ) → Asked n k → Needs (Allows (c .carriage .polygon .mode) k) 3 t (Needs (Fits c k) 7 t (t ≡ 0))
 Judged CI c n t = (a : ℤ) → Angle n 1 (n .second) a → Needs (Between (pos 5) a (pos 1200)) 3 t (Needs (FourPoints c (n .first)) 6 t (t ≡ 0))

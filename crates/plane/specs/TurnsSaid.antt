@@ -56,11 +56,11 @@ found : (z : ℤ) → findTurn z < turnCount → degreesOf (findTurn z) ≡ z
 unfolding findTurn
 found z h = found-from z 0 turnCount h
 
--- the test of the table: each number is one that is said, stands at its count of quarters, and is no larger than the last
+-- the test of the table: each number is one that is said, stands at its count of quarters, and is no larger than a number may be
 record Listed (t : ℕ) : Type 0 where
   said : Said (degreesOf t)
   place : natAbs (degreesOf t) / 90 ≡ t
-  size : Bd (degreesOf t) 270
+  size : Bd (degreesOf t) 32768
 
 listed : (t : ℕ) → t < turnCount → Listed t
 unfolding degreesOf turns
@@ -88,5 +88,5 @@ said-found z = (known, (λ h. subst Said (found z h) (listed (findTurn z) h .sai
 pub quarters-found : (z : ℤ) → findTurn z < turnCount → natAbs z / 90 ≡ findTurn z
 quarters-found z h = subst (λ (y : ℤ). natAbs y / 90 ≡ findTurn z) (found z h) (listed (findTurn z) h .place)
 
-pub degrees-size : (t : ℕ) → t < turnCount → Bd (degreesOf t) 270
+pub degrees-size : (t : ℕ) → t < turnCount → Bd (degreesOf t) 32768
 degrees-size t h = listed t h .size
