@@ -41,10 +41,14 @@ unfoldable pub pointOf : Number → Number
 pointOf n =
     record { negative = n .negative; filled = n .filled; pointed = true; decimals = n .decimals; magnitude = n .magnitude }
 
+-- With k decimals and the magnitude m; with a digit, or with none.
+abbrev pub soFarOf : Number → Bool → ℕ → ℕ → Number
+soFarOf n filled k m =
+    record { negative = n .negative; filled = filled; pointed = n .pointed; decimals = k; magnitude = m }
+
 -- With a digit, k decimals and the magnitude m.
 unfoldable pub countedOf : Number → ℕ → ℕ → Number
-countedOf n k m =
-    record { negative = n .negative; filled = true; pointed = n .pointed; decimals = k; magnitude = m }
+countedOf n k m = soFarOf n true k m
 
 -- With one digit more. The magnitude is that of the digits without the point; once it is out of range it stays.
 unfoldable pub digitOf : Number → ℕ → Number

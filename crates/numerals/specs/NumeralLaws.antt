@@ -12,7 +12,7 @@ use lib.ListN.{length, drop}
 use Rattle.exact.specs.Divide.{nearestDiv}
 use Rattle.numerals.specs.declared.number.Number.{Number}
 use Rattle.numerals.specs.declared.number.Value.the-variants.{Good, Bad}
-use Rattle.numerals.specs.Number.{places, above, bottom, pastOf, startOf, pointOf, countedOf, digitOf, unitOf, tenThousandths, signedOf, largestOf, carryOf, nearestOf, finishOf}
+use Rattle.numerals.specs.Number.{places, half, above, bottom, pastOf, startOf, pointOf, countedOf, digitOf, unitOf, tenThousandths, signedOf, largestOf, carryOf, nearestOf, finishOf}
 use Rattle.numerals.specs.Marks.{negative, readDigits, readFraction, readNumeral}
 use Rattle.numerals.specs.Numeral.{Sign, bare, plus, minus, Fraction, none, point, Numeral, Digits, worth, worthFrom, decimals, ten, signed, some, inRange, nearest, valueOf}
 use Rattle.numerals.specs.Tail.{exactly, tailFrom, text-nearest}
@@ -135,9 +135,18 @@ worth-grows v [] = le-refl v
 worth-grows v (d ∷ ds) = le-trans (omega arith) (worth-grows (v * 10 + d) ds)
 
 -- With a place free, or none, nothing is carried; past the fourth decimal the last one kept counts for one.
-pub no-carry : (s : Bool) (k : ℕ) → k ≤ places → carryOf s k ≡ 0
+pub no-carry : (s : Bool) (k : ℕ) → k < half → carryOf s k ≡ 0
 unfolding carryOf
 no-carry s k h = simp (ne-eqb k 7 (λ e. omega arith), ne-eqb k 6 (λ e. omega arith))
+
+-- nor below zero, but for what is above a half
+pub no-carry-below : (k : ℕ) → eqb k above ≡ false → carryOf true k ≡ 0
+unfolding carryOf
+no-carry-below k h = go (eqb k half)
+  where
+    go : (b : Bool) → _≡_ {A = ℕ} (cond (eqb k above) 1 (cond b (cond true 0 1) 0)) 0
+    go true = simp h
+    go false = simp h
 
 pub carry-small : (s : Bool) (k : ℕ) → carryOf s k ≤ 1
 unfolding carryOf

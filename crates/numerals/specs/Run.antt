@@ -12,6 +12,10 @@ use Rattle.numerals.specs.declared.number.Scanned.{Scanned}
 use Rattle.numerals.specs.Bytes.{isDigit, isAt}
 use Rattle.numerals.specs.Number.{places, bottom, startOf, pointOf, countedOf, digitOf}
 
+-- How far a byte stands from the digit 0: its value if it is a digit, more than 9 if not. One below the digits is counted on from 2^32.
+unfoldable pub fromZero : ℕ → ℕ
+fromZero b = cond (ltb b (code "0")) (b + 4294967248) (b - code "0")
+
 -- The run that ends at a place.
 abbrev pub ended : ℕ → ℕ → Run
 ended m at = record { magnitude = m; at = at }

@@ -6,7 +6,7 @@ use Prim.Native.Nat.{ℕ, _+_, _-_, _*_, _≤_, _<_}
 use Prim.Native.Char.{code}
 use native.Mathlib.Numerals.{add-one}
 use native.Mathlib.Omega.{arith}
-use borrow.Author.Tests.{leb-true, ltb-true, ltb-false, lt-ltb, le-ltb, eqb-true}
+use borrow.Author.Tests.{leb-true, ltb-true, ltb-false, lt-ltb, le-ltb, le-leb, lt-leb, eqb-true}
 use lib.Dec.{leb, ltb, eqb}
 use lib.ListN.{length, drop, getD, drop-of-length-le}
 use lib.Seq.{drop-cons}
@@ -15,8 +15,8 @@ use Rattle.numerals.specs.declared.number.Number.{Number}
 use Rattle.numerals.specs.declared.number.Run.{Run}
 use Rattle.numerals.specs.declared.number.Scanned.{Scanned}
 use Rattle.numerals.specs.Bytes.{isDigit, isAt, classOf}
-use Rattle.numerals.specs.Number.{places, bottom, startOf, pointOf, countedOf, digitOf}
-use Rattle.numerals.specs.Run.{ended, runOf, countsWhole, scannedOf, minusLength, wholeAt, digitsFrom, fractionOf, numberAt}
+use Rattle.numerals.specs.Number.{places, bottom, pastOf, startOf, pointOf, soFarOf, countedOf, digitOf}
+use Rattle.numerals.specs.Run.{fromZero, ended, runOf, countsWhole, scannedOf, minusLength, wholeAt, digitsFrom, fractionOf, numberAt}
 
 pub digit-class : (b : ℕ) → isDigit b ≡ true → (code "0" ≤ b) × (b ≤ code "9") × (classOf b ≡ Digit (b - code "0"))
 unfolding isDigit classOf
@@ -26,6 +26,23 @@ digit-class b e = go (ltb b (code "0")) (leb b (code "9")) refl refl e
     go false true h k t = (ltb-false b (code "0") h, leb-true b (code "9") k, simp (h, k))
     go false false h k t = absurd (true≢false (sym t))
     go true y h k t = absurd (true≢false (sym t))
+
+-- Up to 9 from the digit 0 it is a digit, and this is its value.
+pub zero-digit : (b : ℕ) → fromZero b ≤ 9 → (isDigit b ≡ true) × (fromZero b ≡ b - code "0")
+unfolding fromZero isDigit
+zero-digit b h = go (ltb b (code "0")) refl h
+  where
+    go : (x : Bool) → ltb b (code "0") ≡ x → cond x (b + 4294967248) (b - code "0") ≤ 9 → (cond x false (leb b (code "9")) ≡ true) × (cond x (b + 4294967248) (b - code "0") ≡ b - code "0")
+    go true e t = absurd (omega (arith, t))
+    go false e t = (le-leb b (code "9") (omega (arith, t)), refl)
+
+pub zero-other : (b : ℕ) → 9 < fromZero b → isDigit b ≡ false
+unfolding fromZero isDigit
+zero-other b h = go (ltb b (code "0")) refl h
+  where
+    go : (x : Bool) → ltb b (code "0") ≡ x → 9 < cond x (b + 4294967248) (b - code "0") → cond x false (leb b (code "9")) ≡ false
+    go true e t = refl
+    go false e t = lt-leb b (code "9") (omega (arith, t))
 
 -- ---- a run of digits
 
@@ -147,6 +164,24 @@ module _ (n : Number) (s : List ℕ) (at : ℕ) where
       → isDigit (getD s at 0) ≡ true
       → digitsFrom n (drop at s) at ≡ digitsFrom (digitOf n (getD s at 0 - code "0")) (drop (at + 1) s) (at + 1)
   digits-on h d = rw (drop-cons s at 0 h, ← add-one at) (digits-digit n (getD s at 0) (drop (at + 1) s) at d)
+
+-- One digit more of a number after its point, by the parts that it changes.
+module _ (n : Number) (f : Bool) (k m d : ℕ) (p : n .pointed ≡ true) where
+  pub digit-past : places ≤ k → digitOf (soFarOf n f k m) d ≡ soFarOf n true (pastOf k d) m
+  unfolding digitOf countedOf
+  digit-past h = simp (le-leb places k h)
+
+  pub digit-kept : k < places → bottom < m → digitOf (soFarOf n f k m) d ≡ soFarOf n true k m
+  unfolding digitOf countedOf
+  digit-kept h b = simp (lt-leb places k h, lt-ltb bottom m b)
+
+  pub digit-counts : k < places → m ≤ bottom → digitOf (soFarOf n f k m) d ≡ soFarOf n true (k + 1) (m * 10 + d)
+  unfolding digitOf countedOf
+  digit-counts h b = simp (lt-leb places k h, le-ltb bottom m b) (go (n .pointed) p)
+    where
+      go : (x : Bool) → x ≡ true → _≡_ {A = Number} (cond x (soFarOf n true (k + 1) (m * 10 + d)) (soFarOf n true k (m * 10 + d))) (soFarOf n true (k + 1) (m * 10 + d))
+      go true e = refl
+      go false e = absurd (true≢false (sym e))
 
 -- The ways of `numberAt`.
 module _ (s : List ℕ) (at : ℕ) where

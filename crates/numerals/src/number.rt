@@ -4,8 +4,8 @@ ghost use mathlib.Core.Bool.{true};
 ghost use Prim.Native.Nat.{_≤_, _<_};
 ghost use lib.ListN.{length, drop, getD};
 ghost use Rattle.numerals.specs.Bytes.{isDigit};
-ghost use Rattle.numerals.specs.Number.{bottom, pastOf, startOf, pointOf, countedOf, digitOf, unitOf, tenThousandths, signedOf, largestOf, carryOf, nearestOf, finishOf};
-ghost use Rattle.numerals.specs.Run.{runOf, countsWhole, scannedOf, minusLength, wholeAt, digitsFrom, numberAt};
+ghost use Rattle.numerals.specs.Number.{bottom, pastOf, startOf, pointOf, soFarOf, countedOf, digitOf, unitOf, tenThousandths, signedOf, largestOf, carryOf, nearestOf, finishOf};
+ghost use Rattle.numerals.specs.Run.{fromZero, runOf, countsWhole, scannedOf, minusLength, wholeAt, digitsFrom, numberAt};
 use super::bytes::is_at;
 use super::bytes::is_digit;
 
@@ -25,6 +25,9 @@ const BOTTOM: u64 = 327_680_000;
 
 // Past this magnitude a number is out of range whatever follows.
 const PAST: u32 = 327_680_000;
+
+// A byte below the digits is counted on past the largest number: 2^32, less the code of 0.
+const AROUND: u32 = 4_294_967_248;
 
 pub struct Number {
     pub negative: bool,
@@ -102,10 +105,10 @@ fn carry(negative: bool, decimals: u8) -> u64
     if decimals == ABOVE {
         return 1;
     }
+    if negative {
+        return 0;
+    }
     if decimals == HALF {
-        if negative {
-            return 0;
-        }
         return 1;
     }
     0
@@ -132,6 +135,17 @@ fn signed(negative: bool, magnitude: u64) -> i64
     magnitude as i64
 }
 
+// How far a byte stands from the digit 0: its value if it is a digit, more than 9 if not. So one number tells both, in as few instructions as there are.
+fn from_zero(byte: u8) -> u32
+    ensures { λ r. ⌜ r ≡ fromZero byte ⌝ }
+{
+    let code = byte as u32;
+    if code < b'0' as u32 {
+        return code + AROUND;
+    }
+    code - (b'0' as u32)
+}
+
 // The digits from a place on, before a point, as long as the magnitude counts them.
 fn run_from(bytes: &[u8], from: usize, start: u32) -> Run
     ensures { λ r. ⌜ r ≡ runOf start (drop from (now (bytes .entry))) from ⌝ }
@@ -140,7 +154,8 @@ fn run_from(bytes: &[u8], from: usize, start: u32) -> Run
     let mut at = from;
     while at < bytes.len() {
         let byte = bytes[at];
-        if !is_digit(byte) {
+        let digit = from_zero(byte);
+        if 9 < digit {
             return Run {
                 magnitude: magnitude,
                 at: at,
@@ -152,7 +167,7 @@ fn run_from(bytes: &[u8], from: usize, start: u32) -> Run
                 at: at,
             };
         }
-        magnitude = magnitude * 10 + ((byte - b'0') as u32);
+        magnitude = magnitude * 10 + digit;
         at += 1;
     }
     Run {
@@ -191,25 +206,36 @@ fn whole_at(bytes: &[u8], at: usize) -> Scanned
     }
 }
 
-// A number with all the digits from a place on.
+// A number after its point, with all the digits from a place on. What they change is held in separate variables: a number is one word, taken apart and put together
+// for each digit.
 fn digits_from(bytes: &[u8], from: usize, start: Number) -> Scanned
+    requires { ⌜ start .pointed ≡ true ⌝ }
     ensures { λ r. ⌜ r ≡ digitsFrom start (drop from (now (bytes .entry))) from ⌝ }
 {
-    let mut number = start;
+    let mut filled = start.filled;
+    let mut decimals = start.decimals;
+    let mut magnitude = start.magnitude;
     let mut at = from;
     while at < bytes.len() {
         let byte = bytes[at];
         if !is_digit(byte) {
             return Scanned {
-                number: number,
+                number: start.so_far(filled, decimals, magnitude),
                 at: at,
             };
         }
-        number = number.with_digit(byte - b'0');
+        let digit = byte - b'0';
+        filled = true;
+        if PLACES <= decimals {
+            decimals = past(decimals, digit);
+        } else if magnitude <= PAST {
+            decimals += 1;
+            magnitude = magnitude * 10 + (digit as u32);
+        }
         at += 1;
     }
     Scanned {
-        number: number,
+        number: start.so_far(filled, decimals, magnitude),
         at: at,
     }
 }
@@ -266,17 +292,24 @@ impl Number {
         self.pointed
     }
 
-    // The number with a digit, so many decimals and that magnitude.
-    fn counted(self, decimals: u8, magnitude: u32) -> Number
-        ensures { λ r. ⌜ r ≡ countedOf self decimals magnitude ⌝ }
+    // The number with so many decimals and that magnitude, which has a digit or has none.
+    fn so_far(self, filled: bool, decimals: u8, magnitude: u32) -> Number
+        ensures { λ r. ⌜ r ≡ soFarOf self filled decimals magnitude ⌝ }
     {
         Number {
             negative: self.negative,
-            filled: true,
+            filled: filled,
             pointed: self.pointed,
             decimals: decimals,
             magnitude: magnitude,
         }
+    }
+
+    // The number with a digit, so many decimals and that magnitude.
+    fn counted(self, decimals: u8, magnitude: u32) -> Number
+        ensures { λ r. ⌜ r ≡ countedOf self decimals magnitude ⌝ }
+    {
+        self.so_far(true, decimals, magnitude)
     }
 
     // The number with one digit more.
@@ -345,10 +378,10 @@ impl Number {
         let decimals = self.decimals;
         let kept = self.ten_thousandths();
         // most numbers have no decimal past the fourth
-        if decimals <= PLACES {
-            return kept;
+        if HALF <= decimals {
+            return kept + carry(negative, decimals);
         }
-        kept + carry(negative, decimals)
+        kept
     }
 
     // The value of a number that has ended; bad if it has no digit or is out of range.

@@ -1,6 +1,8 @@
 -- The ways of `numberAt`, in its order.
-use mathlib.Core.Path.{sym, _∙_}
+use mathlib.Core.Path.{sym, ap, _∙_}
 use borrow.Author.Needs.{needs}
+use Rattle.numerals.specs.declared.number.Number.{Number}
+use Rattle.numerals.specs.Number.{pointOf}
 use Rattle.numerals.specs.RunLaws.{at-place, number-past, number-whole, number-pointed}
 use Rattle.numerals.proofs.number.number_at.Statement.{statement}
 use Rattle.numerals.proofs.number.number_at.Tie as tie
@@ -28,7 +30,8 @@ with-point-requires : tie.Need-with-point-requires
 with-point-requires c κs = search needs
 
 digits-from-requires : tie.Need-digits-from-requires
-digits-from-requires c κs = search needs
+unfolding pointOf
+digits-from-requires c κs = ap (λ (n : Number). n .pointed) (c .with-point .ensures)
 
 returns-2 : tie.Need-returns-2
 returns-2 c =

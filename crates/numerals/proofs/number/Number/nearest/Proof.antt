@@ -24,19 +24,19 @@ add-result c =
     let m : n .magnitude < 2 ^ 32 = omega arith in
     record { fits = omega (arith, c .carry .ensures, t .ten-thousandths .ensures, scaled-le (n .decimals) m, carry-small (n .negative) (n .decimals)) }
 
--- no decimal past the fourth
 returns : tie.Need-returns
 unfolding nearestOf
 returns c =
-    let s : tie.Start = search in
-    let n = s .args .self in
-    search (rules, ← c .before .ten-thousandths .ensures, no-carry (n .negative) (n .decimals) (c .if1 .taken))
-
-returns-2 : tie.Need-returns-2
-unfolding nearestOf
-returns-2 c =
     let t : tie.After-ten-thousandths = search in
     search (rules, ← c .carry .ensures, ← t .ten-thousandths .ensures)
 
+-- nothing past the fourth decimal, or below a half of it
+returns-2 : tie.Need-returns-2
+unfolding nearestOf
+returns-2 c =
+    let s : tie.Start = search in
+    let n = s .args .self in
+    search (rules, ← c .before .ten-thousandths .ensures, no-carry (n .negative) (n .decimals) (c .if1 .left))
+
 pub nearest-spec : {M : Type 1} → statement M
-nearest-spec = tie.close (tie.spec ten-thousandths-requires returns carry-requires add-result returns-2)
+nearest-spec = tie.close (tie.spec ten-thousandths-requires carry-requires add-result returns returns-2)
