@@ -7,7 +7,7 @@
 //! * [`difference`] and [`shrink`]: a wrong answer with its calls; the shortest input that has one.
 //! * [`hunt`]: a budget of streams, each in every way; a [`hunt::Finding`] reproduces a difference.
 //! * [`record`]: the answers on fixed streams, to compare two versions of the library.
-//! * [`loads`]: the loads of the benchmark.
+//! * [`loads`]: the loads of the benchmark; [`least`]: the least time of each call of a run.
 //!
 //! The tests are `cargo test`, the benchmark `cargo run --release`.
 
@@ -17,6 +17,7 @@ pub mod dice;
 pub mod difference;
 pub mod due;
 pub mod hunt;
+pub mod least;
 pub mod loads;
 pub mod partner;
 pub mod record;

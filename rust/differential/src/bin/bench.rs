@@ -2,25 +2,32 @@
 //!
 //! `bench [--markdown] [NAME..]` prints a table of all loads, or of the named ones.
 //! `bench --write NAME` writes the bytes of a load.
+//! `bench --turns NAME` writes how many bytes a load has; then, for each line that it reads, it runs
+//! the proved library alone and writes the nanoseconds of each call. The program `compare` asks two
+//! such, with two archives of the library.
 //!
 //! Both sides do the same job: all strokes, and refusals with the places of their bytes, into a
-//! lent list, block by block. They run in turns, and the best of several runs counts. Before that
-//! a checksum over every mark of both sides is compared.
+//! lent list, block by block. They run in turns. A call takes some 0.1 ms, and the least time of each
+//! call counts, so that what disturbs one run does not show. Before that a checksum over every mark
+//! of both sides is compared.
 
 use baseline::{number, Stroke};
+use differential::least::{Least, Times};
 use differential::loads::{Load, LIMITS, LOADS};
 use std::hint::black_box;
 use std::io::Write;
 use std::process::ExitCode;
-use std::time::{Duration, Instant};
+use std::time::Instant;
 
 const BLOCK: usize = 1 << 16;
 const ROOM: usize = 4096;
-const ROUNDS: usize = 5;
+const ROUNDS: usize = 6;
 
-/// The columns; a mark is a stroke or a refusal.
-const HEADS: [&str; 9] =
-    ["load", "bytes", "strokes", "refusals", "ns/byte", "baseline", "ns/mark", "baseline", "ratio"];
+/// The columns; a mark is a stroke or a refusal. The last is how far the measurement repeats.
+const HEADS: [&str; 10] = [
+    "load", "bytes", "strokes", "refusals", "ns/byte", "baseline", "ns/mark", "baseline", "ratio",
+    "repeats",
+];
 
 /// What came out: marks by kind, and a sum over all numbers of all of them in order.
 #[derive(Clone, Copy, PartialEq, Eq, Debug, Default)]
@@ -42,22 +49,26 @@ impl Outcome {
     }
 }
 
-/// Goes through the bytes in blocks. `plot` gets the bytes before a call and those of the call, and
-/// answers how many it took and a number, which is 0 when all was done.
-fn in_blocks(bytes: &[u8], mut plot: impl FnMut(usize, &[u8]) -> (usize, u8)) {
+/// Goes through the bytes in blocks, and answers the nanoseconds of each call. `plot` gets the bytes
+/// before a call and those of the call, and answers how many it took and a number, which is 0 when
+/// all was done.
+fn in_blocks(bytes: &[u8], mut plot: impl FnMut(usize, &[u8]) -> (usize, u8)) -> Times {
+    let mut times = Vec::new();
     let mut at = 0;
     loop {
         let end = ((at / BLOCK + 1) * BLOCK).min(bytes.len());
+        let start = Instant::now();
         let (taken, number) = plot(at, &bytes[at..end]);
+        times.push(start.elapsed().as_nanos() as u64);
         at += taken;
         if at == bytes.len() && number == number::NONE {
-            return;
+            return times;
         }
     }
 }
 
 /// The proved library; `seen` gets the bytes before each call, and its marks.
-fn proved(bytes: &[u8], mut seen: impl FnMut(usize, &[vutaroi::Mark])) {
+fn proved(bytes: &[u8], mut seen: impl FnMut(usize, &[vutaroi::Mark])) -> Times {
     let [left, bottom, right, top] = LIMITS;
     let (mut machine, _) = vutaroi::Machine::fresh(left, bottom, right, top);
     let mut list = vec![vutaroi::Mark::default(); ROOM];
@@ -65,11 +76,11 @@ fn proved(bytes: &[u8], mut seen: impl FnMut(usize, &[vutaroi::Mark])) {
         let fed = machine.plot(block, &mut list).expect("a machine of the calls");
         seen(at, &list[..fed.stored]);
         (fed.taken, fed.number)
-    });
+    })
 }
 
 /// The baseline, likewise; a refusal is a record without a pen.
-fn baseline(bytes: &[u8], mut seen: impl FnMut(usize, &[Stroke])) {
+fn baseline(bytes: &[u8], mut seen: impl FnMut(usize, &[Stroke])) -> Times {
     let [left, bottom, right, top] = LIMITS;
     let (mut machine, _) = baseline::Machine::fresh(left, bottom, right, top);
     let mut list = vec![Stroke::default(); ROOM];
@@ -77,7 +88,7 @@ fn baseline(bytes: &[u8], mut seen: impl FnMut(usize, &[Stroke])) {
         let fed = plot(&mut machine, block, &mut list);
         seen(at, &list[..fed.stored]);
         (fed.taken, fed.number)
-    });
+    })
 }
 
 /// Feed that goes on after refusals. The last record is kept free for one.
@@ -112,38 +123,26 @@ fn outcome(bytes: &[u8]) -> Result<Outcome, String> {
     }
 }
 
-/// Time used on a processor if the system tells it, which other programs do not disturb, else
-/// the time of day.
-fn now(start: Instant) -> Duration {
-    std::fs::read_to_string("/proc/thread-self/schedstat")
-        .ok()
-        .and_then(|text| text.split(' ').next()?.parse().ok())
-        .map_or_else(|| start.elapsed(), Duration::from_nanos)
+/// The proved library, with nothing done about its marks.
+fn bare(bytes: &[u8]) -> Times {
+    proved(black_box(bytes), |_, marks| _ = black_box(marks))
 }
 
-/// Nanoseconds of a run.
-fn timed(run: impl FnOnce()) -> f64 {
-    let origin = Instant::now();
-    let start = now(origin);
-    run();
-    (now(origin) - start).as_secs_f64() * 1e9
-}
-
-/// The least nanoseconds of each side, in turns.
-fn measure(bytes: &[u8]) -> [f64; 2] {
-    let mut best = [f64::INFINITY; 2];
+/// The least of each call of both sides, in turns.
+fn measure(bytes: &[u8]) -> [Least; 2] {
+    let mut least = [Least::default(), Least::default()];
     for _ in 0..ROUNDS {
-        let ours = timed(|| proved(black_box(bytes), |_, marks| _ = black_box(marks)));
-        let theirs = timed(|| baseline(black_box(bytes), |_, marks| _ = black_box(marks)));
-        best = [best[0].min(ours), best[1].min(theirs)];
+        least[0].add(&bare(bytes));
+        least[1].add(&baseline(black_box(bytes), |_, marks| _ = black_box(marks)));
     }
-    best
+    least
 }
 
 fn row(load: &Load, markdown: bool) -> Result<String, String> {
     let bytes = load.bytes();
     let seen = outcome(&bytes).map_err(|error| format!("{}: {error}", load.name))?;
-    let [ours, theirs] = measure(&bytes);
+    let least = measure(&bytes);
+    let [ours, theirs] = [least[0].total(), least[1].total()];
     let marks = seen.strokes + seen.refusals;
     let each = |time: f64| match marks {
         0 => "–".to_string(),
@@ -159,15 +158,16 @@ fn row(load: &Load, markdown: bool) -> Result<String, String> {
         each(ours),
         each(theirs),
         format!("{:.2}", ours / theirs),
+        format!("{:.3}", least[0].repeats().max(least[1].repeats())),
     ];
     Ok(line(&cells, markdown))
 }
 
-fn line(cells: &[String; 9], markdown: bool) -> String {
+fn line(cells: &[String; 10], markdown: bool) -> String {
     if markdown {
         return format!("| {} |", cells.join(" | "));
     }
-    let widths = [27, 9, 9, 9, 8, 8, 8, 8, 6];
+    let widths = [27, 9, 9, 9, 8, 8, 8, 8, 6, 8];
     let mut text = format!("{:27}", cells[0]);
     for (cell, width) in cells.iter().zip(widths).skip(1) {
         text += &format!(" {cell:>width$}");
@@ -178,7 +178,7 @@ fn line(cells: &[String; 9], markdown: bool) -> String {
 fn table(names: &[String], markdown: bool) -> Result<(), String> {
     println!("{}", line(&HEADS.map(str::to_string), markdown));
     if markdown {
-        println!("|---|{}", "---:|".repeat(8));
+        println!("|---|{}", "---:|".repeat(9));
     }
     for load in LOADS.iter().filter(|load| names.is_empty() || names.iter().any(|n| n == load.name))
     {
@@ -187,22 +187,40 @@ fn table(names: &[String], markdown: bool) -> Result<(), String> {
     Ok(())
 }
 
+/// Runs the proved library once for each line that is read.
+fn turns(bytes: &[u8]) -> std::io::Result<()> {
+    let mut out = std::io::stdout().lock();
+    writeln!(out, "{}", bytes.len())?;
+    out.flush()?;
+    for line in std::io::stdin().lines() {
+        line?;
+        let times: Vec<String> = bare(bytes).iter().map(u64::to_string).collect();
+        writeln!(out, "{}", times.join(" "))?;
+        out.flush()?;
+    }
+    Ok(())
+}
+
 fn run(mut arguments: Vec<String>) -> Result<(), String> {
-    let markdown = arguments.iter().any(|word| word == "--markdown");
-    let write = arguments.iter().any(|word| word == "--write");
-    arguments.retain(|word| word != "--markdown" && word != "--write");
+    let mut switch = |name: &str| {
+        let count = arguments.len();
+        arguments.retain(|word| word != name);
+        arguments.len() < count
+    };
+    let [markdown, write, by_turns] = ["--markdown", "--write", "--turns"].map(&mut switch);
     if let Some(word) = arguments.iter().find(|word| !LOADS.iter().any(|load| load.name == **word))
     {
         return Err(format!("no load {word}: {}", LOADS.map(|load| load.name).join(", ")));
     }
-    match &arguments[..] {
-        [name] if write => {
-            let load = LOADS.into_iter().find(|load| load.name == name).expect("a load");
-            std::io::stdout().write_all(&load.bytes()).map_err(|error| error.to_string())
-        }
-        _ if write => Err("--write asks for one load".to_string()),
-        names => table(names, markdown),
+    if !write && !by_turns {
+        return table(&arguments, markdown);
     }
+    let [name] = &arguments[..] else {
+        return Err("--write and --turns ask for one load".to_string());
+    };
+    let bytes = LOADS.into_iter().find(|load| load.name == name).expect("a load").bytes();
+    let done = if write { std::io::stdout().write_all(&bytes) } else { turns(&bytes) };
+    done.map_err(|error| error.to_string())
 }
 
 fn main() -> ExitCode {
