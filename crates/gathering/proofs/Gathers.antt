@@ -12,6 +12,7 @@ use lib.Dec.{eqb, ltb}
 use lib.IntN.{ℤ, pos}
 use lib.ListN.{length, getD, drop, drop-of-length-le, length-set, length-append}
 use lib.Seq.{drop-cons}
+use Rattle.reader.specs.declared.Reader.{Reader}
 use Rattle.reader.specs.declared.Event.{Event}
 use Rattle.reader.specs.declared.Step.{Step}
 use Rattle.reader.specs.declared.Next.{Next}
@@ -20,6 +21,8 @@ use Rattle.reader.specs.Stream.{_telling_}
 use Rattle.reader.specs.Next.{isNothing, nextOf}
 use Rattle.reader.specs.NextLaws.{next-end, next-quiet, next-event}
 use Rattle.hpgl.specs.declared.Acted.{Acted}
+use Rattle.hpgl.specs.declared.Core.{Core}
+use Rattle.hpgl.specs.declared.Store.{Store}
 use Rattle.hpgl.specs.declared.Work.{Work}
 use Rattle.hpgl.specs.declared.Work.the-variants.{Nothing, Line, Chords, Edges}
 use Rattle.hpgl.specs.declared.State.{State}
@@ -34,6 +37,7 @@ use Rattle.feeding.specs.FeedLaws.{draw-less}
 use Rattle.hpgl.specs.Valid.{mostChords, ValidWork, Valid}
 use Rattle.hpgl.specs.Cases.{never}
 use Rattle.hpgl.specs.ValidKept.{valid-draw}
+use Rattle.gathering.specs.declared.Stopped.{Stopped}
 use Rattle.gathering.specs.Gather.{whole, stoppedAs, stoppedOf, gatherFrom, Gathers, remainsOf, stuckOf, haltedOf, countAfter, withStroke, recordOf, putOf}
 use Rattle.gathering.specs.Far.{before, Far, Reached}
 use Rattle.gathering.specs.GatherLaws.{at-end, at-stuck, at-byte, at-refusal, at-refused, at-full, at-draw}
@@ -150,6 +154,11 @@ unfolding withStroke
 stroke-length s i zs = simp (length-set)
 
 -- ---- how far it is
+
+-- an answer whose core was put together of its parts
+pub ends : {p : Stopped} {A : Type 0} {x : Reader} {k c : Core} {st : Store} {w : Work} {at n number : ℕ} {r : Stopped} →
+    r ≡ stoppedAs (whole x k st w) at n number → k ≡ c → (stoppedAs (whole x c st w) at n number ≡ p) × A → (r ≡ p) × A
+ends {x = x} {st = st} {w} {at} {n} {number} e h g = (e ∙ ap (λ (k : Core). stoppedAs (whole x k st w) at n number) h ∙ g .0, g .1)
 
 pub far-start : (on : Bool) (m : State) (s : List ℕ) (entry : List ℤ) (at : ℕ) → Valid m → Far on (gatherFrom on m (drop at s) at (length entry / 5)) s entry entry m at 0
 unfolding numbersOf

@@ -4,6 +4,7 @@ use mathlib.Core.Path.{_≡_, refl, sym, ap, subst, _∙_}
 use mathlib.Core.Bool.{Bool, true, false, true≢false, cond, not}
 use mathlib.Core.List.{List}
 use Prim.Native.Nat.{ℕ, _+_, _*_, _/_, _≤_, _<_}
+use native.Mathlib.Nat.{mul-div-le}
 use native.Mathlib.Omega.{arith}
 use lib.Dec.{T, eqb}
 use borrow.Author.Tests.{eq-eqb, eqb-true}
@@ -12,14 +13,15 @@ use lib.IntN.{ℤ}
 use lib.ListN.{length, getD}
 use lib.ListN as list
 use Rattle.reader.specs.declared.Event.the-variants as event
+use Rattle.reader.specs.declared.Reader.{Reader}
 use Rattle.reader.specs.declared.Step.{Step}
 use Rattle.reader.specs.declared.Next.{Next}
+use Rattle.reader.specs.Step.{passedOver}
 use Rattle.reader.specs.Stream.{_telling_}
 use Rattle.mnemonics.specs.Table.{EP, PU, PD, PA, PR}
 use Rattle.reader.specs.Sizes.{isCause, Caused}
 use Rattle.reader.specs.Laws.{cause-law}
 use Rattle.reader.specs.declared.Numbers.{Numbers}
-use Rattle.hpgl.specs.declared.Settings.{Settings}
 use Rattle.hpgl.specs.declared.Polygon.{Polygon}
 use Rattle.hpgl.specs.declared.Carriage.{Carriage}
 use Rattle.hpgl.specs.declared.Edge.{Edge}
@@ -35,18 +37,19 @@ use Rattle.hpgl.specs.declared.Drawn.{Drawn}
 use Rattle.hpgl.specs.declared.Segment.{Segment}
 use Rattle.hpgl.specs.declared.Segment.the-variants as segment
 use Rattle.hpgl.specs.Cases.{pick}
+use Rattle.hpgl.specs.Pins.{pinned}
 use Rattle.hpgl.specs.Place.{limits}
 use Rattle.hpgl.specs.Rules.{done, letters, inked, longer, epRule, endRule, actOn}
 use Rattle.hpgl.specs.Machine.{waiting, stored, queued, readerAfter, workAfter}
 use Rattle.hpgl.specs.Segment.{workSegment, segmentOf, drawnOf, segment-drawn, SmallSegment, segment-small}
+use Rattle.feeding.specs.DrawOff.{listFull}
 use Rattle.feeding.specs.Plot.{Plot, refusal}
-use Rattle.rulekit.specs.declared.hand.Hand.{Hand}
 use Rattle.rulekit.specs.declared.hand.Pointed.{Pointed}
-use Rattle.rulekit.specs.Hand.{coreOf, lineOf, pointedOf}
+use Rattle.rulekit.specs.Hand.{handOf, coreOf, lineOf, pointedOf}
 use Rattle.gathering.specs.Gather.{whole, stoppedAs, Gathers, countAfter, withStroke, recordOf, putOf, outlineOf, overflowsOf}
 use Rattle.gathering.specs.Far.{Far, Reached}
-use Rattle.gathering.proofs.Turns.{leaves, Turn, turn-valid}
-use Rattle.gathering.proofs.Gathers.{put-fits, far-draw, far-turn, far-refusal, far-refused}
+use Rattle.gathering.proofs.Turns.{leaves, Turn, reader-off, turn-valid}
+use Rattle.gathering.proofs.Gathers.{put-fits, far-filled, far-draw, far-turn, far-refusal, far-refused}
 
 -- a name leaves the carriage where it is
 pub letters-position : (k : Carriage) (op : ℕ) → letters k op .position ≡ k .position
@@ -73,13 +76,13 @@ outline-waits c es = go (eqb (c .carriage .pen .number) 0)
 not-full : (k n : ℕ) → eqb k n ≡ false → k ≡ n → ⊥
 not-full k n h e = true≢false (sym (eq-eqb k n e) ∙ h)
 
-pub overflow-waits : (g : Segment) (k room : ℕ) (es : List Edge) (edges : ℕ) (c : Core) → overflowsOf g k room ≡ true → (0 < waiting (leaves es edges c (lineOf g))) × (k ≡ room)
+overflow-waits : (g : Segment) (k room : ℕ) (es : List Edge) (edges : ℕ) (c : Core) → overflowsOf g k room ≡ true → (0 < waiting (leaves es edges c (lineOf g))) × (k ≡ room)
 unfolding overflowsOf queued lineOf waiting
 overflow-waits segment.Nothing k room es edges c h = absurd (true≢false (sym h))
 overflow-waits segment.PenUp k room es edges c h = absurd (true≢false (sym h))
 overflow-waits (segment.Line a b) k room es edges c h = (omega arith, eqb-true k room h)
 
-pub drawn-fits : (g : Segment) (l : Rect) (p k room n : ℕ) → overflowsOf g k room ≡ false → k ≤ room → room * 5 ≤ n → countAfter (drawnOf l p g) k * 5 ≤ n
+drawn-fits : (g : Segment) (l : Rect) (p k room n : ℕ) → overflowsOf g k room ≡ false → k ≤ room → room * 5 ≤ n → countAfter (drawnOf l p g) k * 5 ≤ n
 unfolding overflowsOf drawnOf countAfter
 drawn-fits segment.Nothing l p k room n h a b = omega (arith, a, b)
 drawn-fits segment.PenUp l p k room n h a b = omega (arith, a, b)
@@ -104,6 +107,10 @@ module _ {on : Bool} {all : Plot} {s : List ℕ} {entry now : List ℤ} {m : Sta
       Far on all s entry now next (q .at) count
   next-turned turn z free = at-next (far-turn (r .far) turn (r .idle) (r .within) free z)
 
+  -- there is room for a segment that has a record
+  pub next-fits : (g : Segment) → overflowsOf g count (length entry / 5) ≡ false → (l : Rect) (p : ℕ) {d : Drawn} → d ≡ drawnOf l p g → countAfter d count * 5 ≤ length now
+  next-fits g o l p e = rw e (drawn-fits g _ _ _ _ _ o (r .far .room) (omega (arith, mul-div-le (length entry) 5, r .far .long)))
+
   module _ (c : Core) where
     abbrev pub next : Segment → State
     next g = whole (q .reader) c (m .store) (leaves (m .store .edges) (m .core .carriage .polygon .edges) c (lineOf g))
@@ -115,8 +122,13 @@ module _ {on : Bool} {all : Plot} {s : List ℕ} {entry now : List ℤ} {m : Sta
     moved-turn (segment.Line a b) e = record { step = r .step; act = e; reader = refl; core = refl; edges = refl; work = refl }
 
     -- what it leaves waits
-    pub next-waits : (g : Segment) → doing c g ≡ actOn (m .core) (q .event) → (on ≡ true → count < length entry / 5) → Far on all s entry now (next g) (q .at) count
+    next-waits : (g : Segment) → doing c g ≡ actOn (m .core) (q .event) → (on ≡ true → count < length entry / 5) → Far on all s entry now (next g) (q .at) count
     next-waits g e free = at-next (far-turn (r .far) (moved-turn g e) (r .idle) (r .within) free refl)
+
+    -- a segment for which there is no record ends it
+    pub next-full : (g : Segment) → overflowsOf g count (length entry / 5) ≡ true → doing c g ≡ actOn (m .core) (q .event) → (on ≡ true → count < length entry / 5) →
+        {w : Work} → w ≡ next g .work → Gathers all entry now (stoppedAs (whole (q .reader) c (m .store) w) (q .at) count listFull)
+    next-full g h e free f = let k = overflow-waits g count _ (m .store .edges) (m .core .carriage .polygon .edges) c h in rw f (far-filled (next-waits g e free) (k .0) (k .1))
 
     -- nothing is drawn
     pub next-kept : doing c segment.Nothing ≡ actOn (m .core) (q .event) → (on ≡ true → count < length entry / 5) → Far on all s entry now (whole (q .reader) c (m .store) Nothing) (q .at) count
@@ -152,26 +164,22 @@ module _ {on : Bool} {all : Plot} {s : List ℕ} {entry now : List ℤ} {m : Sta
           Far on all s entry numbers (whole (q .reader) c (m .store) Nothing) (q .at) k
       next-drawn g o e f h k = rw (h, k, f) (at-next (worked g o e))
 
-  -- a point of a polygon
-  module _ (set : Settings) (h : Hand) (g : Polygon) (t : Pointed) (same : m .core ≡ coreOf set h g) (acts : pointedOf set h g t ≡ actOn (coreOf set h g) (q .event)) (z : t .number ≡ 0)
-      (free : on ≡ true → count < length entry / 5) where
-    abbrev longer-core : Core
-    longer-core = coreOf set (t .hand) (longer g (t .cost) (t .hand .position))
+  -- a point of a polygon: an edge more, unless it is the first of a subpolygon
+  module _ (t : Pointed) (free : on ≡ true → count < length entry / 5) (z : t .number ≡ 0) (acts : pointedOf (m .core .settings) (handOf (m .core .carriage)) (m .core .carriage .polygon) t ≡ actOn (m .core) (q .event)) where
+    abbrev was : Polygon
+    was = m .core .carriage .polygon
 
-    points : {b : Bool} → g .empty ≡ b → done longer-core (cond b Keep (Join (t .edge))) ≡ actOn (m .core) (q .event)
+    abbrev grown : Bool → Store
+    grown b = record { edges = cond b (m .store .edges) (list.set (m .store .edges) (was .edges) (t .edge)) }
+
+    points : {b : Bool} → was .empty ≡ b → done (coreOf (m .core .settings) (t .hand) (longer was (t .cost) (t .hand .position))) (cond b Keep (Join (t .edge))) ≡ actOn (m .core) (q .event)
     unfolding pointedOf
-    points {b} e = sym (rw (z, e) refl) ∙ acts ∙ ap (λ (c : Core). actOn c (q .event)) (sym same)
+    points e = sym (rw (z, e) refl) ∙ acts
 
-    pub next-first : g .empty ≡ true → Far on all s entry now (whole (q .reader) longer-core (m .store) Nothing) (q .at) count
+    pub next-point : (b : Bool) → was .empty ≡ b → {g : Polygon} → g ≡ longer was (t .cost) (t .hand .position) → Far on all s entry now (whole (q .reader) (coreOf (m .core .settings) (t .hand) g) (grown b) Nothing) (q .at) count
     unfolding readerAfter stored queued done
-    next-first e = next-turned (record { step = r .step; act = points e; reader = refl; core = refl; edges = refl; work = refl }) refl free
-
-    pub next-edge : g .empty ≡ false → {st : Store} → st .edges ≡ list.set (m .store .edges) (g .edges) (t .edge) →
-        Far on all s entry now (whole (q .reader) longer-core st Nothing) (q .at) count
-    unfolding readerAfter stored queued done
-    next-edge e f =
-        let k = ap (λ (c : Core). list.set (m .store .edges) (c .carriage .polygon .edges) (t .edge)) (sym same) in
-        next-turned (record { step = r .step; act = points e; reader = refl; core = refl; edges = f ∙ k; work = refl }) refl free
+    next-point true e f = next-turned (record { step = r .step; act = points e; reader = refl; core = ap (coreOf (m .core .settings) (t .hand)) f; edges = refl; work = refl }) refl free
+    next-point false e f = next-turned (record { step = r .step; act = points e; reader = refl; core = ap (coreOf (m .core .settings) (t .hand)) f; edges = refl; work = refl }) refl free
 
   -- EP: the stored edges wait
   pub next-outline : {k : ℕ} {n : Numbers} → q .event ≡ event.Ended k n → k ≡ EP → {w : Work} → w ≡ outlineOf (m .core .carriage .pen) (m .core .carriage .polygon .edges) →
@@ -188,14 +196,27 @@ module _ {on : Bool} {all : Plot} {s : List ℕ} {entry now : List ℤ} {m : Sta
       let caused = subst Caused (sym (ap (λ (x : Step). x .event) (r .step)) ∙ told) (cause-law (r .reader) byte) in
       subst (λ (n : ℕ). T (isCause n)) l caused
 
-  module _ {t : Acted} {next : State} (turn : Turn last byte (q .reader telling q .event) t next) (some : t .number ≡ 0 → ⊥) where
-    -- a refusal is stored
-    pub next-refusal : on ≡ true → count < length entry / 5 → {numbers : List ℤ} {x : Stroke} {n : ℕ} →
-        x ≡ recordOf (refusal (t .number) (q .at)) → numbers ≡ withStroke x (count * 5) now → n ≡ count + 1 → Far on all s entry numbers next (q .at) n
+  -- a refusal: the reader passes over the rest, and nothing is stored or queued
+  module _ {t : Acted} {x : Reader} {c : Core} (act : t ≡ actOn (m .core) (q .event)) (some : t .number ≡ 0 → ⊥) (off : x ≡ passedOver (q .reader)) (left : c ≡ t .core) where
+    keeps : t .action ≡ Keep
+    keeps = subst (λ (t : Acted). (t .number ≡ 0 → ⊥) → t .action ≡ Keep) (sym act) (λ f. pinned (m .core) (q .event) .refused f .0) some
+
+    refused-turn : Turn last byte (q .reader telling q .event) t (whole x c (m .store) Nothing)
+    unfolding stored queued
+    refused-turn =
+        let es = m .store .edges in
+        let k = m .core .carriage .polygon .edges in
+        record { step = r .step; act = act; reader = off ∙ reader-off _ some; core = left; edges = ap (stored es k) (sym keeps); work = ap (leaves es k (t .core)) (sym keeps) }
+
+    -- it is stored
+    pub next-refusal : on ≡ true → count < length entry / 5 → {numbers : List ℤ} {d : Stroke} {n : ℕ} →
+        d ≡ recordOf (refusal (t .number) (q .at)) → numbers ≡ withStroke d (count * 5) now → n ≡ count + 1 → Far on all s entry numbers (whole x c (m .store) Nothing) (q .at) n
     next-refusal o free e f h =
         at-next
-        (far-refusal (r .far) turn (r .idle) (r .within) some o free (f ∙ (λ i. withStroke ((e ∙ ap (λ (k : ℕ). recordOf (refusal (t .number) k)) (r .ends)) i) (count * 5) now)) h)
+        (far-refusal (r .far) refused-turn (r .idle) (r .within) some o free (f ∙ (λ i. withStroke ((e ∙ ap (λ (k : ℕ). recordOf (refusal (t .number) k)) (r .ends)) i) (count * 5) now)) h)
 
     -- or ends the feed
-    pub next-refused : on ≡ false → Gathers all entry now (stoppedAs next (q .at) count (t .number))
-    next-refused o = subst (λ (k : ℕ). Gathers all entry now (stoppedAs next k count (t .number))) (sym (r .ends)) (far-refused (r .far) turn (r .idle) (r .within) some o)
+    pub next-refused : on ≡ false → Gathers all entry now (stoppedAs (whole x c (m .store) Nothing) (q .at) count (t .number))
+    next-refused o =
+        subst (λ (k : ℕ). Gathers all entry now (stoppedAs (whole x c (m .store) Nothing) k count (t .number))) (sym (r .ends))
+        (far-refused (r .far) refused-turn (r .idle) (r .within) some o)

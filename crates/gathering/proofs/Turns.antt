@@ -130,10 +130,10 @@ module _ (s : Settings) (h : Hand) (g : Polygon) where
   pair-acts n e = e
 
   module _ (op : ℕ) {k : ℕ} (number : k ≡ nameNumber (g .mode) op) where
-    pub named-acts : (to : Hand) → k ≡ 0 → carriageOf to g ≡ letters (carriageOf h g) op → acting s to g Keep k ≡ actOn (coreOf s h g) (event.Named op)
+    pub named-acts : (to : Hand) → k ≡ 0 → carriageOf to g ≡ letters (carriageOf h g) op → acting s to g Keep 0 ≡ actOn (coreOf s h g) (event.Named op)
     unfolding actOn done
     named-acts to z e =
-        (λ i. record { core = record { settings = s; carriage = e i }; action = Keep; number = z i })
+        (λ i. record { core = record { settings = s; carriage = e i }; action = Keep; number = 0 })
         ∙ sym (name-parts s h g op ∙ rw (eq-eqb (nameNumber (g .mode) op) 0 (sym number ∙ z)) refl)
 
     pub unknown-acts : (k ≡ 0 → ⊥) → acting s h g Keep k ≡ actOn (coreOf s h g) (event.Named op)

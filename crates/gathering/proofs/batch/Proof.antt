@@ -10,35 +10,12 @@ use Rattle.gathering.specs.Far.{Batching, Drew}
 use Rattle.gathering.proofs.batch.Statement.{statement}
 use Rattle.gathering.proofs.batch.Tie as tie
 
-enum-told : tie.Need-enum-told
-enum-told c = search needs
-
-enum-told-2 : tie.Need-enum-told-2
-enum-told-2 c = search needs
-
-enum-known-w : tie.Need-enum-known-w
-enum-known-w c = search needs
-
 chords-requires : tie.Need-chords-requires
 chords-requires c κs =
     let s : tie.Start = search in
     let k : tie.After-w = search in
     let a = s .args in
     (subst (λ (w : Work). Batching (a .numbers .now) (a .frame) (a .pen) w (a .before)) (k .w .given .1) (s .pre .0), s .pre .1, s .pre .2)
-
-enum-told-3 : tie.Need-enum-told-3
-enum-told-3 c = search needs
-
-returns : tie.Need-returns
-unfolding batchedOf
-returns c = let s : tie.Start = search in never (ap batchedOf (c .enum-told .given .1)) (s .pre .3)
-
-returns-2 : tie.Need-returns-2
-unfolding batchedOf
-returns-2 c = let s : tie.Start = search in never (ap batchedOf (c .enum-told2 .given .1)) (s .pre .3)
-
-same-length : tie.Need-same-length
-same-length c = search needs
 
 returns-3 : tie.Need-returns-3
 unfolding waiting
@@ -51,21 +28,18 @@ returns-3 c =
       subst (λ (w : Work). (d : Batching (a .numbers .now) (a .frame) (a .pen) w (a .before)) → Drew d (r .chords .last .1 .1 .1 .1 .1 .1 .0) (r .chords .result .work) (r .chords .result .count)) (sym (k .w .given .1)) (r .chords .ensures .1),
     )
 
-returns-4 : tie.Need-returns-4
-unfolding batchedOf
-returns-4 c = let s : tie.Start = search in never (ap batchedOf (c .enum-told3 .given .1)) (s .pre .3)
-
 pub batch-spec : {M : Type 1} → statement M
+unfolding batchedOf
 batch-spec =
     tie.close
     (tie.spec
-    enum-told
-    enum-told-2
-    enum-known-w
+    (λ c. search needs)
+    (λ c. search needs)
+    (λ c. search needs)
     chords-requires
-    enum-told-3
-    returns
-    returns-2
-    same-length
+    (λ c. search needs)
+    (λ c. let s : tie.Start = search in never (ap batchedOf (c .enum-told .given .1)) (s .pre .3))
+    (λ c. let s : tie.Start = search in never (ap batchedOf (c .enum-told2 .given .1)) (s .pre .3))
+    (λ c. search needs)
     returns-3
-    returns-4)
+    (λ c. let s : tie.Start = search in never (ap batchedOf (c .enum-told3 .given .1)) (s .pre .3)))

@@ -1,7 +1,7 @@
 -- The proof of `chords`. The invariant: for every feed or plot that was so far at the start, how far it is now, with the chords from `next` on waiting.
 use borrow.Author.Needs.{needs}
 use mathlib.Core.Path.{_≡_, refl, sym, ap, subst, _∙_}
-use Prim.Native.Nat.{ℕ, _+_, _-_, _/_, _≤_, _<_}
+use Prim.Native.Nat.{ℕ, _+_, _/_, _≤_, _<_}
 use native.Mathlib.Omega.{arith}
 use lib.ListN.{length}
 use Rattle.clip.specs.Reach.{SmallRect}
@@ -12,7 +12,7 @@ use Rattle.hpgl.specs.declared.Work.the-variants.{Chords}
 use Rattle.hpgl.specs.declared.Segment.the-variants as segment
 use Rattle.hpgl.specs.Machine.{waiting}
 use Rattle.hpgl.specs.Segment.{drawnOf, SmallSegment, segment-small}
-use Rattle.hpgl.specs.Valid.{mostChords, Valid}
+use Rattle.hpgl.specs.Valid.{Valid}
 use Rattle.hpgl.specs.ValidFacts.{limits-small, fewer}
 use Rattle.queue.specs.Corners.{vertexAt}
 use Rattle.gathering.specs.Gather.{whole, chordsLeft}
@@ -54,9 +54,6 @@ long l = let d = known (entry l) in far l d .long ∙ sym (d .far .long)
 rows-small : (s : tie.Start Inv-loop μ-loop) → UnitRows (s .args .frame .rows)
 rows-small s = rw (turned (known s)) (rows-unit (known s .far .valid .core .settings .turn))
 
-most : (s : tie.Start Inv-loop μ-loop) → s .args .from + s .args .many ≤ mostChords
-most s = known s .far .valid .work .1
-
 -- a chord is left, and a record for it
 abbrev Turn : Type 0
 Turn = tie.Else1 Inv-loop μ-loop
@@ -80,6 +77,14 @@ drawn-chord v = let l = turn (v .before) in λ j. segment.Line (l .loop .inv .1 
 vertex-requires : tie.Need-vertex-requires Inv-loop μ-loop
 vertex-requires c κs = let s : tie.Start Inv-loop μ-loop = search in (rows-small s, fewer (known s .far .valid .work .0) _ 0 (omega arith) (omega arith), s .pre .2)
 
+-- what is left is less than there was
+left-off : (l : Loop) {w : Work} → let a = entry l .args in
+    w ≡ chordsLeft (a .circle) (l .loop .next) (l .loop .left) → l .loop .left < a .many → (waiting w < a .many) × ((d : Known (entry l)) → Drew d (l .loop .numbers) w (l .loop .count))
+left-off l e h = (
+  rw (e, chords-waiting (entry l .args .circle) (l .loop .next) (l .loop .left)) h,
+  λ d. subst (λ (w : Work). Drew d (l .loop .numbers) w (l .loop .count)) (sym e) (far l d),
+)
+
 loop-holds : tie.Need-loop-holds Inv-loop μ-loop
 loop-holds c =
     let s : tie.Start Inv-loop μ-loop = search in
@@ -91,28 +96,12 @@ loop-holds c =
       λ e. refl,
     )
 
-chords-left-requires : tie.Need-chords-left-requires Inv-loop μ-loop
-chords-left-requires c κs = search needs
-
-same-length : tie.Need-same-length Inv-loop μ-loop
-same-length c = let l : Loop = search in long l
-
 returns : tie.Need-returns Inv-loop μ-loop
 returns c =
     let l : Loop = search in
     let t : tie.Then1 Inv-loop μ-loop = search in
-    let a = entry l .args in
-    let w = c .chords-left .ensures in
-    let apart : l .loop .left ≡ a .many → ⊥ = λ e. omega (arith, l .loop .inv .4 e, t .if1 .taken, entry l .pre .1) in (
-      rw (w, chords-waiting (a .circle) (l .loop .next) (l .loop .left)) (omega (arith, apart, l .loop .inv .3)),
-      λ d. subst (λ (w : Work). Drew d (l .loop .numbers) w (l .loop .count)) (sym w) (far l d),
-    )
-
-add-next : tie.Need-add-next Inv-loop μ-loop
-add-next c = let l : Loop = search in record { fits = omega (arith, most (entry l), l .loop .inv .2, some c) }
-
-sub-left : tie.Need-sub-left Inv-loop μ-loop
-sub-left c = search needs
+    let apart : l .loop .left ≡ entry l .args .many → ⊥ = λ e. omega (arith, l .loop .inv .4 e, t .if1 .taken, entry l .pre .1) in
+    left-off l (c .chords-left .ensures) (omega (arith, apart, l .loop .inv .3))
 
 vertex-requires-2 : tie.Need-vertex-requires-2 Inv-loop μ-loop
 vertex-requires-2 c κs =
@@ -134,12 +123,6 @@ drawn-of-requires c κs =
       subst SmallSegment (sym (drawn-chord c ∙ chord-waits (d .reader) (d .core) (d .store) (turned d) (s .args .circle) i (l .loop .left) (some e))) (segment-small v),
     )
 
-put-requires : tie.Need-put-requires Inv-loop μ-loop
-put-requires c κs = let e : Turn = search in let d = known (entry (turn e)) in put-fits _ _ _ (far-fits (far (turn e) d) (free e d))
-
-loop-less : tie.Need-loop-less Inv-loop μ-loop
-loop-less c = let e : Turn = search in omega (arith, some e)
-
 loop-again : tie.Need-loop-again Inv-loop μ-loop
 loop-again c =
     let e : Turn = search in
@@ -159,21 +142,11 @@ loop-again c =
       λ h. absurd (omega (arith, h, l .loop .inv .3, some e)),
     )
 
-chords-left-requires-2 : tie.Need-chords-left-requires-2 Inv-loop μ-loop
-chords-left-requires-2 c κs = search needs
-
-same-length-2 : tie.Need-same-length-2 Inv-loop μ-loop
-same-length-2 c = let l : Loop = search in long l
-
 returns-2 : tie.Need-returns-2 Inv-loop μ-loop
 returns-2 c =
     let l : Loop = search in
     let x : tie.After-loop Inv-loop μ-loop = search in
-    let a = entry l .args in
-    let w = c .chords-left2 .ensures in (
-      rw (w, chords-waiting (a .circle) (l .loop .next) (l .loop .left)) (omega (arith, x .loop-test .left, batched-chords (known (entry l)))),
-      λ d. subst (λ (w : Work). Drew d (l .loop .numbers) w (l .loop .count)) (sym w) (far l d),
-    )
+    left-off l (c .chords-left2 .ensures) (omega (arith, x .loop-test .left, batched-chords (known (entry l))))
 
 pub chords-spec : {M : Type 1} → statement M
 chords-spec =
@@ -183,16 +156,16 @@ chords-spec =
     μ-loop
     vertex-requires
     loop-holds
-    chords-left-requires
-    same-length
+    (λ c κs. search needs)
+    (λ c. let l : Loop = search in long l)
     returns
-    add-next
-    sub-left
+    (λ c. let l : Loop = search in record { fits = omega (arith, known (entry l) .far .valid .work .1, l .loop .inv .2, some c) })
+    (λ c. search needs)
     vertex-requires-2
     drawn-of-requires
-    put-requires
-    loop-less
+    (λ c κs. let e : Turn = search in let d = known (entry (turn e)) in put-fits _ _ _ (far-fits (far (turn e) d) (free e d)))
+    (λ c. let e : Turn = search in omega (arith, some e))
     loop-again
-    chords-left-requires-2
-    same-length-2
+    (λ c κs. search needs)
+    (λ c. let l : Loop = search in long l)
     returns-2)

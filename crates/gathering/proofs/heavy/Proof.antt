@@ -4,61 +4,20 @@ use Rattle.gathering.specs.Gather.{heavyOf}
 use Rattle.gathering.proofs.heavy.Statement.{statement}
 use Rattle.gathering.proofs.heavy.Tie as tie
 
-enum-told : tie.Need-enum-told
-enum-told c = search needs
-
-enum-told-2 : tie.Need-enum-told-2
-enum-told-2 c = search needs
-
-enum-told-3 : tie.Need-enum-told-3
-enum-told-3 c = search needs
-
-enum-told-4 : tie.Need-enum-told-4
-enum-told-4 c = search needs
-
-enum-told-5 : tie.Need-enum-told-5
-enum-told-5 c = search needs
-
-enum-told-6 : tie.Need-enum-told-6
-enum-told-6 c = search needs
-
-returns : tie.Need-returns
-unfolding heavyOf
-returns c = search needs
-
-returns-2 : tie.Need-returns-2
-unfolding heavyOf
-returns-2 c = search needs
-
-returns-3 : tie.Need-returns-3
-unfolding heavyOf
-returns-3 c = search needs
-
-returns-4 : tie.Need-returns-4
-unfolding heavyOf
-returns-4 c = search needs
-
-returns-5 : tie.Need-returns-5
-unfolding heavyOf
-returns-5 c = search needs
-
-returns-6 : tie.Need-returns-6
-unfolding heavyOf
-returns-6 c = search needs
-
 pub heavy-spec : {M : Type 1} → statement M
+unfolding heavyOf
 heavy-spec =
     tie.close
     (tie.spec
-    enum-told
-    enum-told-2
-    enum-told-3
-    enum-told-4
-    enum-told-5
-    enum-told-6
-    returns
-    returns-2
-    returns-3
-    returns-4
-    returns-5
-    returns-6)
+    (λ c. search needs)
+    (λ c. search needs)
+    (λ c. search needs)
+    (λ c. search needs)
+    (λ c. search needs)
+    (λ c. search needs)
+    (λ c. search needs)
+    (λ c. search needs)
+    (λ c. search needs)
+    (λ c. search needs)
+    (λ c. search needs)
+    (λ c. search needs))
