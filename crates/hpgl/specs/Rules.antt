@@ -1,5 +1,5 @@
 -- What each instruction does: the new core, the action, 01's number. One definition for each rule of document 01, in its order, and then of document 02.
--- Nothing here looks at the store or at the waiting work, and a refusal leaves the core as it is.
+-- Nothing here looks at the store or at the waiting work, and a refusal leaves the core as it is. Pages are those of the DraftPro manual (source document 001).
 use Prim.Native.Nat.{ℕ, _+_}
 use mathlib.Core.Bool.{Bool, true, false, cond, not, _&&_, _||_}
 use lib.Dec.{leb, ltb, eqb}
@@ -94,7 +94,7 @@ freshCore r = record { settings = freshSettings r; carriage = freshCarriage orig
 
 -- ---- Names
 
--- "PU, PD, PA, PR set pen or mode on their second letter." A pen that changes is marked till the first pair: see pointCost
+-- "PU, PD, PA, PR set pen or mode on their second letter." (Pages 4-14, 4-10, 4-8, 4-12.) A pen that changes is marked till the first pair: see pointCost
 unfoldable pub letters : Carriage → ℕ → Carriage
 letters k op =
     cond (eqb op PU) (withPen k (record { number = k .pen .number; down = false; changed = k .pen .down }))
@@ -117,7 +117,7 @@ rebased c s = record {
   carriage = withPosition (c .carriage) (restAt (turnedBackOf (pagePoint (c .settings) (c .carriage .position)) (s .turn)));
 }
 
--- "IN: all as fresh, but page point and pen number stay"
+-- "IN: all as fresh, but page point and pen number stay" (page 3-11)
 unfoldable pub inRule : Core → Acted
 inRule c =
     done
@@ -127,7 +127,7 @@ inRule c =
     })
     Keep
 
--- "DF: scaling off, no window, absolute mode"
+-- "DF: scaling off, no window, absolute mode" (page 3-8)
 unfoldable pub dfRule : Core → Acted
 dfRule c =
     done
@@ -146,7 +146,7 @@ setCorners c p q = cond (goodCorners p q) (done (rebased c (withCorners (c .sett
 unfoldable pub carried : Settings → Point → Point
 carried s p = point (p .x +ℤ (s .p2 .x -ℤ s .p1 .x)) (p .y +ℤ (s .p2 .y -ℤ s .p1 .y))
 
--- "IP: none, as fresh; two, P1, and P2 keeps its distance; four, both"
+-- "IP: none, as fresh; two, P1, and P2 keeps its distance; four, both" (page 3-12)
 unfoldable pub ipRule : Core → Numbers → Acted
 ipRule c n =
     cond (eqb (n .count) 0) (setCorners c (freshSettings (c .settings .hard) .p1) (freshSettings (c .settings .hard) .p2))
@@ -154,7 +154,7 @@ ipRule c n =
     (setCorners c (point (rounded (n .first)) (rounded (n .second))) (carried (c .settings) (point (rounded (n .first)) (rounded (n .second)))))
     (setCorners c (point (rounded (n .first)) (rounded (n .second))) (point (rounded (n .third)) (rounded (n .fourth)))))
 
--- "SC: xmin, xmax, ymin, ymax; min and max must differ; none, off"
+-- "SC: xmin, xmax, ymin, ymax; min and max must differ; none, off" (page 3-14)
 unfoldable pub scRule : Core → Numbers → Acted
 scRule c n =
     cond (eqb (n .count) 0) (done (rebased c (withScale (c .settings) unscaled)) Keep)
@@ -173,7 +173,7 @@ setTurn c t = done (rebased c (withTurn (c .settings) t)) Keep
 unfoldable pub turnTo : Core → ℤ → Acted
 turnTo c z = cond (ltb (findTurn z) turnCount) (setTurn c (findTurn z)) (refuse c outOfRange)
 
--- "RO: 0 or 90; none is 0"; "RO180 and RO270" (document 02, CR 3)
+-- "RO: 0 or 90; none is 0" (page 10-14); "RO180 and RO270" (document 02, CR 3)
 unfoldable pub roRule : Core → Numbers → Acted
 roRule c n = cond (eqb (n .count) 0) (turnTo c (pos 0)) (turnTo c (rounded (n .first)))
 
@@ -182,7 +182,7 @@ setWindow c p q =
     cond (inRange p && inRange q) (done (withSettings c (withWindow (c .settings) (record { set = true; area = orderedOf p q }))) Keep)
     (refuse c outOfRange)
 
--- "IW: two corners in current units, in absolute sense, rounded, each within ±1,000,000 or 3, and put in order; none removes it"
+-- "IW: two corners in current units, in absolute sense, rounded, each within ±1,000,000 or 3, and put in order; none removes it" (page 10-9)
 unfoldable pub iwRule : Core → Numbers → Acted
 iwRule c n =
     cond (eqb (n .count) 0) (done (withSettings c (withWindow (c .settings) noWindow)) Keep)
@@ -194,7 +194,7 @@ unfoldable pub setPen : Core → ℕ → Acted
 setPen c n =
     done (withCarriage c (withPen (c .carriage) (record { number = n; down = c .carriage .pen .down; changed = c .carriage .pen .changed }))) Keep
 
--- "SP: 0 to 8; none is 0"
+-- "SP: 0 to 8; none is 0" (page 4-16)
 unfoldable pub spRule : Core → Numbers → Acted
 spRule c n =
     cond (eqb (n .count) 0) (setPen c 0)
@@ -255,7 +255,7 @@ aimed c n = cond (c .carriage .relative) (relativePosition (c .carriage .positio
 unfoldable pub goTo : Core → Position → Acted
 goTo c p = cond (inRange (location (c .settings) p)) (cond (c .carriage .polygon .mode) (storePoint c p) (moveTo c p)) (refuse c tooFar)
 
--- "A pair of the last four is carried out on the byte that ends its second number"
+-- "A pair of the last four is carried out on the byte that ends its second number" (PA, PD, PR, PU: pages 4-8, 4-10, 4-12, 4-14)
 unfoldable pub pairRule : Core → Coordinates → Acted
 pairRule c n = goTo c (aimed c n)
 
@@ -332,7 +332,7 @@ pm2In c =
 unfoldable pub pm2 : Core → Acted
 pm2 c = cond (c .carriage .polygon .mode) (pm2In c) (refuse c outOfRange)
 
--- "PM1 or PM2 outside, PM0 inside: 3", and so is any other number
+-- "PM1 or PM2 outside, PM0 inside: 3", and so is any other number (page 6-14)
 unfoldable pub pmRule : Core → Numbers → Acted
 pmRule c n =
     cond (eqb (n .count) 0) (pm0 c)
@@ -341,7 +341,7 @@ pmRule c n =
     (cond (rounded (n .first) ≡? pos 2) (pm2 c)
     (refuse c outOfRange))))
 
--- "EP, with pen up or down, queues, for each two neighbours of a subpolygon, a segment"; "Pen 0 queues nothing"
+-- "EP, with pen up or down, queues, for each two neighbours of a subpolygon, a segment"; "Pen 0 queues nothing" (page 6-9)
 unfoldable pub epRule : Core → Acted
 epRule c = done c (cond (inked c) Outline Keep)
 
@@ -360,9 +360,11 @@ rectangleTo c p =
 abbrev pub firstTwo : Numbers → Coordinates
 firstTwo n = record { x = n .first; y = n .second }
 
+-- the corner in absolute sense (page 5-16)
 unfoldable pub eaRule : Core → Numbers → Acted
 eaRule c n = rectangleTo c (absolutePosition (c .settings) (firstTwo n))
 
+-- the corner in relative sense (page 5-18)
 unfoldable pub erRule : Core → Numbers → Acted
 erRule c n = rectangleTo c (relativePosition (c .carriage .position) (firstTwo n))
 
@@ -404,6 +406,7 @@ circleWith c r a =
 unfoldable pub chordAngle : Numbers → ℤ
 chordAngle n = angleOr (eqb (n .count) 1) (n .second)
 
+-- "CI radius, chord angle" (page 5-12)
 unfoldable pub ciRule : Core → Numbers → Acted
 ciRule c n = circleWith c (n .first) (chordAngle n)
 
@@ -460,7 +463,7 @@ arcAbout c q n =
     cond (goodSweep (sweptAngle n)) (cond (goodAngle (arcAngle n)) (arcBy c (arc c q (sweptAngle n) (natAbs (arcAngle n)))) (refuse c outOfRange))
     (refuse c outOfRange)
 
--- "centre (absolute or relative)"
+-- "centre (absolute or relative)" (AA page 5-8, AR page 5-10)
 unfoldable pub aaRule : Core → Numbers → Acted
 aaRule c n = arcAbout c (absolutePosition (c .settings) (firstTwo n)) n
 

@@ -1,4 +1,4 @@
-// The fresh state, its core and its hard limits; the instructions IN, DF, IP, SC, RO, IW and SP.
+// The fresh state, its core and its hard limits; the instructions IN, DF, IP, SC, RO, IW and SP. Pages are those of the DraftPro manual.
 ghost use mathlib.Core.Path.{_≡_};
 ghost use mathlib.Core.Bool.{not, _&&_, true};
 ghost use Prim.Native.Nat.{_<_};
@@ -292,7 +292,7 @@ fn settled(c: Core, s: Settings) -> Acted
     done(rebased(c, s), Action::Keep)
 }
 
-// IN: all as fresh, but page point and pen number stay.
+// IN (page 3-11): all as fresh, but page point and pen number stay.
 pub fn in_rule(c: Core) -> Acted
     requires { ⌜ ValidCore c ⌝ }
     ensures { λ r. ⌜ r ≡ R.inRule c ⌝ }
@@ -314,7 +314,7 @@ pub fn in_rule(c: Core) -> Acted
     )
 }
 
-// DF: scaling off, no window, absolute mode.
+// DF (page 3-8): scaling off, no window, absolute mode.
 pub fn df_rule(c: Core) -> Acted
     requires { ⌜ ValidCore c ⌝ }
     ensures { λ r. ⌜ r ≡ R.dfRule c ⌝ }
@@ -349,7 +349,7 @@ fn carried(s: Settings, p: Point) -> Point
     }
 }
 
-// IP: no numbers, both as fresh; two, P1, and P2 keeps its distance; four, both.
+// IP (page 3-12): no numbers, both as fresh; two, P1, and P2 keeps its distance; four, both.
 pub fn ip_rule(c: Core, n: Numbers) -> Acted
     requires { ⌜ ValidCore c × Small n ⌝ }
     ensures { λ r. ⌜ r ≡ R.ipRule c n ⌝ }
@@ -383,7 +383,7 @@ fn scale_of(n: Numbers) -> Scale
     }
 }
 
-// SC: no numbers, off; four, on, where min and max differ.
+// SC (page 3-14): no numbers, off; four, on, where min and max differ.
 pub fn sc_rule(c: Core, n: Numbers) -> Acted
     requires { ⌜ ValidCore c × Small n ⌝ }
     ensures { λ r. ⌜ r ≡ R.scRule c n ⌝ }
@@ -421,7 +421,7 @@ fn turn_to(c: Core, degrees: i64) -> Acted
     refuse(c, OUT_OF_RANGE)
 }
 
-// RO: no number is 0.
+// RO (page 10-14): no number is 0.
 pub fn ro_rule(c: Core, n: Numbers) -> Acted
     requires { ⌜ ValidCore c × Small n ⌝ }
     ensures { λ r. ⌜ r ≡ R.roRule c n ⌝ }
@@ -458,7 +458,7 @@ fn set_window(c: Core, p: Point, q: Point) -> Acted
     refuse(c, OUT_OF_RANGE)
 }
 
-// IW: no numbers, the window is removed; four, its corners in current units, in absolute sense.
+// IW (page 10-9): no numbers, the window is removed; four, its corners in current units, in absolute sense.
 pub fn iw_rule(c: Core, n: Numbers) -> Acted
     requires { ⌜ ValidCore c × Small n ⌝ }
     ensures { λ r. ⌜ r ≡ R.iwRule c n ⌝ }
@@ -488,7 +488,7 @@ fn set_pen(c: Core, number: u8) -> Acted
     done(with_carriage(c, with_pen(carriage, pen)), Action::Keep)
 }
 
-// SP: no number is pen 0.
+// SP (page 4-16): no number is pen 0.
 pub fn sp_rule(c: Core, n: Numbers) -> Acted
     requires { ⌜ Small n ⌝ }
     ensures { λ r. ⌜ r ≡ R.spRule c n ⌝ }

@@ -146,6 +146,7 @@ fn arc_about(c: Core, centre: Position, n: Numbers) -> Acted
     refuse(c, OUT_OF_RANGE)
 }
 
+// AA, page 5-8 of the DraftPro manual: the centre in absolute sense.
 pub fn aa_rule(c: Core, n: Numbers) -> Acted
     requires { ⌜ ValidCore c × Small n ⌝ }
     ensures { λ r. ⌜ r ≡ R.aaRule c n ⌝ }
@@ -154,6 +155,7 @@ pub fn aa_rule(c: Core, n: Numbers) -> Acted
     arc_about(c, absolute_position(s, first_two(n)), n)
 }
 
+// AR, page 5-10: the centre in relative sense.
 pub fn ar_rule(c: Core, n: Numbers) -> Acted
     requires { ⌜ ValidCore c × Small n ⌝ }
     ensures { λ r. ⌜ r ≡ R.arRule c n ⌝ }

@@ -138,6 +138,7 @@ fn chord_angle(n: Numbers) -> i64
     angle_or(n.count == 1, n.second)
 }
 
+// CI, page 5-12 of the DraftPro manual: radius, chord angle.
 pub fn ci_rule(c: Core, n: Numbers) -> Acted
     requires { ⌜ ValidCore c × Small n ⌝ }
     ensures { λ r. ⌜ r ≡ R.ciRule c n ⌝ }

@@ -69,7 +69,7 @@ pub fn name_number(mode: bool, op: usize) -> u8
     0
 }
 
-// What the second letter does to the hand.
+// What the second letter does to the hand: PA, PD, PR and PU, pages 4-8, 4-10, 4-12 and 4-14 of the DraftPro manual.
 pub fn letters(h: Hand, op: usize) -> Hand
     ensures { λ r. ⌜ ((g : Polygon) → carriageOf r g ≡ R.letters (carriageOf h g) op) ⌝ }
 {

@@ -222,6 +222,7 @@ fn pm2(c: Core) -> Acted
     refuse(c, OUT_OF_RANGE)
 }
 
+// PM, page 6-14 of the DraftPro manual: 0 or none, 1, 2.
 pub fn pm_rule(c: Core, n: Numbers) -> Acted
     requires { ⌜ ValidCore c × Small n ⌝ }
     ensures { λ r. ⌜ r ≡ R.pmRule c n ⌝ }
@@ -244,6 +245,7 @@ pub fn pm_rule(c: Core, n: Numbers) -> Acted
 
 // ---- EP, EA, ER
 
+// EP, page 6-9.
 pub fn ep_rule(c: Core) -> Acted
     ensures { λ r. ⌜ r ≡ R.epRule c ⌝ }
 {
@@ -285,6 +287,7 @@ fn rectangle_to(c: Core, p: Position) -> Acted
     refuse(c, TOO_FAR)
 }
 
+// EA, page 5-16: the corner in absolute sense.
 pub fn ea_rule(c: Core, n: Numbers) -> Acted
     requires { ⌜ ValidCore c × Small n ⌝ }
     ensures { λ r. ⌜ r ≡ R.eaRule c n ⌝ }
@@ -293,6 +296,7 @@ pub fn ea_rule(c: Core, n: Numbers) -> Acted
     rectangle_to(c, absolute_position(s, first_two(n)))
 }
 
+// ER, page 5-18: the corner in relative sense.
 pub fn er_rule(c: Core, n: Numbers) -> Acted
     requires { ⌜ ValidCore c × Small n ⌝ }
     ensures { λ r. ⌜ r ≡ R.erRule c n ⌝ }
