@@ -1,0 +1,13 @@
+pub mod Redrawn
+pub mod RedrawnLaws
+pub mod Causes
+pub mod RoundTrip
+pub mod Numerals
+pub mod Reading
+pub mod FeedMeans
+pub mod Drafting
+pub mod RoundTripProof
+pub mod FewRecords
+pub mod Shortest
+pub mod NumbersBack
+pub mod Figures
