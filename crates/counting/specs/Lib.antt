@@ -2,4 +2,5 @@ pub mod Tally
 pub mod Names
 pub mod Refusals
 pub mod Verdict
+pub mod VerdictLaws
 pub mod Laws

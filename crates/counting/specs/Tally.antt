@@ -15,7 +15,7 @@ use Rattle.hpgl.specs.declared.Drawn.the-variants as drawn
 use Rattle.hpgl.specs.declared.Segment.{Segment}
 use Rattle.hpgl.specs.declared.Segment.the-variants as segment
 use Rattle.console.specs.Sums.{added}
-use Rattle.measure.specs.Root.{across, rootOf}
+use Rattle.measure.specs.Root.{squares, tenthsOf}
 use Rattle.counting.specs.declared.tally.Extent.{Extent}
 use Rattle.counting.specs.declared.tally.End.{End}
 use Rattle.counting.specs.declared.tally.Paint.{Paint}
@@ -53,9 +53,9 @@ joinedOf a b = record {
 unfoldable pub widenedOf : Extent → Point → Point → Extent
 widenedOf e a b = cond (e .some) (record { some = true; area = joinedOf (e .area) (orderedOf a b) }) (record { some = true; area = orderedOf a b })
 
--- from a to b: the whole part of the root of dx * dx + dy * dy
+-- from a to b, in tenths of a unit: ten times the root of dx * dx + dy * dy, rounded to the nearest
 unfoldable pub wayOf : Point → Point → ℕ
-wayOf a b = rootOf (across (b .x) (a .x) * across (b .x) (a .x) + across (b .y) (a .y) * across (b .y) (a .y))
+wayOf a b = tenthsOf (squares (a .x) (a .y) (b .x) (b .y))
 
 -- from the end of the last stroke to the beginning of the next; before the first stroke none
 unfoldable pub drivenOf : End → Point → ℕ

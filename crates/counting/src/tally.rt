@@ -24,7 +24,7 @@ pub struct End {
     pub at: Point,
 }
 
-// What is painted: strokes and their lengths by pen, the ways between strokes, the end of the last one, and the box of all.
+// What is painted: strokes and their lengths by pen, the ways between strokes, the end of the last one, and the box of all. Lengths are in tenths of a unit.
 pub struct Paint {
     pub strokes: [u64; 9],
     pub lengths: [u64; 9],
@@ -111,7 +111,7 @@ fn widened(e: Extent, a: Point, b: Point) -> Extent
     }
 }
 
-// From one point to another, in whole units.
+// From one point to another, in tenths of a unit.
 fn way(a: Point, b: Point) -> u64
     ensures { λ r. ⌜ r ≡ S.wayOf a b ⌝ }
 {

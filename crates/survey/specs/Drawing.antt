@@ -2,10 +2,10 @@
 use mathlib.Core.Bool.{Bool, true, false, cond}
 use mathlib.Core.List.{List, [], _∷_}
 use Prim.Native.Char.{code}
-use Prim.Native.Nat.{ℕ, zero, suc, _+_, _*_}
-use lib.Dec.{eqb}
+use Prim.Native.Nat.{ℕ, zero, suc, _+_, _-_, _*_}
+use lib.Dec.{eqb, ltb}
 use lib.IntN.{ℤ, pos, natAbs}
-use lib.ListN.{length, getD, drop}
+use lib.ListN.{length, getD, take, drop}
 use Rattle.reader.specs.Reader.{unknown}
 use Rattle.hpgl.specs.declared.State.{State}
 use Rattle.hpgl.specs.declared.Segment.{Segment}
@@ -18,10 +18,16 @@ use Rattle.counting.specs.declared.refusals.Refusals.{Refusals}
 use Rattle.counting.specs.declared.tally.Tally.{Tally}
 use Rattle.survey.specs.declared.drawing.Drawing.{Drawing}
 use Rattle.survey.specs.declared.drawing.Painted.{Painted}
+use Rattle.survey.specs.declared.drawing.Watched.{Watched}
 use Rattle.survey.specs.declared.drawing.Surveyed.{Surveyed}
-use Rattle.counting.specs.Tally.{countedOf}
+use Rattle.machine.specs.declared.Machine.{Machine}
+use Rattle.inking.specs.Inked.{inkedState}
+use Rattle.scanning.specs.declared.Types.{Types}
+use Rattle.scanning.specs.Pieces.{modeAfter, pieceOf}
+use Rattle.counting.specs.Tally.{nothingOf, countedOf}
+use Rattle.counting.specs.Verdict.{segmentsOf}
 use Rattle.counting.specs.Names.{unnamed, lettersBefore, nameOf}
-use Rattle.counting.specs.Refusals.{notedOf, notedAll}
+use Rattle.counting.specs.Refusals.{noneOf, notedOf, notedAll}
 
 unfoldable pub waitsOf : Segment → Bool
 waitsOf segment.Nothing = false
@@ -70,8 +76,59 @@ blockOf d block = endedOf (bytesFrom d block block 0) block
 unfoldable pub openEnd : State → Bool
 openEnd m = cond (eqb (takeNumber m (code ";")) 0) (waitsOf (segmentOf (takeState m (code ";")))) true
 
-unfoldable pub finishedOf : Drawing → Bool → Surveyed
-finishedOf d unread = record { tally = d .tally; refusals = d .refusals; unended = openEnd (d .machine .state); unread = unread }
+-- ---- lines that pen 0 loses: what the same bytes would draw with a pen in hand. It is asked piece by piece, as within a piece no other pen is taken
+
+-- the drawing with pen 1 in hand, and nothing counted
+abbrev pub withPen : Drawing → Drawing
+withPen d = record { machine = record { state = inkedState (d .machine .state) }; before = d .before; letters = d .letters; tally = nothingOf; refusals = noneOf }
+
+unfoldable pub lostIn : Drawing → List ℕ → ℕ
+lostIn d piece = cond (eqb (d .machine .state .core .carriage .pen .number) 0) (segmentsOf (blockOf (withPen d) piece .tally)) 0
+
+-- from which byte on there was no pen when the first line was lost
+unfoldable pub firstOf : ℕ → ℕ → ℕ → ℕ → ℕ
+firstOf lost first more place = cond (ltb 0 lost) first (cond (ltb 0 more) place first)
+
+unfoldable pub lastOf : List ℕ → ℕ
+lastOf piece = cond (eqb (length piece) 0) 0 (getD piece (length piece - 1) 0)
+
+unfoldable pub pieceDone : Watched → List ℕ → Watched
+pieceDone w piece = record {
+  drawing = blockOf (w .drawing) piece;
+  mode = modeAfter (w .mode) (lastOf piece);
+  lost = added (w .lost) (lostIn (w .drawing) piece);
+  first = firstOf (w .lost) (w .first) (lostIn (w .drawing) piece) (added (w .drawing .before) 1);
+}
+
+-- piece by piece, so many at most
+unfoldable pub watchedFrom : ℕ → Watched → List ℕ → Watched
+watchedFrom zero w bytes = w
+watchedFrom (suc k) w [] = w
+watchedFrom (suc k) w (b ∷ bs) = let n = pieceOf (w .mode) (b ∷ bs) in watchedFrom k (pieceDone w (take n (b ∷ bs))) (drop n (b ∷ bs))
+
+-- no piece is empty, so that a block has no more pieces than bytes
+unfoldable pub watchedOf : Watched → List ℕ → Watched
+watchedOf w block = watchedFrom (length block) w block
+
+-- nothing is read yet
+abbrev pub begunOf : Machine → Watched
+begunOf m = record {
+  drawing = record { machine = m; before = 0; letters = unnamed; tally = nothingOf; refusals = noneOf };
+  mode = 0;
+  lost = 0;
+  first = 0;
+}
+
+unfoldable pub finishedOf : Watched → Types → Bool → Surveyed
+finishedOf w types unread = record {
+  tally = w .drawing .tally;
+  refusals = w .drawing .refusals;
+  types = types .count;
+  lost = w .lost;
+  first = w .first;
+  unended = openEnd (w .drawing .machine .state);
+  unread = unread;
+}
 
 -- ---- bytes without letters, a stretch at a time
 

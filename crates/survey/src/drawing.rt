@@ -19,11 +19,18 @@ use counting::refusals::noted;
 use counting::tally::Tally;
 use counting::tally::counted;
 use counting::tally::nothing;
+use counting::verdict::segments;
 use decimals::size;
 use hpgl::Segment;
+use inking::inked;
 use libc::STDIN_FILENO;
 use machine::Machine;
 use reader::UNKNOWN;
+use scanning::Types;
+use scanning::mode_after;
+use scanning::no_types;
+use scanning::piece;
+use scanning::types_in;
 use streams::read;
 
 // A proved loop has to end: this one reads so many blocks at most, which no input uses up.
@@ -52,10 +59,22 @@ struct Painted {
     tally: Tally,
 }
 
-// A whole input: what is counted and refused, whether its last instruction is open, and whether some of it could not be read.
+// A drawing in pieces: how the next one is read, how many lines were drawn with no pen in hand, and from which byte on there was none.
+struct Watched {
+    drawing: Drawing,
+    mode: u8,
+    lost: u64,
+    first: u64,
+}
+
+// A whole input: what is counted and refused, line types with numbers, lines without a pen, whether its last instruction is open, and whether some of it could
+// not be read.
 pub struct Surveyed {
     pub tally: Tally,
     pub refusals: Refusals,
+    pub types: u64,
+    pub lost: u64,
+    pub first: u64,
     pub unended: bool,
     pub unread: bool,
 }
@@ -181,6 +200,97 @@ fn block_of(d: Drawing, block: &[u8]) -> Drawing
     }
 }
 
+// The drawing with a pen in hand, and nothing counted yet.
+fn with_pen(d: Drawing) -> Drawing
+    requires { ⌜ Usable (d .machine .state) × (waiting (d .machine .state .work) ≡ 0) ⌝ }
+    ensures { λ r. ⌜ (r ≡ S.withPen d) × Usable (r .machine .state) ⌝ }
+{
+    let machine = d.machine;
+    let letters = d.letters;
+    Drawing {
+        machine: inked(machine),
+        before: d.before,
+        letters: letters,
+        tally: nothing(),
+        refusals: none(),
+    }
+}
+
+// What a piece would draw, where no pen is in hand.
+fn lost_in(d: Drawing, piece: &[u8]) -> u64
+    requires { ⌜ Usable (d .machine .state) × (waiting (d .machine .state .work) ≡ 0) ⌝ }
+    ensures { λ r. ⌜ r ≡ S.lostIn d (now (piece .entry)) ⌝ }
+{
+    let machine = d.machine;
+    let seen = machine.look();
+    if seen.pen == 0 {
+        let drawn = block_of(with_pen(d), piece);
+        let tally = drawn.tally;
+        return segments(tally);
+    }
+    0
+}
+
+// From where on there was no pen: as it was, or from this piece on where the first line is lost.
+fn first_of(lost: u64, first: u64, more: u64, place: u64) -> u64
+    ensures { λ r. ⌜ r ≡ S.firstOf lost first more place ⌝ }
+{
+    if lost > 0 {
+        return first;
+    }
+    if more > 0 {
+        return place;
+    }
+    first
+}
+
+fn last(piece: &[u8]) -> u8
+    ensures { λ r. ⌜ r ≡ S.lastOf (now (piece .entry)) ⌝ }
+{
+    let n = piece.len();
+    if n == 0 {
+        return 0;
+    }
+    piece[n - 1]
+}
+
+// A piece: within it no other pen is taken.
+fn piece_of(w: Watched, piece: &[u8]) -> Watched
+    requires { ⌜ Usable (w .drawing .machine .state) × (waiting (w .drawing .machine .state .work) ≡ 0) ⌝ }
+    ensures { λ r. ⌜ (r ≡ S.pieceDone w (now (piece .entry))) × Usable (r .drawing .machine .state) × (waiting (r .drawing .machine .state .work) ≡ 0) ⌝ }
+{
+    let d = w.drawing;
+    let place = sum(d.before, 1);
+    let more = lost_in(d, piece);
+    let next = block_of(d, piece);
+    Watched {
+        drawing: next,
+        mode: mode_after(w.mode, last(piece)),
+        lost: sum(w.lost, more),
+        first: first_of(w.lost, w.first, more, place),
+    }
+}
+
+// A block, piece by piece.
+fn pieces(w: Watched, block: &[u8]) -> Watched
+    requires { ⌜ Usable (w .drawing .machine .state) × (waiting (w .drawing .machine .state .work) ≡ 0) ⌝ }
+    ensures { λ r. ⌜ (r ≡ S.watchedOf w (now (block .entry))) × Usable (r .drawing .machine .state) × (waiting (r .drawing .machine .state .work) ≡ 0) ⌝ }
+{
+    let mut far = w;
+    let mut at = 0;
+    let mut turns = block.len();
+    while turns > 0 {
+        if block.len() <= at {
+            return far;
+        }
+        let n = piece(far.mode, block, at);
+        far = piece_of(far, &block[at..at + n]);
+        at += n;
+        turns -= 1;
+    }
+    far
+}
+
 // Whether the last instruction is open: with one more semicolon something would be painted or refused.
 fn open_end(machine: Machine) -> bool
     requires { ⌜ Usable (machine .state) ⌝ }
@@ -195,18 +305,40 @@ fn open_end(machine: Machine) -> bool
 }
 
 // What there is to say of a drawing that has been read, or could not be.
-fn finished(d: Drawing, unread: bool) -> Surveyed
-    requires { ⌜ Usable (d .machine .state) ⌝ }
-    ensures { λ r. ⌜ r ≡ S.finishedOf d unread ⌝ }
+fn finished(w: Watched, types: Types, unread: bool) -> Surveyed
+    requires { ⌜ Usable (w .drawing .machine .state) ⌝ }
+    ensures { λ r. ⌜ r ≡ S.finishedOf w types unread ⌝ }
 {
+    let d = w.drawing;
     let machine = d.machine;
     let tally = d.tally;
     let refusals = d.refusals;
     Surveyed {
         tally: tally,
         refusals: refusals,
+        types: types.count,
+        lost: w.lost,
+        first: w.first,
         unended: open_end(machine),
         unread: unread,
+    }
+}
+
+// Nothing is read yet.
+fn begun(machine: Machine) -> Watched
+    ensures { λ r. ⌜ r ≡ S.begunOf machine ⌝ }
+{
+    Watched {
+        drawing: Drawing {
+            machine: machine,
+            before: 0,
+            letters: no_letters(),
+            tally: nothing(),
+            refusals: none(),
+        },
+        mode: 0,
+        lost: 0,
+        first: 0,
     }
 }
 
@@ -215,26 +347,22 @@ pub fn survey(machine: Machine) -> Surveyed
     requires { ⌜ Usable (machine .state) × (waiting (machine .state .work) ≡ 0) ⌝ }
 {
     let mut block = io::large_buffer();
-    let mut d = Drawing {
-        machine: machine,
-        before: 0,
-        letters: no_letters(),
-        tally: nothing(),
-        refusals: none(),
-    };
+    let mut types = no_types();
+    let mut w = begun(machine);
     let mut turns = TURNS;
     while turns > 0 {
         let got = read(STDIN_FILENO, &mut block);
         if !got.good {
             os::fail(b"survey: standard input");
-            return finished(d, true);
+            return finished(w, types, true);
         }
         let n = got.count;
         if n == 0 {
-            return finished(d, false);
+            return finished(w, types, false);
         }
-        d = block_of(d, &block[..n]);
+        types = types_in(types, &block[..n]);
+        w = pieces(w, &block[..n]);
         turns -= 1;
     }
-    finished(d, true)
+    finished(w, types, true)
 }

@@ -4,6 +4,7 @@
 // With four arguments the hard limits are these: left, bottom, right, top.
 use clip::Rect;
 use machine::Machine;
+use measure::SCALE;
 use textlines::word::Limits;
 
 mod drawing;
@@ -32,5 +33,5 @@ fn main() {
         right: right,
         top: top,
     };
-    page(hard, survey(machine));
+    page(hard, survey(machine), SCALE);
 }

@@ -13,11 +13,15 @@ use counting::tally::Paint;
 use counting::tally::Tally;
 use counting::verdict::cut_off;
 use counting::verdict::fit;
+use counting::verdict::little;
 use counting::verdict::total;
+use measure::centimetres;
+use measure::ice;
 use output::finish;
 use output::natural_then;
 use output::put_byte;
 use output::put_bytes;
+use output::put_natural;
 use output::put_words;
 use output::whole_then;
 use words::harmless;
@@ -47,34 +51,44 @@ fn corners(text: &mut [u8; 65536], used: usize, r: Rect) -> usize {
     whole_then(text, end, r.top, b'\n')
 }
 
-fn title(text: &mut [u8; 65536], used: usize, hard: Rect) -> usize {
-    let mut end = put_bytes(text, used, b"Survey of a drawing. Hard limits ");
+fn title(text: &mut [u8; 65536], used: usize, hard: Rect, scale: u8) -> usize {
+    let mut end = put_bytes(text, used, b"Survey of a drawing at 1:");
+    end = natural_then(text, end, scale as u64, b'.');
+    end = put_bytes(text, end, b" Hard limits ");
     end = corners(text, end, hard);
     end = put_bytes(
         text,
         end,
-        b"A unit is 0.025 mm on paper: 40 are a millimetre. The length of a stroke is the whole part of the root of\n",
+        b"A unit is 0.025 mm on paper: 40 are a millimetre. The length of a stroke is the root of dx * dx + dy * dy, to a tenth of a unit,\n",
     );
     end = put_bytes(
         text,
         end,
-        b"dx * dx + dy * dy, in units. Millimetres are whole ones of the sum.\n\n",
+        b"rounded to the nearest. Metres are those on the ice.\n\n",
     );
     put_bytes(
         text,
         end,
-        b" pen       strokes           units           mm\n",
+        b" pen       strokes           units        metres\n",
     )
 }
 
-// A length in units and in millimetres ends a row.
-fn lengths(text: &mut [u8; 65536], used: usize, units: u64) -> usize {
-    let mut end = column(text, used, units, 15, b' ');
-    column(text, end, units / 40, 12, b'\n')
+// Metres with two decimals, of so many centimetres, and the byte after them.
+fn metres(text: &mut [u8; 65536], used: usize, n: u64, width: u64, byte: u8) -> usize {
+    let mut end = column(text, used, n / 100, width, b'.');
+    end = put_natural(text, end, n / 10 % 10);
+    natural_then(text, end, n % 10, byte)
+}
+
+// A length in units, with a decimal, and in metres on the ice ends a row.
+fn lengths(text: &mut [u8; 65536], used: usize, tenths: u64, scale: u8) -> usize {
+    let mut end = column(text, used, tenths / 10, 13, b'.');
+    end = natural_then(text, end, tenths % 10, b' ');
+    metres(text, end, centimetres(tenths, scale), 10, b'\n')
 }
 
 // A row for each pen that paints.
-fn pens(text: &mut [u8; 65536], used: usize, p: Paint) -> usize {
+fn pens(text: &mut [u8; 65536], used: usize, p: Paint, scale: u8) -> usize {
     let mut end = used;
     let mut pen: usize = 1;
     while pen < 9 {
@@ -82,27 +96,48 @@ fn pens(text: &mut [u8; 65536], used: usize, p: Paint) -> usize {
         if strokes > 0 {
             end = column(text, end, pen as u64, 4, b' ');
             end = column(text, end, strokes, 13, b' ');
-            end = lengths(text, end, p.lengths[pen]);
+            end = lengths(text, end, p.lengths[pen], scale);
         }
         pen += 1;
     }
     end
 }
 
-fn paint(text: &mut [u8; 65536], used: usize, p: Paint) -> usize {
+fn paint(text: &mut [u8; 65536], used: usize, p: Paint, scale: u8) -> usize {
     let strokes = p.strokes;
-    let units = p.lengths;
-    let mut end = pens(text, used, p);
+    let tenths = p.lengths;
+    let mut end = pens(text, used, p, scale);
     end = put_bytes(text, end, b" all ");
     end = column(text, end, total(strokes), 13, b' ');
-    end = lengths(text, end, total(units));
+    end = lengths(text, end, total(tenths), scale);
     end = put_bytes(text, end, b" empty driving     ");
-    end = lengths(text, end, p.empty);
+    end = lengths(text, end, p.empty, scale);
     put_bytes(
         text,
         end,
         b"Empty driving is from the end of each stroke to the start of the next; before the first stroke none is counted.\n\n",
     )
+}
+
+// How wide and how high a box is on the ice.
+fn size(text: &mut [u8; 65536], used: usize, r: Rect, scale: u8, byte: u8) -> usize {
+    let mut end = metres(text, used, ice(r.left, r.right, scale), 1, b' ');
+    end = put_bytes(text, end, b"m by ");
+    end = metres(text, end, ice(r.bottom, r.top, scale), 1, b' ');
+    end = put_byte(text, end, b'm');
+    put_byte(text, end, byte)
+}
+
+// How much of the sheet is painted.
+fn covered(text: &mut [u8; 65536], used: usize, e: Extent, hard: Rect, scale: u8) -> usize {
+    let area = e.area;
+    if !e.some {
+        return used;
+    }
+    let mut end = put_bytes(text, used, b"          ");
+    end = size(text, end, area, scale, b' ');
+    end = put_bytes(text, end, b"of ");
+    size(text, end, hard, scale, b'\n')
 }
 
 fn extent(text: &mut [u8; 65536], used: usize, e: Extent) -> usize {
@@ -114,12 +149,13 @@ fn extent(text: &mut [u8; 65536], used: usize, e: Extent) -> usize {
 }
 
 // Where the drawing lies, and what the limits cut off.
-fn boxes(text: &mut [u8; 65536], used: usize, t: Tally) -> usize {
+fn boxes(text: &mut [u8; 65536], used: usize, t: Tally, hard: Rect, scale: u8) -> usize {
     let p = t.paint;
     let painted = p.area;
     let asked = t.asked;
     let mut end = put_bytes(text, used, b"Painted:  ");
     end = extent(text, end, painted);
+    end = covered(text, end, painted, hard, scale);
     if cut_off(t) > 0 {
         end = put_bytes(text, end, b"Drawn:    ");
         end = extent(text, end, asked);
@@ -167,6 +203,17 @@ fn places(text: &mut [u8; 65536], used: usize, list: [u64; 96], group: usize, co
     end
 }
 
+// What is harmless is said to be. Of line types their words say when.
+fn mark(text: &mut [u8; 65536], used: usize, kind: u8) -> usize {
+    if kind == b't' {
+        return used;
+    }
+    if harmless(kind) {
+        return put_bytes(text, used, b"harmless: ");
+    }
+    used
+}
+
 // What becomes of a group, in words.
 fn fate(text: &mut [u8; 65536], used: usize, kind: u8) -> usize {
     let words = of_kind(kind);
@@ -193,9 +240,7 @@ fn group(
     end = put_bytes(text, end, b"  ");
     end = places(text, end, list, i, count);
     end = put_bytes(text, end, b"       ");
-    if harmless(kind) {
-        end = put_bytes(text, end, b"harmless: ");
-    }
+    end = mark(text, end, kind);
     end = fate(text, end, kind);
     put_bytes(text, end, b"\n")
 }
@@ -243,6 +288,17 @@ fn reasons(text: &mut [u8; 65536], used: usize, s: Surveyed, harms: u64, cut: u6
         end = put_bytes(text, end, b" refusals that change the drawing: ");
         end = natural_then(text, end, harms, b'.');
     }
+    if s.types > 0 {
+        end = put_bytes(text, end, b" line types that come out without gaps: ");
+        end = natural_then(text, end, s.types, b'.');
+    }
+    if s.lost > 0 {
+        end = put_bytes(text, end, b" lines drawn with no pen in hand: ");
+        end = natural_then(text, end, s.lost, b',');
+        end = put_bytes(text, end, b" none from byte ");
+        end = natural_then(text, end, s.first, b' ');
+        end = put_bytes(text, end, b"on.");
+    }
     if cut > 0 {
         end = put_bytes(text, end, b" segments cut off by the limits: ");
         end = natural_then(text, end, cut, b'.');
@@ -259,29 +315,44 @@ fn reasons(text: &mut [u8; 65536], used: usize, s: Surveyed, harms: u64, cut: u6
     end
 }
 
-fn verdict(text: &mut [u8; 65536], used: usize, s: Surveyed) -> usize {
+// What to look at before a drawing is painted that is fit.
+fn warnings(text: &mut [u8; 65536], used: usize, t: Tally, hard: Rect) -> usize {
+    let p = t.paint;
+    let painted = p.area;
+    if little(painted, hard) {
+        return put_bytes(
+            text,
+            used,
+            b", but look first: less than nine tenths of the sheet is used, across and along. Was it written at another scale?",
+        );
+    }
+    used
+}
+
+fn verdict(text: &mut [u8; 65536], used: usize, s: Surveyed, hard: Rect) -> usize {
     let t = s.tally;
     let r = s.refusals;
     let keys = r.keys;
     let counts = r.counts;
     let harms = harm(keys, counts, r.others);
-    if fit(t, harms, s.unended, s.unread) {
-        return put_bytes(text, used, b"fit to paint");
+    if fit(t, harms, s.types, s.lost, s.unended, s.unread) {
+        let end = put_bytes(text, used, b"fit to paint");
+        return warnings(text, end, t, hard);
     }
     let end = put_bytes(text, used, b"not fit to paint:");
     reasons(text, end, s, harms, cut_off(t))
 }
 
-pub fn page(hard: Rect, s: Surveyed) {
+pub fn page(hard: Rect, s: Surveyed, scale: u8) {
     let t = s.tally;
     let p = t.paint;
     let r = s.refusals;
     let mut text = io::large_buffer();
-    let mut end = title(&mut text, 0, hard);
-    end = paint(&mut text, end, p);
-    end = boxes(&mut text, end, t);
+    let mut end = title(&mut text, 0, hard, scale);
+    end = paint(&mut text, end, p, scale);
+    end = boxes(&mut text, end, t, hard, scale);
     end = refused(&mut text, end, r);
-    end = verdict(&mut text, end, s);
+    end = verdict(&mut text, end, s, hard);
     end = put_byte(&mut text, end, b'\n');
     finish(&text, end, b"survey: standard output");
 }

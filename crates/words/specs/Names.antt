@@ -25,7 +25,9 @@ ownKinds =
     ++ bytes "AAm ARm PAm PDm PRm PUm "
     ++ bytes "PMp "
 
--- other arcs and curves, bytes of no name, coded lines, fills and wedges, text, questions, settings of text, line types, speed and force, width of a pen
+-- other arcs and curves, bytes of no name, coded lines, fills and wedges, text, questions, settings of text, line types, speed and force, width of a pen;
+-- and n: the page and the picture as a whole, which no line depends on (a file's beginning BP; the next page PG, NP; a size or a cut of paper PS, EC;
+-- how ends and corners of lines look LA; whether white covers TR; the colour of a pen PC)
 abbrev pub foreignKinds : List ℕ
 foreignKinds =
     bytes "ATa BRa BZa RTa "
@@ -36,6 +38,7 @@ foreignKinds =
     ++ bytes "DCo DPo IMo OAo OCo ODo OEo OFo OGo OHo OIo OLo OOo OPo OSo OTo OWo "
     ++ bytes "ADs CAs CSs DIs DRs DTs DVs ESs LOs SAs SDs SIs SLs SRs SSs TDs "
     ++ bytes "LTt ULt "
+    ++ bytes "BPn ECn LAn NPn PCn PGn PSn TRn "
     ++ bytes "APv ASv FSv VAv VNv VSv "
     ++ bytes "PTw PWw WUw "
 
@@ -50,6 +53,7 @@ hasOf k = cond (eqb k (code "c")) true (cond (eqb k (code "d")) true (cond (eqb 
 unfoldable pub refusedKind : ℕ → ℕ → ℕ → ℕ
 refusedKind number a b = cond (eqb number 1) (cond (hasOf (kindOf a b)) (code "k") (kindOf a b)) (kindOf a b)
 
--- what is painted is the same without it
+-- what is painted is the same without it. Of line types that is true where LT has no numbers; those with numbers are counted apart (scanning/specs/Types.antt)
 unfoldable pub harmlessOf : ℕ → Bool
-harmlessOf k = cond (eqb k (code "o")) true (cond (eqb k (code "s")) true (cond (eqb k (code "v")) true (eqb k (code "w"))))
+harmlessOf k =
+    cond (eqb k (code "n")) true (cond (eqb k (code "o")) true (cond (eqb k (code "s")) true (cond (eqb k (code "t")) true (cond (eqb k (code "v")) true (eqb k (code "w"))))))

@@ -97,6 +97,9 @@ fn of_foreign(kind: u8) -> [u8; 72]
     if kind == b'l' {
         return *b"text is not painted: turn letters into lines first                      ";
     }
+    if kind == b'n' {
+        return *b"pages, paper, colours and ends of lines: no line is another             ";
+    }
     if kind == b'o' {
         return *b"no reply is given to what a file asks                                   ";
     }
@@ -104,7 +107,7 @@ fn of_foreign(kind: u8) -> [u8; 72]
         return *b"settings of text do nothing: text is not painted                        ";
     }
     if kind == b't' {
-        return *b"line types are not known: every line is painted without gaps            ";
+        return *b"LT alone changes nothing; with numbers its lines come out without gaps  ";
     }
     if kind == b'v' {
         return *b"speed and force of the pen are the carriage's own                       ";
@@ -166,7 +169,7 @@ pub fn kind(first: u8, second: u8) -> u8
     ensures { λ r. ⌜ r ≡ kindOf first second ⌝ }
 {
     kind_in(
-        b"DFc INc IPc IWc ROc SCc SPc CId EAd EPd ERd AAm ARm PAm PDm PRm PUm PMp ATa BRa BZa RTa ??b PEe ACf EWf FPf FTf RAf RFf RRf UFf WGf BLl CPl LBl PBl UCl DCo DPo IMo OAo OCo ODo OEo OFo OGo OHo OIo OLo OOo OPo OSo OTo OWo ADs CAs CSs DIs DRs DTs DVs ESs LOs SAs SDs SIs SLs SRs SSs TDs LTt ULt APv ASv FSv VAv VNv VSv PTw PWw WUw ",
+        b"DFc INc IPc IWc ROc SCc SPc CId EAd EPd ERd AAm ARm PAm PDm PRm PUm PMp ATa BRa BZa RTa ??b PEe ACf EWf FPf FTf RAf RFf RRf UFf WGf BLl CPl LBl PBl UCl DCo DPo IMo OAo OCo ODo OEo OFo OGo OHo OIo OLo OOo OPo OSo OTo OWo ADs CAs CSs DIs DRs DTs DVs ESs LOs SAs SDs SIs SLs SRs SSs TDs LTt ULt BPn ECn LAn NPn PCn PGn PSn TRn APv ASv FSv VAv VNv VSv PTw PWw WUw ",
         first,
         second,
     )
@@ -202,14 +205,21 @@ pub fn refused_kind(number: u8, first: u8, second: u8) -> u8
     of_name
 }
 
-// Whether what is painted is the same without it: questions, settings of text, speed, force and width of a pen.
+// Whether what is painted is the same without it: page and paper, questions, settings of text, line types (those with numbers are counted apart), speed,
+// force and width of a pen.
 pub fn harmless(kind: u8) -> bool
     ensures { λ r. ⌜ r ≡ harmlessOf kind ⌝ }
 {
+    if kind == b'n' {
+        return true;
+    }
     if kind == b'o' {
         return true;
     }
     if kind == b's' {
+        return true;
+    }
+    if kind == b't' {
         return true;
     }
     if kind == b'v' {

@@ -1,19 +1,19 @@
--- Two sides of at most 65,535: the sum of their squares has a root that is sought.
+-- Two sides of at most 65,535: 400 times the sum of their squares has a root that is sought.
 use borrow.Author.Needs.{needs}
-use mathlib.Core.Path.{_≡_, subst, _∙_}
-use Prim.Native.Nat.{ℕ, _+_, _*_, _≤_}
+use mathlib.Core.Path.{_≡_, ap, _∙_}
+use Prim.Native.Nat.{ℕ, _+_, _*_, _/_, _≤_}
 use native.Mathlib.Nat.{mul-le-mul}
 use native.Mathlib.Omega.{arith}
 use lib.IntN.{ℤ}
 use mir.Syntax.{w64}
 use Rattle.exact.specs.Fit.{arg}
-use Rattle.measure.specs.Root.{Root, across}
+use Rattle.measure.specs.Root.{across, rootOf, squares, tenthsOf}
+use Rattle.measure.specs.RootLaws.{root-of, one-root, side-small}
 use Rattle.measure.proofs.length.Statement.{statement}
 use Rattle.measure.proofs.length.Tie as tie
 
 small : (a b : ℤ) → across a b * across a b ≤ 65535 * 65535
-unfolding across
-small a b = let h : across a b ≤ 65535 = omega arith in mul-le-mul h h
+small a b = mul-le-mul (side-small a b) (side-small a b)
 
 dx : (c : tie.After-side) → let s = c .before in c .side .result ≡ across (s .args .x1) (s .args .x0)
 dx c = let s = c .before in c .side .ensures ∙ (λ i. across (arg w64 (s .fits .x1) .is i) (arg w64 (s .fits .x0) .is i))
@@ -46,19 +46,27 @@ add-root c =
     let q : tie.After-side2 = search in
     record { fits = omega (arith, wide p, high q) }
 
+mul-root-3 : tie.Need-mul-root-3
+mul-root-3 c =
+    let p : tie.After-side = search in
+    let q : tie.After-side2 = search in
+    record { fits = omega (arith, wide p, high q) }
+
 root-requires : tie.Need-root-requires
 root-requires c κs =
     let p : tie.After-side = search in
     let q : tie.After-side2 = search in
     omega (arith, wide p, high q)
 
+add-result : tie.Need-add-result
+add-result c = record { fits = omega (arith, c .root .ensures .1) }
+
 returns : tie.Need-returns
+unfolding tenthsOf squares
 returns c =
     let p : tie.After-side = search in
     let q : tie.After-side2 = search in
-    subst (λ (n : ℕ). Root n (c .root .result)) (λ i. dx p i * dx p i + dy q i * dy q i) (c .root .ensures)
+    ap (λ (r : ℕ). (r + 1) / 2) (one-root _ (c .root .ensures .0) (root-of _) ∙ (λ i. rootOf (400 * (dx p i * dx p i + dy q i * dy q i))))
 
 pub length-spec : {M : Type 1} → statement M
-length-spec =
-    tie.close
-    (tie.spec side-requires side-requires-2 mul-root mul-root-2 add-root root-requires returns)
+length-spec = tie.close (tie.spec side-requires side-requires-2 mul-root mul-root-2 add-root mul-root-3 root-requires add-result returns)

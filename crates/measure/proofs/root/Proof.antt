@@ -52,7 +52,7 @@ returns c =
     let l : tie.At-loop Inv-loop μ-loop = search in
     let s : tie.Start Inv-loop μ-loop = search in
     let e : l .loop .high ≡ l .loop .low + 1 = omega arith in
-    record { low = l .loop .inv .2; high = subst (λ (h : ℕ). s .args .n < h * h) e (l .loop .inv .3) }
+    (record { low = l .loop .inv .2; high = subst (λ (h : ℕ). s .args .n < h * h) e (l .loop .inv .3) }, omega arith)
 
 pub root-spec : {M : Type 1} → statement M
 root-spec =

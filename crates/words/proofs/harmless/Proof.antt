@@ -9,14 +9,14 @@ returns : tie.Need-returns
 unfolding harmlessOf
 returns c =
     let s : tie.Start = search in
-    rw (eq-eqb (s .args .kind) (code "o") (c .if1 .taken))
+    rw (eq-eqb (s .args .kind) (code "n") (c .if1 .taken))
 
 returns-2 : tie.Need-returns-2
 unfolding harmlessOf
 returns-2 c =
     let s : tie.Start = search in
     let e1 : tie.Else1 = search in
-    rw (ne-eqb (s .args .kind) (code "o") (e1 .if1 .left), eq-eqb (s .args .kind) (code "s") (c .if2 .taken))
+    rw (ne-eqb (s .args .kind) (code "n") (e1 .if1 .left), eq-eqb (s .args .kind) (code "o") (c .if2 .taken))
 
 returns-3 : tie.Need-returns-3
 unfolding harmlessOf
@@ -24,7 +24,7 @@ returns-3 c =
     let s : tie.Start = search in
     let e1 : tie.Else1 = search in
     let e2 : tie.Else2 = search in
-    rw (ne-eqb (s .args .kind) (code "o") (e1 .if1 .left), ne-eqb (s .args .kind) (code "s") (e2 .if2 .left), eq-eqb (s .args .kind) (code "v") (c .if3 .taken))
+    rw (ne-eqb (s .args .kind) (code "n") (e1 .if1 .left), ne-eqb (s .args .kind) (code "o") (e2 .if2 .left), eq-eqb (s .args .kind) (code "s") (c .if3 .taken))
 
 returns-4 : tie.Need-returns-4
 unfolding harmlessOf
@@ -33,7 +33,28 @@ returns-4 c =
     let e1 : tie.Else1 = search in
     let e2 : tie.Else2 = search in
     let e3 : tie.Else3 = search in
-    rw (ne-eqb (s .args .kind) (code "o") (e1 .if1 .left), ne-eqb (s .args .kind) (code "s") (e2 .if2 .left), ne-eqb (s .args .kind) (code "v") (e3 .if3 .left))
+    rw (ne-eqb (s .args .kind) (code "n") (e1 .if1 .left), ne-eqb (s .args .kind) (code "o") (e2 .if2 .left), ne-eqb (s .args .kind) (code "s") (e3 .if3 .left), eq-eqb (s .args .kind) (code "t") (c .if4 .taken))
+
+returns-5 : tie.Need-returns-5
+unfolding harmlessOf
+returns-5 c =
+    let s : tie.Start = search in
+    let e1 : tie.Else1 = search in
+    let e2 : tie.Else2 = search in
+    let e3 : tie.Else3 = search in
+    let e4 : tie.Else4 = search in
+    rw (ne-eqb (s .args .kind) (code "n") (e1 .if1 .left), ne-eqb (s .args .kind) (code "o") (e2 .if2 .left), ne-eqb (s .args .kind) (code "s") (e3 .if3 .left), ne-eqb (s .args .kind) (code "t") (e4 .if4 .left), eq-eqb (s .args .kind) (code "v") (c .if5 .taken))
+
+returns-6 : tie.Need-returns-6
+unfolding harmlessOf
+returns-6 c =
+    let s : tie.Start = search in
+    let e1 : tie.Else1 = search in
+    let e2 : tie.Else2 = search in
+    let e3 : tie.Else3 = search in
+    let e4 : tie.Else4 = search in
+    let e5 : tie.Else5 = search in
+    rw (ne-eqb (s .args .kind) (code "n") (e1 .if1 .left), ne-eqb (s .args .kind) (code "o") (e2 .if2 .left), ne-eqb (s .args .kind) (code "s") (e3 .if3 .left), ne-eqb (s .args .kind) (code "t") (e4 .if4 .left), ne-eqb (s .args .kind) (code "v") (e5 .if5 .left))
 
 pub harmless-spec : {M : Type 1} → statement M
-harmless-spec = tie.close (tie.spec returns returns-2 returns-3 returns-4)
+harmless-spec = tie.close (tie.spec returns returns-2 returns-3 returns-4 returns-5 returns-6)

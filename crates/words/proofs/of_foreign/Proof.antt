@@ -49,7 +49,11 @@ returns-10 c = let t : tie.Then10 = search in ap ofForeign (sym (t .if10 .taken)
 
 returns-11 : tie.Need-returns-11
 unfolding ofForeign bytes bytesFrom
-returns-11 c =
+returns-11 c = let t : tie.Then11 = search in ap ofForeign (sym (t .if11 .taken))
+
+returns-12 : tie.Need-returns-12
+unfolding ofForeign bytes bytesFrom
+returns-12 c =
     let b : tie.Start = search in
     let e1 : tie.Else1 = search in
     let e2 : tie.Else2 = search in
@@ -61,8 +65,9 @@ returns-11 c =
     let e8 : tie.Else8 = search in
     let e9 : tie.Else9 = search in
     let e10 : tie.Else10 = search in
+    let e11 : tie.Else11 = search in
     rw
-    (ne-eqb (b .args .kind) (code "a") (e1 .if1 .left), ne-eqb (b .args .kind) (code "b") (e2 .if2 .left), ne-eqb (b .args .kind) (code "e") (e3 .if3 .left), ne-eqb (b .args .kind) (code "f") (e4 .if4 .left), ne-eqb (b .args .kind) (code "l") (e5 .if5 .left), ne-eqb (b .args .kind) (code "o") (e6 .if6 .left), ne-eqb (b .args .kind) (code "s") (e7 .if7 .left), ne-eqb (b .args .kind) (code "t") (e8 .if8 .left), ne-eqb (b .args .kind) (code "v") (e9 .if9 .left), ne-eqb (b .args .kind) (code "w") (e10 .if10 .left))
+    (ne-eqb (b .args .kind) (code "a") (e1 .if1 .left), ne-eqb (b .args .kind) (code "b") (e2 .if2 .left), ne-eqb (b .args .kind) (code "e") (e3 .if3 .left), ne-eqb (b .args .kind) (code "f") (e4 .if4 .left), ne-eqb (b .args .kind) (code "l") (e5 .if5 .left), ne-eqb (b .args .kind) (code "n") (e6 .if6 .left), ne-eqb (b .args .kind) (code "o") (e7 .if7 .left), ne-eqb (b .args .kind) (code "s") (e8 .if8 .left), ne-eqb (b .args .kind) (code "t") (e9 .if9 .left), ne-eqb (b .args .kind) (code "v") (e10 .if10 .left), ne-eqb (b .args .kind) (code "w") (e11 .if11 .left))
 
 pub of-foreign-spec : {M : Type 1} → statement M
 of-foreign-spec =
@@ -78,4 +83,5 @@ of-foreign-spec =
     returns-8
     returns-9
     returns-10
-    returns-11)
+    returns-11
+    returns-12)

@@ -1,12 +1,10 @@
--- The root that `length` finds is the one of the definition.
+-- The definition is that of `length`.
 use borrow.Author.Needs.{needs}
-use mathlib.Core.Path.{subst}
-use Prim.Native.Nat.{ℕ, _+_, _*_}
+use mathlib.Core.Path.{_∙_}
 use mir.Syntax.{w64}
 use mir.Val.{SFits}
 use Rattle.exact.specs.Fit.{arg}
-use Rattle.measure.specs.Root.{Root, across}
-use Rattle.measure.specs.RootLaws.{root-of, one-root}
+use Rattle.measure.specs.Root.{squares, tenthsOf}
 use Rattle.counting.specs.Tally.{wayOf}
 use Rattle.counting.proofs.tally.way.Statement.{statement}
 use Rattle.counting.proofs.tally.way.Tie as tie
@@ -22,11 +20,7 @@ returns c =
     let ay : SFits w64 (s .args .a .y) = search needs in
     let bx : SFits w64 (s .args .b .x) = search needs in
     let by : SFits w64 (s .args .b .y) = search needs in
-    one-root _
-    (subst (λ (n : ℕ). Root n (c .length .result))
-    (λ i. across (arg w64 bx .is i) (arg w64 ax .is i) * across (arg w64 bx .is i) (arg w64 ax .is i) + across (arg w64 by .is i) (arg w64 ay .is i) * across (arg w64 by .is i) (arg w64 ay .is i))
-    (c .length .ensures))
-    (root-of _)
+    c .length .ensures ∙ (λ i. tenthsOf (squares (arg w64 ax .is i) (arg w64 ay .is i) (arg w64 bx .is i) (arg w64 by .is i)))
 
 pub way-spec : {M : Type 1} → statement M
 way-spec = tie.close (tie.spec length-requires returns)

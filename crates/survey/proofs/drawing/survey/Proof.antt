@@ -9,28 +9,27 @@ use Rattle.survey.proofs.drawing.survey.Statement.{statement}
 use Rattle.survey.proofs.drawing.survey.Tie as tie
 
 abbrev Inv-loop : tie.InvT-loop
-Inv-loop block₀ d₀ turns₀ t block d turns = (65536 ≡ length block) × Usable (d .machine .state) × (waiting (d .machine .state .work) ≡ 0)
+Inv-loop block₀ types₀ w₀ turns₀ t block types w turns =
+    (65536 ≡ length block) × Usable (w .drawing .machine .state) × (waiting (w .drawing .machine .state .work) ≡ 0)
 
 abbrev μ-loop : tie.MeasureT-loop
-μ-loop block₀ d₀ turns₀ t block d turns = turns
+μ-loop block₀ types₀ w₀ turns₀ t block types w turns = turns
 
 large-buffer-requires : tie.Need-large-buffer-requires Inv-loop μ-loop
 large-buffer-requires c κs = search needs
 
-no-letters-requires : tie.Need-no-letters-requires Inv-loop μ-loop
-no-letters-requires c κs = search needs
+no-types-requires : tie.Need-no-types-requires Inv-loop μ-loop
+no-types-requires c κs = search needs
 
-nothing-requires : tie.Need-nothing-requires Inv-loop μ-loop
-nothing-requires c κs = search needs
-
-none-requires : tie.Need-none-requires Inv-loop μ-loop
-none-requires c κs = search needs
+begun-requires : tie.Need-begun-requires Inv-loop μ-loop
+begun-requires c κs = search needs
 
 loop-holds : tie.Need-loop-holds Inv-loop μ-loop
 loop-holds c =
     let s : tie.Start Inv-loop μ-loop = search in
     let b : tie.After-large-buffer Inv-loop μ-loop = search in
-    (b .large-buffer .ensures, s .pre .0, s .pre .1)
+    let g : tie.After-begun Inv-loop μ-loop = search in
+    (b .large-buffer .ensures, rw (g .begun .ensures) (s .pre .0), rw (g .begun .ensures) (s .pre .1))
 
 slice-aggregate-read : tie.Need-slice-aggregate-read Inv-loop μ-loop
 slice-aggregate-read c = search needs
@@ -59,29 +58,41 @@ returns-2 c = tt
 array-share-prefix-block : tie.Need-array-share-prefix-block Inv-loop μ-loop
 array-share-prefix-block c = search needs
 
-slice-aggregate-block-of : tie.Need-slice-aggregate-block-of Inv-loop μ-loop
-slice-aggregate-block-of c = search needs
+slice-aggregate-types-in : tie.Need-slice-aggregate-types-in Inv-loop μ-loop
+slice-aggregate-types-in c = search needs
 
-block-of-requires : tie.Need-block-of-requires Inv-loop μ-loop
-block-of-requires c κs = let l : tie.At-loop Inv-loop μ-loop = search in (l .loop .inv .1, l .loop .inv .2)
+types-in-requires : tie.Need-types-in-requires Inv-loop μ-loop
+types-in-requires c κs = search needs
 
-sub-turns : tie.Need-sub-turns Inv-loop μ-loop
-sub-turns c = let t : tie.In-loop Inv-loop μ-loop = search in omega (arith, t .loop-test .taken)
+array-share-prefix-block-2 : tie.Need-array-share-prefix-block-2 Inv-loop μ-loop
+array-share-prefix-block-2 c = search needs
 
-loop-less : tie.Need-loop-less Inv-loop μ-loop
-loop-less c = let t : tie.In-loop Inv-loop μ-loop = search in omega (arith, t .loop-test .taken)
+slice-aggregate-pieces : tie.Need-slice-aggregate-pieces Inv-loop μ-loop
+slice-aggregate-pieces c = search needs
+
+pieces-requires : tie.Need-pieces-requires Inv-loop μ-loop
+pieces-requires c κs = let l : tie.At-loop Inv-loop μ-loop = search in (l .loop .inv .1, l .loop .inv .2)
 
 -- from a block that is counted back to the turn of the loop, and to where it was read
-abbrev turn : tie.After-block-of Inv-loop μ-loop → tie.In-loop Inv-loop μ-loop
+abbrev typed : tie.After-pieces Inv-loop μ-loop → tie.After-types-in Inv-loop μ-loop
+typed t = search
+
+abbrev turn : tie.After-types-in Inv-loop μ-loop → tie.In-loop Inv-loop μ-loop
 turn t = search
 
-abbrev read : tie.After-block-of Inv-loop μ-loop → tie.After-read Inv-loop μ-loop
+abbrev read : tie.After-types-in Inv-loop μ-loop → tie.After-read Inv-loop μ-loop
 read t = search
+
+sub-turns : tie.Need-sub-turns Inv-loop μ-loop
+sub-turns c = let t : tie.After-pieces Inv-loop μ-loop = search in omega (arith, turn (typed t) .loop-test .taken)
+
+loop-less : tie.Need-loop-less Inv-loop μ-loop
+loop-less c = let t : tie.After-pieces Inv-loop μ-loop = search in omega (arith, turn (typed t) .loop-test .taken)
 
 loop-again : tie.Need-loop-again Inv-loop μ-loop
 loop-again c =
-    let t : tie.After-block-of Inv-loop μ-loop = search in
-    (turn t .before .loop .inv .0 ∙ sym (read t .read .kept .1 .0), t .block-of .ensures .1, t .block-of .ensures .2)
+    let t : tie.After-pieces Inv-loop μ-loop = search in
+    (turn (typed t) .before .loop .inv .0 ∙ sym (read (typed t) .read .kept .1 .0), t .pieces .ensures .1, t .pieces .ensures .2)
 
 finished-requires-3 : tie.Need-finished-requires-3 Inv-loop μ-loop
 finished-requires-3 c κs = let l : tie.At-loop Inv-loop μ-loop = search in l .loop .inv .1
@@ -96,9 +107,8 @@ survey-spec =
     Inv-loop
     μ-loop
     large-buffer-requires
-    no-letters-requires
-    nothing-requires
-    none-requires
+    no-types-requires
+    begun-requires
     loop-holds
     slice-aggregate-read
     read-requires
@@ -109,8 +119,11 @@ survey-spec =
     finished-requires-2
     returns-2
     array-share-prefix-block
-    slice-aggregate-block-of
-    block-of-requires
+    slice-aggregate-types-in
+    types-in-requires
+    array-share-prefix-block-2
+    slice-aggregate-pieces
+    pieces-requires
     sub-turns
     loop-less
     loop-again

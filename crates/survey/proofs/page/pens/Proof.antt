@@ -5,10 +5,10 @@ use Rattle.survey.proofs.page.pens.Statement.{statement}
 use Rattle.survey.proofs.page.pens.Tie as tie
 
 abbrev Inv-loop : tie.InvT-loop
-Inv-loop text₀ used p end₀ pen₀ text end pen = pen ≤ 9
+Inv-loop text₀ used p scale end₀ pen₀ text end pen = pen ≤ 9
 
 abbrev μ-loop : tie.MeasureT-loop
-μ-loop text₀ used p end₀ pen₀ text end pen = 9 - pen
+μ-loop text₀ used p scale end₀ pen₀ text end pen = 9 - pen
 
 loop-holds : tie.Need-loop-holds Inv-loop μ-loop
 loop-holds c = search needs
