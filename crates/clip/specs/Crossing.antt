@@ -33,6 +33,9 @@ not-below h = omega (arith, ord)
 pub all-above : (a b : Point) → 0 < all a b
 all-above a b = mul-pos (above (extent-pos (a .x) (b .x))) (above (extent-pos (a .y) (b .y)))
 
+pub all-sym : (a b : Point) → all b a ≡ all a b
+all-sym a b = rw (extent-sym (a .x) (b .x), extent-sym (a .y) (b .y)) refl
+
 -- ---- the larger
 larger-up : (a b : ℤ) → up (larger a b) ≡ max (up a) (up b)
 unfolding larger
@@ -73,7 +76,7 @@ max-each x y z M Z e h = omega (arith, mul-le-mul-left M (let l : x ≤ z = omeg
 pub of-between : (p q : ℤ) (k n : ℕ) (h : 0 < n) → Is (between (whole p) (whole q) k n h .num) ((n - k) * up p + k * up q) ((n - k) * dn p + k * dn q)
 of-between p q k n h = recast (omega arith) (omega arith) ((n - k) * 1 ⊛ v p ⊕ k * 1 ⊛ v q)
 
-inside-in : (lo hi p q : ℤ) (k n : ℕ) (h : 0 < n) → k ≤ n → Inside lo hi 0 (between (whole p) (whole q) k n h) → In lo hi p q (n - k) k
+pub inside-in : (lo hi p q : ℤ) (k n : ℕ) (h : 0 < n) → k ≤ n → Inside lo hi 0 (between (whole p) (whole q) k n h) → In lo hi p q (n - k) k
 inside-in lo hi p q k n h l i =
     let e : n - k + k ≡ n = omega arith in
     record {
@@ -132,7 +135,7 @@ pub shows : (r : Rect) (a b : Point) → till r a b + till r b a ≤ all a b →
 unfolding clip steps
 shows r a b h = rw (le-<? (→le (entry-is r a b ⊕ entry-is r b a) (natural (not-below (extent-pos (a .x) (b .x))) ⊗ natural (not-below (extent-pos (a .y) (b .y)))) (omega arith)))
 
-hides : (r : Rect) (a b : Point) → all a b < till r a b + till r b a → clip r a b ≡ Hidden
+pub hides : (r : Rect) (a b : Point) → all a b < till r a b + till r b a → clip r a b ≡ Hidden
 unfolding clip steps
 hides r a b h = rw (lt-<? (→lt (natural (not-below (extent-pos (a .x) (b .x))) ⊗ natural (not-below (extent-pos (a .y) (b .y)))) (entry-is r a b ⊕ entry-is r b a) (omega arith)))
   where

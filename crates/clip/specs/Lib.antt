@@ -11,3 +11,5 @@ pub mod Nearness
 pub mod Based
 pub mod Figures
 pub mod Sizes
+pub mod Types
+pub mod TypeLaws

@@ -1,5 +1,6 @@
 // A segment clipped to a box, in whole numbers: specs/Clip.antt says what, specs/Exactness.antt that it is exact, specs/Nearness.antt what it is good for.
 ghost use mathlib.Core.Path.{_≡_};
+ghost use mathlib.Core.Bool.{true};
 ghost use lib.IntN.{pos};
 ghost use Rattle.exact.specs.Whole.{_<ᶻ_};
 ghost use Rattle.exact.specs.Fit.{Bd};
@@ -131,8 +132,43 @@ fn inside(r: Rect, p: Point) -> bool
     true
 }
 
-// The part of the segment from a to b that is in the box, its ends rounded. Each end is found from a and b themselves.
-fn part(r: Rect, a: Point, b: Point) -> Clipped
+// The point in place of an end that is outside: where the way to the other end enters the box, rounded.
+fn edge_point(r: Rect, outside: Point, other: Point) -> Point
+    requires { ⌜ SmallRect r × SmallPoint outside × SmallPoint other ⌝ }
+    ensures { λ p. ⌜ p ≡ S.place outside other (S.entry r outside other) ⌝ }
+{
+    place(outside, other, entry(r, outside, other))
+}
+
+// The four line types of the manual (source 001, chapter 10, page 10-1, "Windowing: Setting Up Soft-Clip Limits"), from the last point a to the new point b.
+
+// 1. Inside window area to inside window area: nothing is cut.
+fn inside_to_inside(r: Rect, a: Point, b: Point) -> Clipped
+    requires { ⌜ (S.inside r a ≡ true) × (S.inside r b ≡ true) ⌝ }
+    ensures { λ c. ⌜ c ≡ S.clip r a b ⌝ }
+{
+    Clipped::Stroke(a, b)
+}
+
+// 2. Inside window area to outside window area: it ends on an edge.
+fn inside_to_outside(r: Rect, a: Point, b: Point) -> Clipped
+    requires { ⌜ SmallRect r × SmallPoint a × SmallPoint b × (S.inside r a ≡ true) ⌝ }
+    ensures { λ c. ⌜ c ≡ S.clip r a b ⌝ }
+{
+    Clipped::Stroke(a, edge_point(r, b, a))
+}
+
+// 3. Outside window area to inside window area: it begins on an edge.
+fn outside_to_inside(r: Rect, a: Point, b: Point) -> Clipped
+    requires { ⌜ SmallRect r × SmallPoint a × SmallPoint b × (S.inside r b ≡ true) ⌝ }
+    ensures { λ c. ⌜ c ≡ S.clip r a b ⌝ }
+{
+    Clipped::Stroke(edge_point(r, a, b), b)
+}
+
+// 4. Outside window area to outside window area: from edge to edge, each end found from a and b themselves, or hidden where the box is entered
+// later than it is left.
+fn outside_to_outside(r: Rect, a: Point, b: Point) -> Clipped
     requires { ⌜ SmallRect r × SmallPoint a × SmallPoint b ⌝ }
     ensures { λ c. ⌜ c ≡ S.clip r a b ⌝ }
 {
@@ -144,8 +180,27 @@ fn part(r: Rect, a: Point, b: Point) -> Clipped
     Clipped::Stroke(place(a, b, m), place(b, a, n))
 }
 
-// A segment with both ends in the box, as most have, is that part already, and nothing is divided.
+// What is left of the segment from a to b in the box, by its type.
 pub fn clip(r: Rect, a: Point, b: Point) -> Clipped
+    requires { ⌜ SmallRect r × SmallPoint a × SmallPoint b ⌝ }
+    ensures { λ c. ⌜ c ≡ S.clip r a b ⌝ }
+{
+    let from_inside = inside(r, a);
+    let to_inside = inside(r, b);
+    if from_inside {
+        if to_inside {
+            return inside_to_inside(r, a, b);
+        }
+        return inside_to_outside(r, a, b);
+    }
+    if to_inside {
+        return outside_to_inside(r, a, b);
+    }
+    outside_to_outside(r, a, b)
+}
+
+// The same for the loops that draw: most segments are of type 1, and are told here without a call and without a division.
+pub fn kept_or_clipped(r: Rect, a: Point, b: Point) -> Clipped
     requires { ⌜ SmallRect r × SmallPoint a × SmallPoint b ⌝ }
     ensures { λ c. ⌜ c ≡ S.clip r a b ⌝ }
 {
@@ -153,8 +208,8 @@ pub fn clip(r: Rect, a: Point, b: Point) -> Clipped
         if inside(r, b) {
             return Clipped::Stroke(a, b);
         }
-        // called at two places, so that it stays a call, and what divides is not built into the loops that draw
-        return part(r, a, b);
+        // called at two places, so that it stays a call, and what divides is not built into the loops
+        return clip(r, a, b);
     }
-    part(r, a, b)
+    clip(r, a, b)
 }

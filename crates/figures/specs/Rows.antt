@@ -8,7 +8,10 @@ use lib.ListN.{length}
 use Rattle.clip.specs.declared.Rect.{Rect}
 use Rattle.hpgl.specs.declared.State.{State}
 use Rattle.hpgl.specs.declared.Stroke.{Stroke}
-use Rattle.hpgl.specs.Machine.{rect, freshState, freshNumber, waiting, takeState, takeNumber}
+use Rattle.clip.specs.Types.{LineType, typeOf}
+use Rattle.hpgl.specs.Place.{limits}
+use Rattle.hpgl.specs.ExactModel.{ExactSegment, Model, freshModel, takeModel}
+use Rattle.hpgl.specs.Machine.{rect, hardLimits, freshState, freshNumber, waiting, takeState, takeNumber}
 use Rattle.feeding.specs.Feed.{Feed, feedOf, laid}
 use Rattle.hpgl.specs.Trace.{Out, bytes, draws, drawnOff, refusal, traceFrom, trace}
 use Rattle.drive.specs.declared.Moves.{Moves}
@@ -39,6 +42,8 @@ pub data Row : Type 0 where
   feeds : List Lent → List Fed → Row
   -- a stroke and a pitch code
   moved : Stroke → ℕ → Moves → Row
+  -- bytes as in the first, and the line type of each segment that they leave to be drawn
+  typed : Rect → String → List LineType → Row
 
 -- what a row is compared by
 pub data RowAnswer : Type 0 where
@@ -47,6 +52,7 @@ pub data RowAnswer : Type 0 where
   many : ℕ → RowAnswer
   fedAs : List Fed → RowAnswer
   movedAs : Moves → RowAnswer
+  typedAs : List LineType → RowAnswer
 
 abbrev pub minus : ℕ → ℤ
 minus n = negℤ (pos n)
@@ -93,6 +99,17 @@ moves-given r (travelPaint u v) h = h .0
 moves-given r (oneDot u) h = h .0
 moves-given r (noMove n) h = h
 
+-- the types of a queue's segments, by their located ends; and after each byte, where all is drawn before the next
+unfoldable pub typesIn : Rect → List ExactSegment → List LineType
+typesIn r [] = []
+typesIn r (g ∷ gs) = typeOf r (g .start) (g .end) ∷ typesIn r gs
+
+unfoldable pub typesFrom : Model → List ℕ → List LineType
+typesFrom p [] = []
+typesFrom p (b ∷ bs) =
+    let q : Model = takeModel p b in
+    typesIn (limits (q .core .settings)) (q .queue) ++ typesFrom (record { reader = q .reader; core = q .core; polygon = q .polygon; queue = [] }) bs
+
 unfoldable pub answered : Row → RowAnswer
 answered (taken r s os) = outs (trace r s)
 answered (undrawn s t os) = outs (refusals 0 (freshState wide) (bytes s) ++ drawnThen (after (freshState wide) (bytes s)) (bytes t))
@@ -101,6 +118,7 @@ answered (filled s t os) = outs (traceFrom 0 (freshState wide) (bytes s ++ (poin
 answered (waits s n) = many (waiting (after (freshState wide) (bytes s) .work))
 answered (feeds calls fs) = fedAs (fedAll (freshState wide) calls)
 answered (moved s c m) = movedAs (movesOf (answerOf s c))
+answered (typed r s ts) = typedAs (typesFrom (freshModel (hardLimits r)) (bytes s))
 
 unfoldable pub allAnswered : List Row → List RowAnswer
 allAnswered [] = []
@@ -116,6 +134,7 @@ said (filled s t os) = outs os
 said (waits s n) = many n
 said (feeds calls fs) = fedAs fs
 said (moved s c m) = movedAs m
+said (typed r s ts) = typedAs ts
 
 unfoldable pub allSaid : List Row → List RowAnswer
 allSaid [] = []

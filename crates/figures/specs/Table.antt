@@ -14,7 +14,8 @@ use Rattle.hpgl.specs.Trace.{Out, refused, stroke, hidden, idle, seen}
 use Rattle.drive.specs.declared.Place.{Place}
 use Rattle.drive.specs.declared.Move.the-variants.{Travel, Paint, Dot}
 use Rattle.drive.specs.declared.Moves.the-variants.{Two, One, Refused}
-use Rattle.figures.specs.Rows.{Row, taken, undrawn, started, filled, waits, feeds, moved, lent, fed, minus, wide}
+use Rattle.figures.specs.Rows.{Row, taken, undrawn, started, filled, waits, feeds, moved, typed, lent, fed, minus, wide}
+use Rattle.clip.specs.Types.{LineType, insideToInside, insideToOutside, outsideToInside, outsideToOutside}
 
 -- ---- how a row is written
 
@@ -985,6 +986,58 @@ turnShapes =
     take "SP1;RO270;PU100,0;PD;AA0,0,90,90;" (stroke 1 (pos 0) (minus 100) (pos 100) (pos 0) ∷ down 0 100 1 0 ∷ []) ∷
     []
 
+-- ---- Document 02, CR 4: clip as the manual tells it
+
+-- "Each segment is of exactly one type, by whether each of its ends before clipping lies within the limits, edges included. Its stroke keeps an end that does and puts a point on an edge
+-- for one that does not; EP's pen-up edges aside, only with both outside is it hidden."
+abbrev inIn : List LineType
+inIn = insideToInside ∷ []
+
+abbrev inOut : List LineType
+inOut = insideToOutside ∷ []
+
+abbrev outIn : List LineType
+outIn = outsideToInside ∷ []
+
+abbrev outOut : List LineType
+outOut = outsideToOutside ∷ []
+
+abbrev lineTypes : List Row
+lineTypes =
+    typed ten "SP1;PU2,2;PD8,8;" inIn ∷
+    taken ten "SP1;PU2,2;PD8,8;" (line 1 2 2 8 8 ∷ down 8 8 1 0 ∷ []) ∷
+    typed ten "SP1;PU5,5;PD5,15;" inOut ∷
+    taken ten "SP1;PU5,5;PD5,15;" (line 1 5 5 5 10 ∷ down 5 15 1 0 ∷ []) ∷
+    typed ten "SP1;PU5,15;PD5,5;" outIn ∷
+    taken ten "SP1;PU5,15;PD5,5;" (line 1 5 10 5 5 ∷ down 5 5 1 0 ∷ []) ∷
+    -- figures (e) to (h)
+    typed ten "SP1;PU-5,0;PD15,20;" outOut ∷
+    typed ten "SP1;PU-5,5;PD5,15;" outOut ∷
+    typed ten "SP1;PU-5,6;PD5,16;" outOut ∷
+    typed ten "SP1;PU-1,0;PD1,1;" outIn ∷
+    -- the edges are inside
+    typed ten "SP1;PU0,0;PD10,10;" inIn ∷
+    typed ten "SP1;PU10,5;PD20,5;" inOut ∷
+    taken ten "SP1;PU10,5;PD20,5;" (line 1 10 5 10 5 ∷ down 20 5 1 0 ∷ []) ∷
+    typed ten "SP1;PU20,5;PD10,5;" outIn ∷
+    typed ten "SP1;PU10,-5;PD10,20;" outOut ∷
+    taken ten "SP1;PU10,-5;PD10,20;" (line 1 10 0 10 10 ∷ down 10 20 1 0 ∷ []) ∷
+    typed ten "SP1;PU5,5;PD5,5;" inIn ∷
+    typed ten "SP1;PU15,5;PD15,5;" outOut ∷
+    -- by the limits in force, and not by the window or the hard limits alone; where they have no point in common all is outside
+    typed ten "SP1;IW2,2,8,8;PU0,5;PD10,5;" outOut ∷
+    typed ten "SP1;IW5,-5,20,5;PU0,0;PD12,6;" outOut ∷
+    taken ten "SP1;IW5,-5,20,5;PU0,0;PD12,6;" (line 1 5 3 10 5 ∷ down 12 6 1 0 ∷ []) ∷
+    typed ten "SP1;IW20,20,30,30;PU5,5;PD25,25;" outOut ∷
+    typed wide "SP1;IW0,0,5,10;RO90;PU0,0;PD100,100;" inOut ∷
+    -- of located ends: 10.4 is 10, and 10.5 is 11
+    typed ten "SP1;PU9.6,5;PD10.4,5,10.5,5;" (insideToInside ∷ inOut) ∷
+    -- EP's pen-up edges have a type, and are hidden
+    typed ten "SP1;PM0;PD5,0;PU5,5;PM2;EP;" (insideToInside ∷ insideToInside ∷ inIn) ∷
+    taken ten "SP1;PM0;PD5,0;PU5,5;PM2;EP;" (line 1 0 0 5 0 ∷ hidden ∷ hidden ∷ up 0 0 1 42 ∷ []) ∷
+    typed ten "SP1;CI12,90;" (outsideToOutside ∷ outsideToOutside ∷ outsideToOutside ∷ outOut) ∷
+    []
+
 -- ---- the table, heading by heading
 
 abbrev pub table : List Row
@@ -1001,3 +1054,4 @@ table =
     ++ arcForms ++ arcSweeps ++ arcWays ++ arcVertices ++ arcEnds ++ arcChords ++ arcRanges
     ++ fifthDecimal
     ++ turnNumbers ++ turnImages ++ turnChanges ++ turnWindows ++ turnShapes
+    ++ lineTypes

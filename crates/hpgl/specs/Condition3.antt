@@ -13,6 +13,7 @@ use Rattle.clip.specs.Clip.{clip}
 use Rattle.clip.specs.Line.{Exact, exactly, at, Close, Within}
 use Rattle.clip.specs.declared.Point.{Point}
 use Rattle.clip.specs.declared.Rect.{Rect}
+use Rattle.clip.specs.declared.Clipped.the-variants as clipped
 use Rattle.plane.specs.Turn.{turnedBoxOf}
 use Rattle.hpgl.specs.declared.Settings.{Settings}
 use Rattle.hpgl.specs.declared.State.{State}
@@ -62,8 +63,9 @@ pub record Painted (c : Settings) (g : ExactSegment) (s : Stroke) : Type 0 where
   pub near : (k n : ℕ) → k ≤ n → (p : 0 < n) → HasNear (at (startOf s) (endOf s) k n p) (g .from) (g .to)
   pub covers : (k n : ℕ) → k ≤ n → (p : 0 < n) → InLimits c 1 (at (g .from) (g .to) k n p) → HasNear (at (g .from) (g .to) k n p) (startOf s) (endOf s)
 
--- "hidden": if paint was owed, no point of the line is at least one unit inside
+-- "hidden": if paint was owed, the clip of its located ends is, and no point of the line is at least one unit inside
 pub record Unseen (c : Settings) (g : ExactSegment) : Type 0 where
+  pub clipped : g .owed ≡ true → clip (limits c) (g .start) (g .end) ≡ clipped.Hidden
   pub none : g .owed ≡ true → (k n : ℕ) → k ≤ n → (p : 0 < n) → ¬ InLimits c 1 (at (g .from) (g .to) k n p)
 
 -- a draw answers for the first segment of the queue, and "idle" exactly where there is none

@@ -19,6 +19,7 @@ pub mod Steps
 pub mod SegmentsLocated
 pub mod OpenInstruction
 pub mod Condition3Proof
+pub mod LineTypes
 pub mod Instruction
 pub mod Ends
 pub mod Effects

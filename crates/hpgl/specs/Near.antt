@@ -29,7 +29,7 @@ use Rattle.hpgl.specs.Related.{Located}
 
 -- a point is within the limits exactly when it is within the hard limits and, if set, the turned window
 module _ (s : Settings) (c : ℕ) (e : Exact) where
-  limits-within : (Within (limits s) c e → InLimits s c e) × (InLimits s c e → Within (limits s) c e)
+  pub limits-within : (Within (limits s) c e → InLimits s c e) × (InLimits s c e → Within (limits s) c e)
   unfolding limits limitsOf
   limits-within =
       (λ w. let k = go (s .window .set) .0 w in record { hard = k .0; window = k .1 }, λ h. go (s .window .set) .1 (h .hard, h .window))
@@ -81,8 +81,9 @@ module _ (d : Core) (g : ExactSegment) (l : Located (d .carriage .pen .number) g
       go : (t : Bool) → g .owed ≡ t → (k : Clipped) → clip (limits (d .settings)) (g .start) (g .end) ≡ k →
           Holds (d .settings) (g ∷ gs) (cond t (strokeOf (d .carriage .pen .number) k) drawn.Hidden)
       go true o clipped.Hidden h = record {
+        clipped = λ u. h;
         none = λ u k n v p w.
             clip-hides (limits (d .settings)) (g .from) (g .to) (g .start) (g .end) (l .from) (l .to) h k n v p (limits-within (d .settings) 1 _ .1 w);
       }
       go true o (clipped.Stroke s t) h = painted s t o h
-      go false o k h = record { none = λ u. never o u }
+      go false o k h = record { clipped = λ u. never o u; none = λ u. never o u }

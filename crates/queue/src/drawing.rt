@@ -12,7 +12,7 @@ ghost use Rattle.queue.specs.Corners as C;
 use clip::Clipped;
 use clip::Point;
 use clip::Rect;
-use clip::clip;
+use clip::kept_or_clipped;
 use hpgl::Circle;
 use hpgl::Core;
 use hpgl::Drawn;
@@ -164,7 +164,7 @@ pub fn drawn_of(limits: Rect, pen: u8, s: Segment) -> Drawn
     match s {
         Segment::Nothing => Drawn::Idle,
         Segment::PenUp => Drawn::Hidden,
-        Segment::Line(a, b) => stroke_of(pen, clip(limits, a, b)),
+        Segment::Line(a, b) => stroke_of(pen, kept_or_clipped(limits, a, b)),
     }
 }
 

@@ -19,6 +19,14 @@
 //!   there is no such point.
 //! * A segment that is not owed paint (a polygon edge reached pen up) is answered hidden.
 //!
+//! Change request 4 is judged apart, since it asks for more near the edges. [`Exact::line_type`]
+//! tells the type of the segment that waits first, by its ends before clipping, which are its
+//! locations turned to the page; [`Exact::judge_type`], before the draw, judges the answer by it.
+//!
+//! * A stroke keeps an end that lies within the limits in force, edges included, and has a point
+//!   on an edge for one that does not.
+//! * Hidden, though paint is owed, is only a segment with both ends outside.
+//!
 //! # Why a few parameters decide about all points
 //!
 //! Distance is the larger of the differences in x and y. Both the stroke and the line are
@@ -133,6 +141,14 @@ impl Area {
     fn spanned(a: Whole, b: Whole) -> Area {
         Area { low: [a[0].min(b[0]), a[1].min(b[1])], high: [a[0].max(b[0]), a[1].max(b[1])] }
     }
+
+    fn holds(&self, point: &Whole) -> bool {
+        (0..2).all(|axis| (self.low[axis]..=self.high[axis]).contains(&point[axis]))
+    }
+
+    fn has_on_edge(&self, point: &Whole) -> bool {
+        (0..2).any(|axis| [self.low[axis], self.high[axis]].contains(&point[axis]))
+    }
 }
 
 /// A waiting segment.
@@ -140,6 +156,8 @@ impl Area {
 struct Segment {
     /// The exact line on the page.
     line: [Spot; 2],
+    /// The locations of its ends, turned to the page.
+    ends: [Whole; 2],
     pen: u8,
     owed: bool,
 }
@@ -168,7 +186,7 @@ enum Reading {
     LabelText,
 }
 
-/// How a draw's answer breaks condition 3.
+/// How a draw's answer breaks condition 3, or change request 4.
 #[derive(Clone, Copy, PartialEq, Eq, Debug)]
 pub enum Violation {
     /// An answer other than idle, but nothing waits.
@@ -187,6 +205,22 @@ pub enum Violation {
     Astray,
     /// Owed paint one unit inside the limits is farther than one unit from the stroke.
     TooShort,
+    /// Hidden, but paint is owed and an end lies within the limits.
+    EndHidden,
+    /// A stroke that does not keep an end within the limits.
+    EndMoved,
+    /// A stroke with a point for an end outside the limits that is on no edge.
+    OffEdge,
+}
+
+impl Violation {
+    /// The claim that is broken.
+    pub fn claim(self) -> &'static str {
+        match self {
+            Violation::EndHidden | Violation::EndMoved | Violation::OffEdge => "change request 4",
+            _ => "condition 3",
+        }
+    }
 }
 
 impl fmt::Display for Violation {
@@ -200,6 +234,9 @@ impl fmt::Display for Violation {
             Violation::Limits => "stroke leaves the limits",
             Violation::Astray => "stroke leaves the exact line",
             Violation::TooShort => "owed paint is not covered by the stroke",
+            Violation::EndHidden => "hidden with an end within the limits",
+            Violation::EndMoved => "stroke does not keep an end within the limits",
+            Violation::OffEdge => "stroke has a point off every edge for an end outside",
         })
     }
 }
@@ -534,7 +571,8 @@ impl Exact {
     fn queue_line(&mut self, from: Spot, to: Spot, owed: bool) {
         if self.pen != 0 {
             let line = [turned(&self.turn, &from), turned(&self.turn, &to)];
-            self.queue.push_back(Segment { line, pen: self.pen, owed });
+            let ends = [from, to].map(|end| self.on_page(&location(&end)));
+            self.queue.push_back(Segment { line, ends, pen: self.pen, owed });
         }
     }
 
@@ -786,12 +824,41 @@ impl Exact {
         }
     }
 
+    /// The type, 1 to 4, of the segment that waits first, if one does.
+    pub fn line_type(&self) -> Option<u8> {
+        self.queue.front().map(|segment| self.type_of(segment))
+    }
+
+    fn type_of(&self, segment: &Segment) -> u8 {
+        match segment.ends.map(|end| self.holds(&end)) {
+            [true, true] => 1,
+            [true, false] => 2,
+            [false, true] => 3,
+            [false, false] => 4,
+        }
+    }
+
+    /// Whether a point lies within all limits in force, edges included.
+    fn holds(&self, point: &Whole) -> bool {
+        self.limits().iter().all(|area| area.holds(point))
+    }
+
+    /// Whether a point stands on an edge of what all limits in force hold: within them all, an edge
+    /// of one of them is an edge of that.
+    fn on_edge(&self, point: &Whole) -> bool {
+        self.holds(point) && self.limits().iter().any(|area| area.has_on_edge(point))
+    }
+
+    /// A whole point, turned to the page.
+    fn on_page(&self, point: &Whole) -> Whole {
+        location(&turned(&self.turn, &spot(point)))
+    }
+
     /// The limits in force, one area after another.
     fn limits(&self) -> Vec<Area> {
         let mut limits = vec![self.hard];
         if let Some(window) = &self.window {
-            let corner = |w: &Whole| location(&turned(&self.turn, &spot(w)));
-            limits.push(Area::spanned(corner(&window.low), corner(&window.high)));
+            limits.push(Area::spanned(self.on_page(&window.low), self.on_page(&window.high)));
         }
         limits
     }
@@ -803,14 +870,10 @@ impl Exact {
         if stroke.pen != segment.pen {
             return Err(Violation::Pen);
         }
-        let ends = [[stroke.x0, stroke.y0], [stroke.x1, stroke.y1]].map(|end| end.map(i128::from));
+        let ends = ends_of(stroke);
         let limits = self.limits();
-        for area in &limits {
-            for end in &ends {
-                if (0..2).any(|axis| end[axis] < area.low[axis] || end[axis] > area.high[axis]) {
-                    return Err(Violation::Limits);
-                }
-            }
+        if !ends.iter().all(|end| self.holds(end)) {
+            return Err(Violation::Limits);
         }
         let line = Line::of(&segment.line);
         for end in &ends {
@@ -825,6 +888,53 @@ impl Exact {
             }
         }
         Ok(())
+    }
+
+    /// Judges the answer that a draw is to have by the type of the segment that waits first.
+    pub fn judge_type(&self, answer: Drawn) -> Result<(), Violation> {
+        match (self.queue.front(), answer) {
+            (Some(segment), Drawn::Stroke(stroke)) => self.judge_ends(segment, &stroke),
+            (Some(segment), Drawn::Hidden) if segment.owed && self.type_of(segment) != 4 => {
+                Err(Violation::EndHidden)
+            }
+            _ => Ok(()),
+        }
+    }
+
+    fn judge_ends(&self, segment: &Segment, stroke: &Stroke) -> Result<(), Violation> {
+        for (end, shown) in segment.ends.iter().zip(&ends_of(stroke)) {
+            if self.holds(end) {
+                if end != shown {
+                    return Err(Violation::EndMoved);
+                }
+            } else if !self.on_edge(shown) {
+                return Err(Violation::OffEdge);
+            }
+        }
+        Ok(())
+    }
+}
+
+fn ends_of(stroke: &Stroke) -> [Whole; 2] {
+    [[stroke.x0, stroke.y0], [stroke.x1, stroke.y1]].map(|end| end.map(i128::from))
+}
+
+/// Whether `part` is the clip of the line between two whole points: hidden exactly if no point of the
+/// line lies within all of the boxes (left, bottom, right, top), else the ends of the exact part,
+/// rounded. The ends are fractions of the line, and every comparison is multiplied out.
+pub fn is_clip(boxes: &[[i64; 4]], line: [[i64; 2]; 2], part: Option<[[i64; 2]; 2]>) -> bool {
+    let area = |&[left, bottom, right, top]: &[i64; 4]| Area {
+        low: [left, bottom].map(i128::from),
+        high: [right, top].map(i128::from),
+    };
+    let areas: Vec<Area> = boxes.iter().map(area).collect();
+    let line = Line::of(&line.map(|end| spot(&end.map(i128::from))));
+    match (line.within(&areas, 0), part) {
+        (None, None) => true,
+        (Some((from, to)), Some([start, end])) => {
+            line.rounds_to(&from, start) && line.rounds_to(&to, end)
+        }
+        _ => false,
     }
 }
 
@@ -917,6 +1027,17 @@ impl Line {
                 high: Wide::from(area.high[axis] - depth) * self.under[axis],
             })
         }))
+    }
+
+    /// Whether the line's point at `t`, rounded, is this: twice it is from `2 * v - 1` on, a half
+    /// going to the larger number, and below `2 * v + 1`.
+    fn rounds_to(&self, t: &Parameter, whole: [i64; 2]) -> bool {
+        (0..2).all(|axis| {
+            let point = self.start[axis] * t.under + self.slope[axis] * t.over;
+            let unit = self.under[axis] * t.under;
+            let twice = Wide::from(2 * whole[axis]) * unit;
+            twice - unit <= point + point && point + point < twice + unit
+        })
     }
 
     /// Whether the line's point at `t` is within one unit of a point of the stroke.

@@ -313,6 +313,17 @@ impl Bounds {
         self.left <= p.x && p.x <= self.right && self.bottom <= p.y && p.y <= self.top
     }
 
+    /// The type of the segment from `a` to `b`, the page points of its locations, where this box is
+    /// the limits in force. An empty box holds no point, so there every segment is of the fourth.
+    pub const fn line_type(&self, a: Point, b: Point) -> LineType {
+        match (self.holds(a), self.holds(b)) {
+            (true, true) => LineType::InsideToInside,
+            (true, false) => LineType::InsideToOutside,
+            (false, true) => LineType::OutsideToInside,
+            (false, false) => LineType::OutsideToOutside,
+        }
+    }
+
     /// The part of the line from `a` to `b` inside the box, its exact ends rounded.
     #[inline]
     pub fn clip(&self, a: Point, b: Point) -> Option<(Point, Point)> {
@@ -354,6 +365,18 @@ impl Bounds {
             Cut { over: over_y, under: under_y, axis: Cutting::AtY(edge.y) }
         }
     }
+}
+
+/// The manual's four types of line segments, from the last point to the new point (chapter 10,
+/// "Windowing"): each end is told before it is clipped, and an edge is inside. A type has the manual's
+/// number.
+#[derive(Clone, Copy, PartialEq, Eq, Debug)]
+#[allow(missing_docs)]
+pub enum LineType {
+    InsideToInside = 1,
+    InsideToOutside = 2,
+    OutsideToInside = 3,
+    OutsideToOutside = 4,
 }
 
 /// The edge that cuts.

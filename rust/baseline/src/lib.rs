@@ -1,15 +1,15 @@
 //! An HP-GL machine for painting rink lines.
 //!
 //! This crate is a plain Rust implementation of document 01, the specification of the
-//! project, with change requests 1 (arcs), 2 (the fifth decimal) and 3 (half and three-quarter turns)
-//! of document 02, written from these texts alone.
+//! project, with change requests 1 (arcs), 2 (the fifth decimal), 3 (half and three-quarter turns)
+//! and 4 (line types) of document 02, written from these texts alone.
 //! It serves two ends: a partner that another
 //! implementation is compared with byte by byte, and a baseline of speed.
 //!
 //! Four layers stand one above another:
 //!
 //! * [`reader`]: bytes become names, numbers and ends of instructions; it knows no paper.
-//! * [`geometry`]: rounding, scaling, the turns and the clip.
+//! * [`geometry`]: rounding, scaling, the turns, the clip and the manual's line types.
 //! * [`Machine`]: settings, position, pen, polygon, waiting segments.
 //! * [`Machine::feed`] and [`drive`]: bytes in, strokes out; strokes to moves of the drive.
 //!

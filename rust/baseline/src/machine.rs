@@ -1,6 +1,8 @@
 //! The machine: settings, position, pen, polygon and the waiting segments.
 
-use crate::geometry::{round_div, round_number, Arc, Axis, Bounds, Point, Scale, Swing, Turn};
+use crate::geometry::{
+    round_div, round_number, Arc, Axis, Bounds, LineType, Point, Scale, Swing, Turn,
+};
 use crate::number;
 use crate::reader::{Event, Op, Reader};
 use crate::sines::{cosine, sine};
@@ -282,6 +284,29 @@ impl Machine {
         }
     }
 
+    /// The type of the segment that waits first, if one does; an edge of EP has one too that was
+    /// reached pen up and is not painted.
+    pub fn line_type(&self) -> Option<LineType> {
+        let (from, to) = self.segment()?;
+        Some(self.limits.line_type(from, to))
+    }
+
+    /// The page points that the segment joins which waits first.
+    fn segment(&self) -> Option<(Point, Point)> {
+        match self.work {
+            Work::None => None,
+            Work::Line(from, to) => Some((from, to)),
+            Work::Edges(index) => {
+                let page = |index: usize| self.turn.to_page(self.polygon.corners[index].at);
+                Some((page(index - 1), page(index)))
+            }
+            Work::Chords(circle) => Some((circle.from, self.chord_end(&circle))),
+            Work::Arc(tenths, from) => {
+                Some((from, self.turn.to_page(self.arc.vertex(self.arc.next(tenths)))))
+            }
+        }
+    }
+
     /// Location, pen and polygon bytes.
     pub fn look(&self) -> Look {
         let Point { x, y } = self.position.at();
@@ -312,9 +337,9 @@ impl Machine {
 
     #[inline(never)]
     fn draw_chord(&mut self, mut circle: Circle) -> Drawn {
+        let to = self.chord_end(&circle);
         circle.next += 1;
         let last = circle.next == circle.chords;
-        let to = self.vertex(&circle, if last { 0 } else { circle.next * circle.angle });
         let from = std::mem::replace(&mut circle.from, to);
         self.work = if last { Work::None } else { Work::Chords(circle) };
         self.show(from, to)
@@ -326,6 +351,12 @@ impl Machine {
         let to = self.turn.to_page(self.arc.vertex(tenths));
         self.work = if self.arc.ends_at(tenths) { Work::None } else { Work::Arc(tenths, to) };
         self.show(from, to)
+    }
+
+    /// The page point where the next chord ends; the last vertex is the first again.
+    fn chord_end(&self, circle: &Circle) -> Point {
+        let next = circle.next + 1;
+        self.vertex(circle, if next == circle.chords { 0 } else { next * circle.angle })
     }
 
     /// The page point of a circle at tenths of a degree.

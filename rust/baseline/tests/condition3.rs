@@ -122,6 +122,8 @@ struct Tally {
     refused: [usize; 32],
     strokes: usize,
     hidden: usize,
+    /// Segments by their types, 1 to 4.
+    types: [usize; 5],
 }
 
 /// One drawing: instructions and draws in many orders.
@@ -160,8 +162,12 @@ fn drawing(dice: &mut Dice, instructions: usize, tally: &mut Tally) {
             // Mostly all draws after a byte, else some, also on an empty queue.
             let most = if eager || dice.one_in(3) { usize::MAX } else { dice.below(4) as usize };
             for _ in 0..most {
+                let told = machine.line_type().map(|told| told as u8);
+                assert_eq!(told, exact.line_type(), "{limits:?} {}", shown());
+                tally.types[usize::from(told.unwrap_or(0))] += 1;
                 let answer = machine.draw();
-                if let Err(violation) = exact.draw(answer) {
+                let by_type = exact.judge_type(answer);
+                if let Err(violation) = exact.draw(answer).and(by_type) {
                     panic!("{violation}: {answer:?} {limits:?} {}", shown());
                 }
                 match answer {
@@ -185,13 +191,18 @@ fn generated_drawings() {
         drawing(&mut dice, if long { 400 } else { 40 }, &mut tally);
     }
     println!(
-        "{} bytes, {} strokes, {} hidden, refusals {:?}",
-        tally.bytes, tally.strokes, tally.hidden, tally.refused
+        "{} bytes, {} strokes, {} hidden, types {:?}, refusals {:?}",
+        tally.bytes,
+        tally.strokes,
+        tally.hidden,
+        &tally.types[1..],
+        tally.refused
     );
     for number in [1, 2, 3, 6, 7, 20] {
         assert!(tally.refused[number] > 0, "no refusal with {number}");
     }
     assert!(tally.strokes > 10_000 && tally.hidden > 1_000);
+    assert!(tally.types[1..].iter().all(|&count| count > 1_000), "{:?}", tally.types);
 }
 
 /// Raw bytes from a small alphabet.
@@ -275,6 +286,44 @@ fn wrong_answers_are_told() {
     let flat = b"SP1;PU-1000,-.5;PD1000,.5;";
     assert_eq!(judge(TEN, flat, stroke(1, 0, 1, 10, 1)), Ok(()));
     assert_eq!(judge(TEN, flat, stroke(1, 0, 2, 10, 2)), Err(Violation::Astray));
+}
+
+/// What change request 4 asks for beyond condition 3: right answers pass, wrong ones are told that
+/// condition 3 lets pass.
+#[test]
+fn wrong_ends_are_told() {
+    const TEN: [i64; 4] = [0, 0, 10, 10];
+    let stroke = |x0, y0, x1, y1| Drawn::Stroke(Stroke { pen: 1, x0, y0, x1, y1 });
+    let by_type = |bytes: &[u8], answer: Drawn| {
+        assert_eq!(judge(TEN, bytes, answer), Ok(()));
+        waiting(TEN, bytes).1.judge_type(answer)
+    };
+    let inside = b"SP1;PU2,2;PD8,2;";
+    assert_eq!(by_type(inside, stroke(2, 2, 8, 2)), Ok(()));
+    assert_eq!(by_type(inside, stroke(3, 2, 8, 2)), Err(Violation::EndMoved));
+    assert_eq!(by_type(inside, stroke(2, 2, 8, 3)), Err(Violation::EndMoved));
+    let leaving = b"SP1;PU5,5;PD15,5;";
+    assert_eq!(by_type(leaving, stroke(5, 5, 10, 5)), Ok(()));
+    assert_eq!(by_type(leaving, stroke(5, 5, 9, 5)), Err(Violation::OffEdge));
+    assert_eq!(by_type(leaving, stroke(6, 5, 10, 5)), Err(Violation::EndMoved));
+    let entering = b"SP1;PU15,5;PD5,5;";
+    assert_eq!(by_type(entering, stroke(10, 5, 5, 5)), Ok(()));
+    assert_eq!(by_type(entering, stroke(5, 5, 10, 5)), Err(Violation::OffEdge));
+    let crossing = b"SP1;PU-5,5;PD15,5;";
+    assert_eq!(by_type(crossing, stroke(0, 5, 10, 5)), Ok(()));
+    assert_eq!(by_type(crossing, stroke(1, 5, 10, 5)), Err(Violation::OffEdge));
+
+    // Along an edge, and on one: condition 3 asks for no paint there.
+    for bytes in [&b"SP1;PU10,2;PD10,8;"[..], b"SP1;PU10,5;PD20,5;", b"SP1;PU10,10;PD10,10;"] {
+        assert_eq!(by_type(bytes, Drawn::Hidden), Err(Violation::EndHidden));
+    }
+    // Both ends outside, or an edge that was reached pen up: hidden.
+    assert_eq!(by_type(b"SP1;PU11,0;PD11,10;", Drawn::Hidden), Ok(()));
+    assert_eq!(by_type(b"SP1;PM0;PU5,0;PM2;EP;", Drawn::Hidden), Ok(()));
+    // An edge of the limits as they meet, 5 to 10, though not of the hard limits.
+    let window = b"SP1;IW5,-5,20,5;PU0,0;PD12,6;";
+    assert_eq!(by_type(window, stroke(5, 3, 10, 5)), Ok(()));
+    assert_eq!(by_type(window, stroke(6, 3, 10, 5)), Err(Violation::OffEdge));
 }
 
 /// The plausible blunders of document 01, made on purpose, are told.

@@ -3,7 +3,7 @@
 use crate::dice::Dice;
 use crate::partner::Partner;
 use crate::shrink::shrink;
-use crate::streams::{limits, Family};
+use crate::streams::Family;
 use crate::ways::{every_way, run, Tally, Way, WHOLE};
 use std::fmt;
 
@@ -90,7 +90,7 @@ pub fn hunt<P: Partner>(
         generated += stream.len();
         streams += 1;
         let origin = format!("{family:?} of seed {seed}, stream {streams}");
-        let limits = limits(&mut dice);
+        let limits = family.limits(&mut dice);
         tally.add(&compare::<P>(&origin, limits, &stream, &mut dice)?);
     }
     Ok((generated, tally))

@@ -18,6 +18,7 @@ pub mod difference;
 pub mod due;
 pub mod hunt;
 pub mod least;
+mod line_types;
 pub mod loads;
 pub mod partner;
 pub mod record;

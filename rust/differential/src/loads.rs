@@ -14,6 +14,9 @@ const CIRCLES: usize = 300_000;
 /// Bytes of arcs; each 34 of them, about, give 720 strokes.
 const ARCS: usize = 450_000;
 
+/// Begins the loads of moves of the manual's types 2, 3 and 4.
+const WINDOW: &str = "IN;SP1;IW-5000,-3500,5000,3500;";
+
 /// A rink that Inkscape wrote.
 const RINK: &[u8] = include_bytes!("../../../crates/drawings/data/inkscape_rink.hpgl");
 
@@ -30,7 +33,7 @@ pub struct Load {
 }
 
 /// Every load.
-pub const LOADS: [Load; 10] = [
+pub const LOADS: [Load; 13] = [
     Load { name: "pd", about: "PD moves", setup: "IN;SP1;", size: MOVES, part: pen_down },
     Load { name: "pu", about: "PU moves", setup: "IN;SP1;", size: MOVES, part: pen_up },
     Load {
@@ -41,6 +44,27 @@ pub const LOADS: [Load; 10] = [
         part: six_decimals,
     },
     Load { name: "turned", about: "turned moves", setup: "IN;SP1;PD;", size: MOVES, part: turned },
+    Load {
+        name: "leaving",
+        about: "moves out of a window",
+        setup: WINDOW,
+        size: MOVES,
+        part: leaving,
+    },
+    Load {
+        name: "entering",
+        about: "moves into a window",
+        setup: WINDOW,
+        size: MOVES,
+        part: entering,
+    },
+    Load {
+        name: "crossing",
+        about: "moves across a window",
+        setup: WINDOW,
+        size: MOVES,
+        part: crossing,
+    },
     Load {
         name: "relative",
         about: "relative chains under SC",
@@ -95,6 +119,40 @@ fn pen_down(dice: &mut Dice) -> String {
 
 fn pen_up(dice: &mut Dice) -> String {
     format!("PU{};", pair(dice))
+}
+
+/// A place in the window.
+fn inside(dice: &mut Dice) -> String {
+    format!("{},{}", dice.within(-5_000, 5_000), dice.within(-3_500, 3_500))
+}
+
+/// A place beyond one of the window's edges, or beyond two.
+fn outside(dice: &mut Dice) -> String {
+    let (x, y) = (dice.within(5_001, 9_999), dice.within(3_501, 6_999));
+    let (x, y) = (dice.pick(&[-x, x]), dice.pick(&[-y, y]));
+    match dice.below(3) {
+        0 => format!("{x},{}", dice.within(-3_500, 3_500)),
+        1 => format!("{},{y}", dice.within(-5_000, 5_000)),
+        _ => format!("{x},{y}"),
+    }
+}
+
+/// A segment of type 2.
+fn leaving(dice: &mut Dice) -> String {
+    format!("PU{};PD{};", inside(dice), outside(dice))
+}
+
+/// A segment of type 3.
+fn entering(dice: &mut Dice) -> String {
+    format!("PU{};PD{};", outside(dice), inside(dice))
+}
+
+/// A segment of type 4 that shows, from beyond the left edge to beyond the right one or back.
+fn crossing(dice: &mut Dice) -> String {
+    let (x, y) = (dice.within(5_001, 9_999), dice.within(-3_500, 3_500));
+    let (u, v) = (dice.within(5_001, 9_999), dice.within(-3_500, 3_500));
+    let side = dice.pick(&[-1, 1]);
+    format!("PU{},{y};PD{},{v};", side * x, -side * u)
 }
 
 /// A move as new packages write it.

@@ -2,11 +2,12 @@
 //! it can be compared though no program can link both.
 //!
 //! The streams are without what a change is about ([`Without`]): whether a library knows arcs, rounds
-//! the fifth decimal, or turns by more than a quarter, makes no difference to them.
+//! the fifth decimal, or turns by more than a quarter, makes no difference to them. A change that is to
+//! change no answer has all streams.
 
 use crate::dice::Dice;
 use crate::partner::{Partner, Record};
-use crate::streams::{limits, Family};
+use crate::streams::Family;
 use baseline::{number, Drawn, Fed, Look};
 
 /// What the streams of a record are without.
@@ -14,10 +15,12 @@ use baseline::{number, Drawn, Fed, Look};
 pub enum Without {
     /// AA and AR are made names that are not known, and there are none of the families from arcs on.
     Arcs,
-    /// No number has more than four decimals, and there are no turns by more than a quarter.
+    /// No number has more than four decimals, and there are none of the families from turns on.
     FifthDecimals,
-    /// No RO has a number that rounds to 180 or 270.
+    /// No RO has a number that rounds to 180 or 270, and there are none of the last family.
     FurtherTurns,
+    /// Every family, its streams as they are.
+    Nothing,
 }
 
 impl Without {
@@ -26,7 +29,8 @@ impl Without {
         match self {
             Without::Arcs => &Family::ALL[..6],
             Without::FifthDecimals => &Family::ALL[..8],
-            Without::FurtherTurns => &Family::ALL,
+            Without::FurtherTurns => &Family::ALL[..9],
+            Without::Nothing => &Family::ALL,
         }
     }
 
@@ -36,6 +40,7 @@ impl Without {
             Without::Arcs => without_arcs(stream),
             Without::FifthDecimals => four_decimals(stream),
             Without::FurtherTurns => quarter_turns(stream),
+            Without::Nothing => stream,
         }
     }
 }
@@ -183,7 +188,7 @@ pub fn recorded(without: Without, family: Family, bytes: usize) -> Vec<([i64; 4]
     while generated < bytes {
         let stream = without.leave_out(family.stream(&mut dice));
         generated += stream.len();
-        streams.push((limits(&mut dice), stream));
+        streams.push((family.limits(&mut dice), stream));
     }
     streams
 }

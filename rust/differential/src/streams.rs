@@ -1,6 +1,7 @@
 //! Generated streams of HP-GL.
 
 use crate::dice::Dice;
+use crate::line_types;
 
 /// A kind of stream.
 #[derive(Clone, Copy, PartialEq, Eq, Debug)]
@@ -23,6 +24,9 @@ pub enum Family {
     Decimals,
     /// Every value of RO, one after another, with windows, and all figures under each turn.
     Turns,
+    /// Segments of the manual's four types: ends inside small limits and windows, on an edge, in a
+    /// corner, just outside, along an edge.
+    LineTypes,
 }
 
 /// Drawings of real writers (`crates/drawings/data`), to be changed.
@@ -63,7 +67,7 @@ const EDGES: [&str; 6] =
 
 impl Family {
     /// Every family.
-    pub const ALL: [Family; 9] = [
+    pub const ALL: [Family; 10] = [
         Family::Drawings,
         Family::Mutations,
         Family::Bytes,
@@ -73,12 +77,13 @@ impl Family {
         Family::Arcs,
         Family::Decimals,
         Family::Turns,
+        Family::LineTypes,
     ];
 
     /// How many of a hundred bytes are of this family.
     pub fn share(self) -> usize {
         match self {
-            Family::Drawings => 32,
+            Family::Drawings => 28,
             Family::Mutations => 20,
             Family::Bytes => 13,
             Family::Brims => 13,
@@ -87,6 +92,7 @@ impl Family {
             Family::Arcs => 4,
             Family::Decimals => 4,
             Family::Turns => 4,
+            Family::LineTypes => 4,
         }
     }
 
@@ -102,12 +108,21 @@ impl Family {
             Family::Arcs => arcs(dice),
             Family::Decimals => decimals(dice),
             Family::Turns => turns(dice),
+            Family::LineTypes => line_types::stream(dice),
+        }
+    }
+
+    /// Hard limits for a stream of this family.
+    pub fn limits(self, dice: &mut Dice) -> [i64; 4] {
+        match self {
+            Family::LineTypes => line_types::limits(dice),
+            _ => limits(dice),
         }
     }
 }
 
 /// Hard limits: the usual ones, the widest, tiny ones, and some that are refused with 10.
-pub fn limits(dice: &mut Dice) -> [i64; 4] {
+fn limits(dice: &mut Dice) -> [i64; 4] {
     match dice.below(12) {
         0 => [0, 0, 10, 10],
         1 | 2 => [-32_768, -32_768, 32_767, 32_767],
@@ -278,7 +293,7 @@ fn mutation(dice: &mut Dice) -> Vec<u8> {
 }
 
 /// One change at some place.
-fn mutate(text: &mut Vec<u8>, dice: &mut Dice) {
+pub(crate) fn mutate(text: &mut Vec<u8>, dice: &mut Dice) {
     let at = dice.below(text.len() + 1);
     let end = (at + dice.below(24)).min(text.len());
     let byte = if dice.one_in(4) { dice.below(256) as u8 } else { dice.pick(ALPHABET) };

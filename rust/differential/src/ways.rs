@@ -66,6 +66,8 @@ pub struct Tally {
     pub strokes: usize,
     /// Hidden segments, likewise.
     pub hidden: usize,
+    /// Both by their line types, 1 to 4; at 0, draws that were idle.
+    pub types: [usize; 5],
     /// Marks that feed and plot stored.
     pub stored: usize,
     /// Answers by number, of take, feed and plot.
@@ -81,6 +83,9 @@ impl Tally {
         self.strokes += other.strokes;
         self.hidden += other.hidden;
         self.stored += other.stored;
+        for (sum, count) in self.types.iter_mut().zip(other.types) {
+            *sum += count;
+        }
         for (sum, count) in self.numbers.iter_mut().zip(other.numbers) {
             *sum += count;
         }
@@ -89,9 +94,10 @@ impl Tally {
 
 impl Display for Tally {
     fn fmt(&self, f: &mut fmt::Formatter<'_>) -> fmt::Result {
-        let Tally { takes, draws, feeds, strokes, hidden, stored, numbers } = self;
+        let Tally { takes, draws, feeds, strokes, hidden, types, stored, numbers } = self;
         write!(f, "{takes} takes, {draws} draws, {feeds} feeds and plots ({stored} marks), ")?;
-        write!(f, "condition 3 on {strokes} strokes and {hidden} hidden, numbers")?;
+        write!(f, "condition 3 on {strokes} strokes and {hidden} hidden, ")?;
+        write!(f, "line types {:?}, numbers", &types[1..])?;
         for (number, count) in numbers.iter().enumerate().filter(|(_, &count)| count > 0) {
             write!(f, " {number}: {count}")?;
         }
@@ -150,12 +156,19 @@ impl<'a, P: Partner> Pair<'a, P> {
         self.calls.push(Call::Draw);
         self.tally.draws += 1;
         let answer = self.answering.draw();
+        let told = self.due.line_type().map_or(0, |told| told as u8);
         // Judged before it is compared, so that condition 3 does not rest on the baseline.
-        if let Some(Err(violation)) = self.exact.as_mut().map(|exact| exact.draw(answer)) {
-            return self.differs(format!("{answer:?}"), format!("condition 3: {violation}"));
+        if let Some(exact) = &mut self.exact {
+            assert_eq!(exact.line_type().unwrap_or(0), told, "the baseline's type is another");
+            let by_type = exact.judge_type(answer);
+            if let Err(violation) = exact.draw(answer).and(by_type) {
+                let due = format!("{}: {violation}", violation.claim());
+                return self.differs(format!("{answer:?}"), due);
+            }
         }
         let due = self.due.draw();
         if self.exact.is_some() {
+            self.tally.types[usize::from(told)] += 1;
             self.tally.strokes += usize::from(matches!(due, Drawn::Stroke(_)));
             self.tally.hidden += usize::from(due == Drawn::Hidden);
         }

@@ -98,6 +98,11 @@ fn turns() {
 }
 
 #[test]
+fn line_types() {
+    search(Family::LineTypes, &[0, 20, 21]);
+}
+
+#[test]
 fn shares_make_a_whole() {
     assert_eq!(Family::ALL.iter().map(|family| family.share()).sum::<usize>(), 100);
 }

@@ -98,6 +98,11 @@ fn same_lines_without_further_turns() {
     same_lines(Without::FurtherTurns);
 }
 
+#[test]
+fn same_lines_of_whole_streams() {
+    same_lines(Without::Nothing);
+}
+
 /// The baseline with one answer changed.
 struct Changed<const CALL: u8>(Machine);
 

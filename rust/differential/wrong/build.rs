@@ -1,5 +1,6 @@
 //! Writes copies of the baseline, each with one fault: in its arcs for `src/arcs.rs`, in the rounding of
-//! numbers for `src/decimals.rs`, in its turns for `src/turns.rs`.
+//! numbers for `src/decimals.rs`, in its turns for `src/turns.rs`, in what becomes of a segment by its
+//! type for `src/line_types.rs`.
 
 use std::path::Path;
 use std::{env, fs};
@@ -191,6 +192,83 @@ const TURNS: [Fault; 17] = [
     ),
 ];
 
+/// Where both ends are looked at, where one or both are cut off, where the part is told, and where
+/// a segment is clipped.
+const BOTH: &str = "if self.holds(a) && self.holds(b) {\n            Some((a, b))";
+const ACROSS: &str = "            self.clip_across(a, b)\n";
+const PART: &str = "Some((start.point(a, b), end.point(b, a)))";
+const SHOWN: &str = "match self.limits.clip(a, b) {";
+
+const LINE_TYPES: [Fault; 11] = [
+    (
+        // Types 2 and 3 exchanged: what leaves is painted as what enters, and the other way.
+        "leaving_as_entering",
+        "geometry",
+        ACROSS,
+        "if self.holds(a) || self.holds(b) { self.clip_across(b, a) } else { self.clip_across(a, b) }\n",
+    ),
+    (
+        // The same, each end treated as the other's type has it: the outer one is kept.
+        "wrong_end_kept",
+        "geometry",
+        ACROSS,
+        "if self.holds(a) || self.holds(b) { Some((a, b)) } else { self.clip_across(a, b) }\n",
+    ),
+    ("edge_outside", "geometry", "a.x.min(b.x) > self.right", "a.x.min(b.x) >= self.right"),
+    (
+        "dot_on_an_edge_hidden",
+        "geometry",
+        BOTH,
+        "if a == b && a.y == self.top {\n            None\n        } \
+         else if self.holds(a) && self.holds(b) {\n            Some((a, b))",
+    ),
+    (
+        "end_from_the_rounded_start",
+        "geometry",
+        PART,
+        "{ let from = start.point(a, b); Some((from, self.cut(b, from).point(b, from))) }",
+    ),
+    (
+        "start_from_the_rounded_end",
+        "geometry",
+        PART,
+        "{ let to = end.point(b, a); Some((self.cut(a, to).point(a, to), to)) }",
+    ),
+    (
+        "type_by_the_window_alone",
+        "machine",
+        SHOWN,
+        "match if self.window.is_some_and(|window| { let window = window.turned(self.turn); \
+         window.holds(a) && window.holds(b) }) { Some((a, b)) } else { self.limits.clip(a, b) } {",
+    ),
+    (
+        "type_by_the_hard_limits_alone",
+        "machine",
+        SHOWN,
+        "match if self.hard.holds(a) && self.hard.holds(b) { Some((a, b)) } \
+         else { self.limits.clip(a, b) } {",
+    ),
+    (
+        "hidden_with_one_end_inside",
+        "geometry",
+        ACROSS,
+        "self.clip_across(a, b).filter(|part| part.0 != part.1 || !(self.holds(a) || self.holds(b)))\n",
+    ),
+    (
+        "pen_up_edge_inside_painted",
+        "machine",
+        "if to.down {",
+        "if to.down || self.limits.holds(self.turn.to_page(from.at)) \
+         && self.limits.holds(self.turn.to_page(to.at)) {",
+    ),
+    (
+        "window_not_turned",
+        "machine",
+        "self.hard.meet(&window.turned(self.turn))",
+        "self.hard.meet(window)",
+    ),
+];
+
 /// The text of a part with the fault in it, if it is the one.
 fn part(source: &Path, part: &str, (name, at, right, wrong): Fault) -> String {
     let file = source.join(part).with_extension("rs");
@@ -220,6 +298,7 @@ fn main() {
         ("wrong_arcs.rs", &ARCS[..]),
         ("wrong_decimals.rs", &DECIMALS[..]),
         ("wrong_turns.rs", &TURNS[..]),
+        ("wrong_line_types.rs", &LINE_TYPES[..]),
     ];
     for (file, faults) in files {
         let copies: String = faults.iter().map(|&fault| copy(&source, fault)).collect();

@@ -8,6 +8,8 @@ use baseline::{Drawn, Machine};
 pub struct Pair {
     pub machine: Machine,
     exact: Exact,
+    /// The types, 1 to 4, of the segments that were drawn; both tell the same.
+    pub types: Vec<u8>,
 }
 
 impl Pair {
@@ -16,7 +18,7 @@ impl Pair {
         let (machine, number) = outcomes::fresh(limits);
         let (exact, due) = Exact::fresh(l, b, r, t);
         assert_eq!(number, due);
-        Pair { machine, exact }
+        Pair { machine, exact, types: Vec::new() }
     }
 }
 
@@ -30,8 +32,12 @@ impl Calls for Pair {
 
     fn draw(&mut self) -> Drawn {
         let look = self.machine.look();
+        let told = self.machine.line_type().map(|told| told as u8);
+        assert_eq!(told, self.exact.line_type());
+        self.types.extend(told);
         let answer = self.machine.draw();
-        if let Err(violation) = self.exact.draw(answer) {
+        let by_type = self.exact.judge_type(answer);
+        if let Err(violation) = self.exact.draw(answer).and(by_type) {
             panic!("{violation}: {answer:?}");
         }
         assert_eq!(self.machine.look(), look);

@@ -2,7 +2,7 @@
 //!
 //! A row: hard limits unless they are the usual ones, the bytes (`<n>` is byte n), what they give,
 //! the look at the end, a note. Of very many strokes the first and the last are written, and
-//! between them the counts.
+//! between them the counts. Where a row tells types, `t1` to `t4` stands before each answer of draw.
 //!
 //!     limits 0,0,10,10: `BYTES` -> EVENTS | loc(x,y) up|dn penN byN   (NOTE)
 //!     EVENTS .. (720 strokes, 0 hid, 720 in all) .. EVENTS
@@ -61,8 +61,22 @@ fn counts(events: &[Event]) -> String {
     format!("({} strokes, {hidden} hid, {drawn} in all)", drawn - hidden)
 }
 
-fn check_events(row: &Row, events: &[Event]) {
-    let text = events_text(events);
+/// The events, with the type of each segment before what was drawn of it.
+fn typed_text(events: &[Event], types: &[u8]) -> String {
+    let mut types = types.iter();
+    let text = |event: &Event| {
+        let told = match event {
+            Event::Drawn(_) => format!(" t{}", types.next().expect("a type for each segment")),
+            Event::Refused(..) => String::new(),
+        };
+        told + &events_text(std::slice::from_ref(event))
+    };
+    events.iter().map(text).collect()
+}
+
+fn check_events(row: &Row, events: &[Event], types: &[u8]) {
+    let typed = row.events.split(' ').any(|word| word.starts_with('t'));
+    let text = if typed { typed_text(events, types) } else { events_text(events) };
     match row.events.split(" .. ").collect::<Vec<_>>()[..] {
         [all] => assert_eq!(text.trim(), all, "{}", row.bytes),
         [first, between, last] => {
@@ -79,7 +93,7 @@ pub fn check(text: &str) -> usize {
     for row in &rows {
         let mut pair = Pair::fresh(row.limits);
         let (events, _) = outcomes::run(&mut pair, &steps(row.bytes));
-        check_events(row, &events);
+        check_events(row, &events, &pair.types);
         assert_eq!(look_text(&pair.machine.look()), row.look, "{}", row.bytes);
     }
     rows.len()

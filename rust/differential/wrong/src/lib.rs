@@ -10,4 +10,6 @@ mod arcs;
 #[cfg(test)]
 mod decimals;
 #[cfg(test)]
+mod line_types;
+#[cfg(test)]
 mod turns;

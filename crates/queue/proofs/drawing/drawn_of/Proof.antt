@@ -15,8 +15,8 @@ enum-told-2 c = search needs
 enum-known-s : tie.Need-enum-known-s
 enum-known-s c = search needs
 
-clip-requires : tie.Need-clip-requires
-clip-requires c κs =
+kept-or-clipped-requires : tie.Need-kept-or-clipped-requires
+kept-or-clipped-requires c κs =
     let s : tie.Start = search in
     let h = subst SmallSegment (c .before .s .given .1) (s .pre .1) in
     (s .pre .0, h .0, h .1)
@@ -36,8 +36,8 @@ returns-3 : tie.Need-returns-3
 unfolding drawnOf
 returns-3 c =
     let s : tie.Start = search in
-    let k : tie.After-clip = search in
-    rw (k .before .before .s .given .1) (c .stroke-of .ensures ∙ ap (M.strokeOf (s .args .pen)) (k .clip .ensures))
+    let k : tie.After-kept-or-clipped = search in
+    rw (k .before .before .s .given .1) (c .stroke-of .ensures ∙ ap (M.strokeOf (s .args .pen)) (k .kept-or-clipped .ensures))
 
 pub drawn-of-spec : {M : Type 1} → statement M
 drawn-of-spec =
@@ -46,7 +46,7 @@ drawn-of-spec =
     enum-told
     enum-told-2
     enum-known-s
-    clip-requires
+    kept-or-clipped-requires
     stroke-of-requires
     returns
     returns-2

@@ -1,4 +1,4 @@
--- The proof of `part`: its test is the definition's, of what the calls returned.
+-- The proof of `outside_to_outside`: its test is the definition's, of what the calls returned.
 use borrow.Author.Needs.{needs}
 use mathlib.Core.Path.{ap₂, _∙_}
 use mir.Syntax.{w64}
@@ -7,8 +7,8 @@ use Rattle.clip.specs.Clip.{steps, entry, place, clip}
 use Rattle.clip.specs.Reach.{mostSteps}
 use Rattle.clip.specs.Sizes.{steps-size, entry-size}
 use Rattle.clip.specs.declared.Clipped.the-variants.{Stroke}
-use Rattle.clip.proofs.part.Statement.{statement}
-use Rattle.clip.proofs.part.Tie as tie
+use Rattle.clip.proofs.outside_to_outside.Statement.{statement}
+use Rattle.clip.proofs.outside_to_outside.Tie as tie
 
 m-num : (c : tie.After-entry) → let s = c .before .args in Num (m64 (c .entry .result)) (entry (s .r) (s .a) (s .b)) mostSteps
 m-num c = let p = c .before .pre in ret w64 (c .entry .ok) (c .entry .ensures) (entry-size (p .0) (p .1) (p .2))
@@ -63,8 +63,8 @@ returns-2 c =
     (p .place .ensures ∙ (λ i. place (s .args .a) (s .args .b) (m-num (n .before) .is i)))
     (c .place2 .ensures ∙ (λ i. place (s .args .b) (s .args .a) (n-num n .is i))))
 
-pub part-spec : {M : Type 1} → statement M
-part-spec =
+pub outside-to-outside-spec : {M : Type 1} → statement M
+outside-to-outside-spec =
     tie.close
     (tie.spec
     entry-requires
