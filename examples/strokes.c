@@ -1,4 +1,5 @@
-/* Prints the strokes of standard input, as the program strokes does: pen, x0, y0, x1, y1 a line, or E, number, byte counted from 1.
+/* Prints the strokes of standard input, as the program strokes does: pen, x0, y0, x1, y1 a line, or E, number, byte counted from 1; and each
+ * reply (of OA, OP, OW, OH, OE) as soon as it is made.
  *
  *     rt staticlib vutaroi
  *     gcc -Wall -Wextra -O2 -Iinclude examples/strokes.c target/staticlib/libvutaroi.a -o strokes
@@ -71,7 +72,7 @@ static int print(uint64_t stored, int number, uint64_t place)
             return 0;
         used += (size_t)snprintf(text + used, LINE, "%" PRId64 " %" PRId64 " %" PRId64 " %" PRId64 " %" PRId64 "\n", r[0], r[1], r[2], r[3], r[4]);
     }
-    if (number == 0 || number == VUTAROI_FULL)
+    if (number == 0 || number == VUTAROI_FULL || number == VUTAROI_BUSY)
         return 1;
     if (TEXT - used < LINE && !flush())
         return 0;
@@ -79,30 +80,56 @@ static int print(uint64_t stored, int number, uint64_t place)
     return 1;
 }
 
+/* What a call that stopped for good says, and the status to end with. */
+static int damaged(int number)
+{
+    fprintf(stderr, "strokes: the machine is damaged (%d)\n", number);
+    return 2;
+}
+
+static int unwritten(void)
+{
+    perror("strokes: standard output");
+    return 1;
+}
+
+/* The reply that waits, if one does, written out at once: 0, or the status to end with. */
+static int print_reply(void)
+{
+    uint64_t length;
+    uint8_t number;
+
+    if (TEXT - used < LINE && !flush())
+        return unwritten();
+    number = vutaroi_fetch(&machine, VUTAROI_NUMBERS, (uint8_t *)text + used, VUTAROI_REPLY, &length, 1);
+    if (number != 0)
+        return damaged(number);
+    used += (size_t)length;
+    if (length > 0 && !flush())
+        return unwritten();
+    return 0;
+}
+
 /* The lines of the first bytes of the block, which come after as many as `before`: 0, or the status to end with. */
 static int print_block(size_t count, uint64_t before)
 {
     size_t at = 0;
     uint8_t number;
+    int status;
 
     do {
         uint64_t answer[2];
         number = vutaroi_feed(&machine, VUTAROI_NUMBERS, block + at, count - at, records, ROOM * VUTAROI_RECORD, answer, 2);
-        if (number == VUTAROI_NO_MACHINE || number == VUTAROI_SHORT) {
-            fprintf(stderr, "strokes: the machine is damaged (%d)\n", number);
-            return 2;
-        }
+        if (number == VUTAROI_NO_MACHINE || number == VUTAROI_SHORT)
+            return damaged(number);
         at += answer[0];
-        if (!print(answer[1], number, before + at)) {
-            perror("strokes: standard output");
-            return 1;
-        }
+        if (!print(answer[1], number, before + at))
+            return unwritten();
+        status = print_reply();
+        if (status != 0)
+            return status;
     } while (number != 0);
-    if (!flush()) {
-        perror("strokes: standard output");
-        return 1;
-    }
-    return 0;
+    return flush() ? 0 : unwritten();
 }
 
 int main(void)

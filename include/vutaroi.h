@@ -1,4 +1,4 @@
-/* An HP-GL machine for painting rink lines: bytes in, strokes out. Link with libvutaroi.a, which `rt staticlib vutaroi` proves and writes.
+/* An HP-GL machine for painting rink lines: bytes in, strokes and replies out. Link with libvutaroi.a, which `rt staticlib vutaroi` proves and writes.
  *
  * Who owns what. The caller owns every list and lends it for the length of a call; the library keeps nothing between calls, allocates nothing
  * and starts no thread. A list is a pointer and a count of its elements. A machine is a vutaroi_machine, lent with the count VUTAROI_NUMBERS:
@@ -30,8 +30,9 @@
  *    6  location out of range
  *    7  too many polygon bytes
  *   10  bad hard limits
- *   20  take while a segment waits
+ *   20  take while a segment or a reply waits
  *   21  list of records full
+ *   31  buffer shorter than the reply
  *   40  no machine
  *   41  a list is too short
  */
@@ -49,11 +50,14 @@ extern "C" {
 #define VUTAROI_VERSION 100
 
 /* The version of a machine's form, which is its first number. */
-#define VUTAROI_FORM 4
+#define VUTAROI_FORM 5
 
 /* The numbers of a machine, and of a record: a stroke is pen, x0, y0, x1, y1. */
-#define VUTAROI_NUMBERS 645
+#define VUTAROI_NUMBERS 650
 #define VUTAROI_RECORD 5
+
+/* The bytes of the longest reply. */
+#define VUTAROI_REPLY 37
 
 /* The bytes of stack that a call needs. */
 #define VUTAROI_STACK 65536
@@ -63,8 +67,14 @@ extern "C" {
 #define VUTAROI_HIDDEN 1
 #define VUTAROI_STROKE 2
 
+/* The number of a call that stopped because a reply waits; fetch it, and hand on the bytes after those it took. */
+#define VUTAROI_BUSY 20
+
 /* The number of a call that stopped because no record was free; hand it the bytes after those it took, and a free list. */
 #define VUTAROI_FULL 21
+
+/* The number of a fetch whose buffer is shorter than the reply. */
+#define VUTAROI_BUFFER 31
 
 /* The numbers of a call that was handed what is no machine, or a list that is too short. */
 #define VUTAROI_NO_MACHINE 40
@@ -82,7 +92,7 @@ uint32_t vutaroi_version(void);
  * machine with the limits 0, 0, 1, 1. 0, 10 or 41. */
 uint8_t vutaroi_fresh(int64_t left, int64_t bottom, int64_t right, int64_t top, vutaroi_machine *machine, size_t machine_count);
 
-/* Takes one byte. While a segment waits: 20, and the machine stays. */
+/* Takes one byte. While a segment or a reply waits: 20, and the machine stays. */
 uint8_t vutaroi_take(vutaroi_machine *machine, size_t machine_count, uint8_t byte);
 
 /* Works off one waiting segment. Where it answers VUTAROI_STROKE, the first five numbers of `stroke` are the stroke; else `stroke` stays.
@@ -92,14 +102,22 @@ uint8_t vutaroi_draw(vutaroi_machine *machine, size_t machine_count, int64_t *st
 /* Stores x, y, pen, down (1 or 0) and the polygon's bytes in `seen`, which has at least 5 numbers. It changes nothing else. 0, 40 or 41. */
 uint8_t vutaroi_look(const vutaroi_machine *machine, size_t machine_count, int64_t *seen, size_t seen_count);
 
+/* Writes the reply that waits, that of OA, OP, OW, OH or OE, into `out` from its first byte on; then none waits. A reply is whole numbers with
+ * commas, closed by the bytes 13 and 10, and the bytes of `out` after it stay. VUTAROI_REPLY bytes hold any. With no reply waiting nothing is
+ * written. If `out` is shorter than the reply: 31, nothing is written, and the reply still waits. answer[0] is how many bytes were written, 0 with
+ * 31; `answer` has at least 1 number, and is not written with 40 or 41. 0, 31, 40 or 41. */
+uint8_t vutaroi_fetch(vutaroi_machine *machine, size_t machine_count, uint8_t *out, size_t out_count, uint64_t *answer, size_t answer_count);
+
 /* Feeds bytes: while a segment waits, draws it into the next record, or stops with 21 if none is free; when idle, takes the next byte. Stops after
- * a byte that is refused, which counts as taken, with its number; else with 0 once all bytes are taken and none waits.
+ * a byte that is refused, which counts as taken, with its number; before a byte that a waiting reply refuses, which does not count, with 20; else
+ * with 0 once all bytes are taken and no segment waits. A reply may wait then too.
  * answer[0] is how many bytes were taken, answer[1] how many records were stored; `answer` has at least 2 numbers, and is not written with 40 or
  * 41. The other numbers of `records` stay. */
 uint8_t vutaroi_feed(vutaroi_machine *machine, size_t machine_count, const uint8_t *bytes, size_t bytes_count, int64_t *records, size_t records_count, uint64_t *answer, size_t answer_count);
 
 /* As vutaroi_feed, but a refused byte is stored as a record among the strokes, and the bytes after it are taken: 0, number, place of the byte
- * among `bytes`, counted from 1, 0, 0. (No stroke has pen 0.) A byte waits for a free record too, since it may be refused; without one: 21. */
+ * among `bytes`, counted from 1, 0, 0. (No stroke has pen 0.) A byte waits for a free record too, since it may be refused; without one: 21.
+ * It too stops before a byte that a waiting reply refuses, with 20: that one is neither stored nor taken. */
 uint8_t vutaroi_plot(vutaroi_machine *machine, size_t machine_count, const uint8_t *bytes, size_t bytes_count, int64_t *records, size_t records_count, uint64_t *answer, size_t answer_count);
 
 #ifdef __cplusplus

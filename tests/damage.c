@@ -20,13 +20,14 @@ static const char *const drawings[] = {
     "IN;SP1;PA0,0;PD100,50;PU;", "SP2;SC0,100,0,100;PA50,50;CI20;", "SP3;PM0;PD10,10,20,20;PM2;EP;", "SP4;IW-100,-100,100,100;EA500,500;", "SP5;RO90;PA100,100;ER300,300;",
     "SP6;PM;PD1,1,2,2,3,3;PM1;PD5,5;", "SP7;CI100,5", "IP-1000,-1000,1000,1000;SC-5,5,-5,5;SP8;PD3,3;CI1;", "LBhello", "SP1;PD5", "P", "SP1;PA10,10;XX5,5",
     "SP1;PU100,0;PD;AA0,0,90,30;", "SP2;RO90;PD;AR-50,20,-300,.5;", "SP3;SC0,9,0,9;PD;AA1,1,7,1",
+    "PA3,-4;OA;", "RO90;OW;", "XX;OE;", "PM0;OP", "OH;PU5,5;",
 };
 
 /* Numbers at the edges of what a state may hold. */
 static const int64_t odd[] = {-1, 0, 1, 2, 3, 5, 40, 112, 113, 255, 256, 720, 721, 1024, 1025, 32767, 32768, -32768, 1000000, 1000001, -1000001, 2000000000000001, INT32_MAX, INT64_MAX, INT64_MIN};
 
 static struct {
-    long refused, too_short, went_on, strokes, wrong, written;
+    long refused, too_short, went_on, strokes, replies, kept, wrong, written;
 } seen;
 
 static uint64_t seed = 88172645463325252ULL;
@@ -53,7 +54,7 @@ static vutaroi_machine made(void) {
             size_t room = any(2) * 8 * VUTAROI_RECORD;
             uint8_t number = vutaroi_feed(&m, VUTAROI_NUMBERS, (const uint8_t *)d + at, cut - at, records, room, answer, 2);
             at += answer[0];
-            if (number == VUTAROI_FULL) break;
+            if (number == VUTAROI_FULL || number == VUTAROI_BUSY) break;
         }
     }
     return m;
@@ -126,13 +127,36 @@ static void check_bytes(const vutaroi_machine *m, size_t count, const char *byte
         if (records[VUTAROI_RECORD * i] != 0) check_stroke(m, records + VUTAROI_RECORD * i);
 }
 
+/* A fetch writes no more than it answers, a reply or nothing, and with 31 nothing. */
+static void check_fetch(const vutaroi_machine *m, size_t count) {
+    vutaroi_machine after = *m;
+    uint8_t out[VUTAROI_REPLY + 1];
+    size_t room = any(VUTAROI_REPLY + 2), same = 0;
+    uint64_t answer = 99;
+    memset(out, 'x', sizeof out);
+    uint8_t number = vutaroi_fetch(&after, count, out, room, &answer, 1);
+    while (same < sizeof out && out[sizeof out - 1 - same] == 'x') same++;
+    if (refused(number, m, &after)) {
+        if (answer != 99 || same != sizeof out) seen.written++;
+        return;
+    }
+    if (number != 0 && number != VUTAROI_BUFFER) seen.wrong++;
+    if (number == VUTAROI_BUFFER && (answer != 0 || memcmp(m, &after, sizeof after) != 0)) seen.wrong++;
+    if (answer > room || answer > VUTAROI_REPLY || same != sizeof out - answer) seen.wrong++;
+    if (answer > 0 && (answer < 3 || out[answer - 2] != 13 || out[answer - 1] != 10)) seen.wrong++;
+    if (answer > 0) seen.replies++;
+    if (number == VUTAROI_BUFFER) seen.kept++;
+}
+
 /* Lists that are too short for what a call answers: 41, whatever the machine is. */
 static void check_short(const vutaroi_machine *m, size_t count) {
     vutaroi_machine after = *m;
     int64_t five[5], records[VUTAROI_RECORD];
+    uint8_t out[VUTAROI_REPLY];
     uint64_t answer[2];
     if (vutaroi_draw(&after, count, five, any(5)) != VUTAROI_SHORT) seen.wrong++;
     if (vutaroi_look(&after, count, five, any(5)) != VUTAROI_SHORT) seen.wrong++;
+    if (vutaroi_fetch(&after, count, out, VUTAROI_REPLY, answer, 0) != VUTAROI_SHORT) seen.wrong++;
     if (vutaroi_feed(&after, count, (const uint8_t *)"x", 1, records, VUTAROI_RECORD, answer, any(2)) != VUTAROI_SHORT) seen.wrong++;
     if (vutaroi_plot(&after, count, (const uint8_t *)"x", 1, records, VUTAROI_RECORD, answer, any(2)) != VUTAROI_SHORT) seen.wrong++;
     if (memcmp(m, &after, sizeof after) != 0) seen.written++;
@@ -147,6 +171,7 @@ static int check(const vutaroi_machine *m, size_t count) {
     after = *m;
     uint8_t kind = vutaroi_draw(&after, count, five, 5);
     if (!refused(kind, m, &after) && kind == VUTAROI_STROKE) check_stroke(m, five);
+    check_fetch(m, count);
     check_bytes(m, count, "SP1;PD0,0,5,5;", 0);
     check_bytes(m, count, "@;PA1,1;PD9,9;CI5;", 1);
     check_short(m, count);
@@ -166,15 +191,16 @@ int main(int argc, char **argv) {
         int way = (int)any(WAYS);
         vutaroi_machine good = made(), m = good;
         if (!stands(&good) || good.numbers[0] != VUTAROI_FORM) seen.wrong++;
+        check_fetch(&good, VUTAROI_NUMBERS);
         size_t count = damage(&m, way);
         if (count == VUTAROI_NUMBERS && memcmp(&m, &good, sizeof m) == 0) continue;
         tried[way]++;
         taken[way] += check(&m, count);
     }
-    /* only a mended sum may make another machine, and without one nothing was tried of strokes */
+    /* only a mended sum may make another machine, and without one nothing was tried of strokes and replies */
     for (int way = 0; way < WAYS - 1; way++) seen.wrong += taken[way];
-    if (taken[WAYS - 1] == 0 || seen.strokes == 0) seen.wrong++;
+    if (taken[WAYS - 1] == 0 || seen.strokes == 0 || seen.replies == 0 || seen.kept == 0) seen.wrong++;
     for (int way = 0; way < WAYS; way++) printf("%8ld damaged by %s: %ld taken for machines\n", tried[way], ways[way], taken[way]);
-    printf("%ld calls refused with 40, %ld with 41; %ld went on; %ld strokes; %ld wrong; %ld wrote after a refusal\n", seen.refused, seen.too_short, seen.went_on, seen.strokes, seen.wrong, seen.written);
+    printf("%ld calls refused with 40, %ld with 41; %ld went on; %ld strokes; %ld replies, %ld too long; %ld wrong; %ld wrote after a refusal\n", seen.refused, seen.too_short, seen.went_on, seen.strokes, seen.replies, seen.kept, seen.wrong, seen.written);
     return seen.wrong != 0 || seen.written != 0;
 }

@@ -42,7 +42,7 @@ theirs() { "$baseline" -32768 -32768 32767 32767; }
 # -m gpt (x y a line) is the quickest mode of hp2xx that writes every line.
 other() { hp2xx -q -m gpt -f - load; }
 
-for name in pd pu decimals turned relative circles arcs polygons rink refusals; do
+for name in pd pu decimals turned relative circles arcs polygons rink refusals replies; do
     "$bench" --write "$name" >load
     turns ours theirs "$name: strokes and strokes-baseline"
     ours <load >lines

@@ -1,10 +1,11 @@
 // Each call on a machine that is kept as numbers, those that `save` writes: it is loaded, called and saved again.
 // The crate vutaroi has the calls for programs in C and Rust, with the header before these numbers.
 ghost use mathlib.Core.Path.{_≡_};
+ghost use mathlib.Core.List.{[], _∷_};
 ghost use Prim.Native.Nat.{_≤_, _/_};
 ghost use lib.ListN.{length};
 ghost use Rattle.rows.specs.Rows.{over};
-ghost use Rattle.hpgl.specs.Machine.{rect, freshState, freshNumber, takeState, takeNumber, drawState, drawAnswer, lookAt};
+ghost use Rattle.hpgl.specs.Machine.{rect, freshState, freshNumber, takeState, takeNumber, drawState, drawAnswer, lookAt, fetchState, fetchNumber, fetchText, fetchOut};
 ghost use Rattle.feeding.specs.Feed.{feedOf, laidNumbers};
 ghost use Rattle.feeding.specs.Plot.{plotFrom, laidMarks};
 ghost use Rattle.saved.specs.Saved.{stateNumbers, savedOf, loadedOf};
@@ -60,6 +61,21 @@ pub fn look_in(numbers: &[i64], seen: &mut [i64])
     let machine = Machine::load(numbers);
     let look = machine.look();
     put_row(seen, 0, look_row(look));
+}
+
+pub fn fetch_in(numbers: &mut [i64], out: &mut [u8], answer: &mut [u64]) -> u8
+    requires { ⌜ Loadable (now numbers) × (1 ≤ length (now answer)) ⌝ }
+    ensures { λ r. ⌜ r ≡ fetchNumber (loadedOf (now (numbers .entry))) (length (now (out .entry))) ⌝ }
+    ensures { λ _. ⌜ now (numbers .exit) ≡ savedOf (fetchState (loadedOf (now (numbers .entry))) (length (now (out .entry)))) ⌝ }
+    ensures { λ _. ⌜ now (out .exit) ≡ fetchOut (loadedOf (now (numbers .entry))) (now (out .entry)) ⌝ }
+    ensures { λ _. ⌜ now (answer .exit) ≡ over (now (answer .entry)) 0 (length (fetchText (loadedOf (now (numbers .entry))) (length (now (out .entry)))) ∷ []) ⌝ }
+{
+    let before = Machine::load(numbers);
+    let fetched = before.fetch(out);
+    let after = fetched.machine;
+    after.save(numbers);
+    answer[0] = fetched.length as u64;
+    fetched.number
 }
 
 pub fn feed_in(numbers: &mut [i64], bytes: &[u8], records: &mut [i64], answer: &mut [u64]) -> u8

@@ -9,7 +9,7 @@ use lib.ListN.{length, take, drop, length-append}
 use lib.Seq.{drop-length, take-append-seam, sets-eq}
 use Rattle.clip.specs.declared.Rect.{Rect}
 use Rattle.hpgl.specs.declared.State.{State}
-use Rattle.hpgl.specs.Machine.{waiting, freshState, freshNumber}
+use Rattle.hpgl.specs.Machine.{occupied, freshState, freshNumber}
 use Rattle.machine.specs.declared.Machine.{Machine}
 use Rattle.machine.specs.declared.Started.{Started}
 use Rattle.machine.specs.Calls.{startedOf}
@@ -120,7 +120,7 @@ pub record Stands (started m : State) (read handed : ℕ) : Type 0 where
   pub reached : Reached started read handed [] (λ later. printed m later read)
   pub nothing : printed m [] read ≡ []
 
-pub stands-first : {started : State} {read handed : ℕ} → waiting (started .work) ≡ 0 → read ≡ 0 → handed ≡ 0 → Stands started started read handed
+pub stands-first : {started : State} {read handed : ℕ} → occupied (started .work) ≡ false → read ≡ 0 → handed ≡ 0 → Stands started started read handed
 stands-first {started} {read} idle r o = record {
   reached = record { earlier = []; text = []; bytes = r; count = o; prints = λ later. ap (printed started later) (sym r) };
   nothing = idle-end started read idle;

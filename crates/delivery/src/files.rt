@@ -1,8 +1,10 @@
-// A machine over a file: the lines of its bytes are handed over, block by block, to be written or compared.
+// A machine over a file: the lines of its bytes, each reply among them, are handed over, block by block, to be written or compared.
+// What a block has made is handed over before the next read, so that who sent an instruction and waits for its reply gets it.
+ghost use mathlib.Core.Bool.{false};
 ghost use mathlib.Core.Path.{_≡_};
 ghost use Prim.Native.Nat.{_+_, _^_, _<_};
 ghost use lib.ListN.{length};
-ghost use Rattle.hpgl.specs.Machine.{waiting};
+ghost use Rattle.hpgl.specs.Machine.{occupied};
 ghost use Rattle.hpgl.specs.Valid.{Usable};
 ghost use Rattle.delivery.specs.Ran.{Begins, Leaves, Ran, Unbegun, Answers};
 ghost use Rattle.delivery.specs.Tally.{readOf, handedOf, endedOf};
@@ -108,10 +110,10 @@ fn ended(tally: &Tally, end: End) -> Finished
     }
 }
 
-// Reads the input to its end. No segment waits at first.
+// Reads the input to its end. Neither a segment nor a reply waits at first.
 fn plot_file(started: Machine, file: i32, sink: Sink) -> Finished
     requires { ⌜ Usable (started .state) ⌝ }
-    requires { ⌜ waiting (started .state .work) ≡ 0 ⌝ }
+    requires { ⌜ occupied (started .state .work) ≡ false ⌝ }
     ensures { λ r. ⌜ Ran (started .state) r ⌝ }
 {
     let mut block = io::large_buffer();

@@ -1,19 +1,21 @@
 -- What feed and plot share: each draw works off one segment, one step of drawing off, and what is left after it.
 use mathlib.Core.Path.{_≡_, refl, sym, ap, _∙_}
-use mathlib.Core.Bool.{cond}
+use mathlib.Core.Bool.{Bool, true, false, cond}
 use mathlib.Core.List.{List, _∷_}
 use Prim.Native.Nat.{ℕ, zero, suc, _+_, _≤_, _<_}
 use native.Mathlib.Omega.{arith}
 use borrow.Author.Tests.{ne-eqb}
 use lib.Dec.{eqb}
 use Rattle.hpgl.specs.declared.Work.{Work}
-use Rattle.hpgl.specs.declared.Work.the-variants.{Nothing, Line, Chords, Edges}
+use Rattle.hpgl.specs.declared.Work.the-variants.{Nothing, Line, Chords, Edges, Answer}
 use Rattle.hpgl.specs.declared.State.{State}
 use Rattle.hpgl.specs.declared.Stroke.{Stroke}
 use Rattle.hpgl.specs.declared.Drawn.{Drawn}
 use Rattle.hpgl.specs.declared.Drawn.the-variants as answer
-use Rattle.hpgl.specs.Machine.{waiting, workAfter, takeState, drawWork, drawState, drawAnswer}
-use Rattle.feeding.specs.DrawOff.{drewBy, drawOffBy}
+use Rattle.hpgl.specs.Machine.{waiting, occupied, workAfter, takeState, takeNumber, drawWork, drawState, drawAnswer}
+use Rattle.feeding.specs.DrawOff.{untaken, drewBy, drawOffBy}
+use Rattle.hpgl.specs.Numbers.{busy}
+use Rattle.hpgl.specs.Pins.{take-free}
 use lib.ListN.{length}
 use Rattle.feeding.specs.Led.{Led, here, taken, drawn}
 
@@ -32,6 +34,7 @@ work-less (Chords o i zero) k h = absurd (omega arith)
 work-less (Chords o i (suc n)) k h = left-after n (Chords o (i + 1) n) refl ∙ omega arith
 work-less (Edges i zero) k h = absurd (omega arith)
 work-less (Edges i (suc n)) k h = left-after n (Edges (i + 1) n) refl ∙ omega arith
+work-less (Answer r) k h = absurd (omega arith)
 
 -- a draw works off one segment
 pub draw-less : (m : State) (k : ℕ) → waiting (m .work) ≡ suc k → waiting (drawState m .work) ≡ k
@@ -46,11 +49,32 @@ idle-work m (Chords o i zero) h = refl
 idle-work m (Chords o i (suc n)) h = absurd (omega arith)
 idle-work m (Edges i zero) h = refl
 idle-work m (Edges i (suc n)) h = absurd (omega arith)
+idle-work m (Answer r) h = refl
 
 -- "or idle if none waits"
 pub draw-idle : (m : State) → waiting (m .work) ≡ 0 → drawAnswer m ≡ answer.Idle
 unfolding drawAnswer
 draw-idle m h = idle-work m (m .work) h
+
+-- ---- a byte that is not taken
+
+-- "While a reply waits a byte is refused with 20", and the machine stays
+pub held-number : (m : State) (b : ℕ) → occupied (m .work) ≡ true → takeNumber m b ≡ busy
+unfolding takeNumber
+held-number m b h = rw h refl
+
+pub held-state : (m : State) (b : ℕ) → occupied (m .work) ≡ true → takeState m b ≡ m
+unfolding takeState
+held-state m b h = rw h refl
+
+-- and any other is
+pub free-taken : (m : State) (b : ℕ) → occupied (m .work) ≡ false → untaken (takeNumber m b) ≡ false
+unfolding untaken
+free-taken m b h = ne-eqb (takeNumber m b) busy (take-free m b h)
+
+pub none-taken : (n : ℕ) → n ≡ 0 → untaken n ≡ false
+unfolding untaken
+none-taken n h = rw h refl
 
 -- ---- one step
 
@@ -117,3 +141,7 @@ byte-kept m b bs t r h = record {
   stored = h .stored;
   led = taken b (h .led);
 }
+
+-- a byte that is refused, and counted or not
+pub refused-kept : (m : State) (b : ℕ) (bs : List ℕ) (t r k : ℕ) → t ≤ k → k ≤ t + 1 → Kept m t (b ∷ bs) r (takeState m b) k 0
+refused-kept m b bs t r k l u = record { least = l; most = omega (arith, u); stored = omega arith; led = taken b here }

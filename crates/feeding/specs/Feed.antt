@@ -8,7 +8,7 @@ use lib.ListN.{length, drop}
 use Rattle.hpgl.specs.declared.State.{State}
 use Rattle.hpgl.specs.declared.Stroke.{Stroke}
 use Rattle.hpgl.specs.declared.Drawn.{Drawn}
-use Rattle.feeding.specs.DrawOff.{listFull, drewBy, drawOffBy}
+use Rattle.feeding.specs.DrawOff.{listFull, untaken, drewBy, drawOffBy}
 use Rattle.hpgl.specs.Machine.{waiting, takeState, takeNumber}
 
 -- "Answer: bytes taken, strokes stored, number (0 for none)": with the machine after it, and the strokes themselves, in order
@@ -34,12 +34,16 @@ drew d r rest = drewBy store d r rest
 unfoldable pub drawOff : ℕ → State → ℕ → ℕ → (State → ℕ → Feed) → Feed
 drawOff k m t r idle = drawOffBy drew (λ i. stop i t listFull) k m r idle
 
--- "When idle, take the next byte. Stop after a byte that is refused; it counts as taken": t bytes are taken, and these are left
+-- a byte that is refused with n, after t that were taken: "it counts as taken", but with 20 it does not (document 02, CR 5)
+unfoldable pub counted : ℕ → ℕ → ℕ
+counted n t = cond (untaken n) t (t + 1)
+
+-- "When idle, take the next byte. Stop after a byte that is refused": t bytes are taken, and these are left
 unfoldable pub feedFrom : State → List ℕ → ℕ → ℕ → Feed
 feedFrom m [] t r = drawOff (waiting (m .work)) m t r (λ i q. stop i t 0)
 feedFrom m (b ∷ bs) t r =
     drawOff (waiting (m .work)) m t r
-    (λ i q. cond (eqb (takeNumber i b) 0) (feedFrom (takeState i b) bs (t + 1) q) (stop (takeState i b) (t + 1) (takeNumber i b)))
+    (λ i q. cond (eqb (takeNumber i b) 0) (feedFrom (takeState i b) bs (t + 1) q) (stop (takeState i b) (counted (takeNumber i b) t) (takeNumber i b)))
 
 -- feed with these bytes and r free records
 abbrev pub feedOf : State → List ℕ → ℕ → Feed

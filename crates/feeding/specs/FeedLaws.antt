@@ -1,21 +1,25 @@
 -- One step of feed, as equations of `feedFrom`, and what feed leaves: a place within the bytes, no more strokes than records, a machine that the calls make.
 --     at-end      idle, and no byte is left               at-byte, at-refused      idle, and the next byte is taken, or refused
+--     at-held     a reply waits, and a byte is left
 --     at-full     a segment waits, no record is free      at-hidden, at-stroke     a segment waits, and is drawn
 use mathlib.Core.Path.{_≡_, refl, sym, _∙_}
 use mathlib.Core.Bool.{Bool, true, false, cond}
 use mathlib.Core.List.{List, [], _∷_}
 use Prim.Native.Nat.{ℕ, suc, _+_, _≤_, _<_}
+use native.Mathlib.Omega.{arith}
 use borrow.Author.Tests.{eq-eqb, ne-eqb}
 use lib.Dec.{eqb}
 use Rattle.hpgl.specs.declared.State.{State}
 use Rattle.hpgl.specs.declared.Stroke.{Stroke}
 use Rattle.hpgl.specs.declared.Drawn.the-variants as drawn
-use Rattle.feeding.specs.DrawOff.{listFull}
-use Rattle.hpgl.specs.Machine.{waiting, takeState, takeNumber, drawState, drawAnswer}
-use Rattle.feeding.specs.Feed.{Feed, stop, store, drew, drawOff, feedFrom}
+use Rattle.feeding.specs.DrawOff.{listFull, untaken}
+use Rattle.hpgl.specs.Numbers.{busy}
+use Rattle.hpgl.specs.Cases.{pick}
+use Rattle.hpgl.specs.Machine.{waiting, occupied, takeState, takeNumber, drawState, drawAnswer}
+use Rattle.feeding.specs.Feed.{Feed, stop, store, drew, drawOff, counted, feedFrom}
 pub use Rattle.feeding.specs.DrawOffLaws.{draw-less, draw-idle}
 use lib.ListN.{length, getD}
-use Rattle.feeding.specs.DrawOffLaws.{off-idle, off-full, off-draw, off-all, drew-all, Kept, stored-kept, drawn-kept, stop-kept, byte-kept}
+use Rattle.feeding.specs.DrawOffLaws.{off-idle, off-full, off-draw, off-all, drew-all, held-number, held-state, Kept, stored-kept, drawn-kept, stop-kept, byte-kept, refused-kept}
 use Rattle.hpgl.specs.Valid.{Usable}
 use Rattle.hpgl.specs.Made.{Made}
 use Rattle.feeding.specs.Led.{Led, usable-led, made-led}
@@ -25,7 +29,7 @@ use Rattle.feeding.specs.Led.{Led, usable-led, made-led}
 -- what feed does once no segment waits
 abbrev rest : List ℕ → ℕ → State → ℕ → Feed
 rest [] t m r = stop m t 0
-rest (b ∷ bs) t m r = cond (eqb (takeNumber m b) 0) (feedFrom (takeState m b) bs (t + 1) r) (stop (takeState m b) (t + 1) (takeNumber m b))
+rest (b ∷ bs) t m r = cond (eqb (takeNumber m b) 0) (feedFrom (takeState m b) bs (t + 1) r) (stop (takeState m b) (counted (takeNumber m b) t) (takeNumber m b))
 
 by-rest : (m : State) (bs : List ℕ) (t r : ℕ) → feedFrom m bs t r ≡ drawOff (waiting (m .work)) m t r (rest bs t)
 unfolding feedFrom
@@ -46,8 +50,19 @@ module _ (m : State) (t r : ℕ) (idle : waiting (m .work) ≡ 0) where
   pub at-byte : (b : ℕ) (bs : List ℕ) → takeNumber m b ≡ 0 → feedFrom m (b ∷ bs) t r ≡ feedFrom (takeState m b) bs (t + 1) r
   at-byte b bs h = by-idle (b ∷ bs) ∙ rw (eq-eqb (takeNumber m b) 0 h) refl
 
-  pub at-refused : (b : ℕ) (bs : List ℕ) → (takeNumber m b ≡ 0 → ⊥) → feedFrom m (b ∷ bs) t r ≡ stop (takeState m b) (t + 1) (takeNumber m b)
+  pub at-refused : (b : ℕ) (bs : List ℕ) → (takeNumber m b ≡ 0 → ⊥) → feedFrom m (b ∷ bs) t r ≡ stop (takeState m b) (counted (takeNumber m b) t) (takeNumber m b)
   at-refused b bs h = by-idle (b ∷ bs) ∙ rw (ne-eqb (takeNumber m b) 0 h) refl
+
+  -- "feed stops there and does not count it"
+  pub at-held : (b : ℕ) (bs : List ℕ) → occupied (m .work) ≡ true → feedFrom m (b ∷ bs) t r ≡ stop m t busy
+  unfolding counted untaken
+  at-held b bs h =
+      let n = held-number m b h in
+      at-refused b bs (λ e. omega (arith, sym n ∙ e)) ∙ (λ i. stop (held-state m b h i) (counted (n i) t) (n i))
+
+  -- and with 20 in the place of the name, as document 02 has it
+  pub held-is-20 : (b : ℕ) (bs : List ℕ) → occupied (m .work) ≡ true → feedFrom m (b ∷ bs) t r ≡ stop m t 20
+  held-is-20 b bs h = at-held b bs h
 
 module _ (m : State) (bs : List ℕ) (t : ℕ) where
   pub at-full : 0 < waiting (m .work) → feedFrom m bs t 0 ≡ stop m t listFull
@@ -83,15 +98,19 @@ module _ (t : ℕ) (bs : List ℕ) where
       off-all drew (full t) idle Leaves h (λ i. stop-kept i t bs 0)
       (λ i q next l. drew-all store (Leaves i) (λ s p f. stored-kept) (drawAnswer i) q next (λ p. drawn-kept (l p))) k m r
 
+pub counted-next : (n t : ℕ) → (t ≤ counted n t) × (counted n t ≤ t + 1)
+unfolding counted
+counted-next n t = pick (λ (k : ℕ). (t ≤ k) × (k ≤ t + 1)) (untaken n) (omega arith, omega arith) (omega arith, omega arith)
+
 kept : (m : State) (bs : List ℕ) (t r : ℕ) → Leaves t bs m r (feedFrom m bs t r)
 unfolding feedFrom
 kept m [] t r = off-kept t [] (waiting (m .work)) m r (λ i q. stop i t 0) (λ i q. stop-kept i t [] q)
-kept m (b ∷ bs) t r = off-kept t (b ∷ bs) (waiting (m .work)) m r _ (λ i q. byte-kept i b bs t q (go i q (eqb (takeNumber i b) 0) (kept (takeState i b) bs (t + 1) q)))
+kept m (b ∷ bs) t r = off-kept t (b ∷ bs) (waiting (m .work)) m r _ (λ i q. go i q (eqb (takeNumber i b) 0) (kept (takeState i b) bs (t + 1) q))
   where
     go : (i : State) (q : ℕ) (e : Bool) → Leaves (t + 1) bs (takeState i b) q (feedFrom (takeState i b) bs (t + 1) q) →
-        Leaves (t + 1) bs (takeState i b) q (cond e (feedFrom (takeState i b) bs (t + 1) q) (stop (takeState i b) (t + 1) (takeNumber i b)))
-    go i q true h = h
-    go i q false h = stop-kept (takeState i b) (t + 1) bs q
+        Leaves t (b ∷ bs) i q (cond e (feedFrom (takeState i b) bs (t + 1) q) (stop (takeState i b) (counted (takeNumber i b) t) (takeNumber i b)))
+    go i q true h = byte-kept i b bs t q h
+    go i q false h = let k = counted-next (takeNumber i b) t in refused-kept i b bs t q _ (k .0) (k .1)
 
 -- no byte is taken twice, and none past the end
 pub feed-place : (m : State) (bs : List ℕ) (t r : ℕ) → (t ≤ feedFrom m bs t r .taken) × (feedFrom m bs t r .taken ≤ t + length bs)

@@ -1,12 +1,13 @@
 -- The call plot, beside those of document 01: a feed that goes on after a refused byte and stores the refusal among the strokes.
 use Prim.Native.Nat.{ℕ, zero, suc, _+_}
+use mathlib.Core.Bool.{cond}
 use mathlib.Core.List.{List, [], _∷_, _++_}
 use lib.IntN.{ℤ, pos}
 use lib.ListN.{length, drop}
 use Rattle.hpgl.specs.declared.State.{State}
 use Rattle.hpgl.specs.declared.Stroke.{Stroke}
 use Rattle.hpgl.specs.declared.Drawn.{Drawn}
-use Rattle.feeding.specs.DrawOff.{listFull, drewBy, drawOffBy}
+use Rattle.feeding.specs.DrawOff.{listFull, untaken, drewBy, drawOffBy}
 use Rattle.hpgl.specs.Machine.{waiting, takeState, takeNumber}
 
 -- what a record holds: a stroke, or a refusal with 01's number and the place of its byte, counted from 1
@@ -14,7 +15,7 @@ pub data Mark : Type 0 where
   stroke : Stroke → Mark
   refusal : ℕ → ℕ → Mark
 
--- the machine after it, the bytes taken, the marks in order, and 21 where the list was full before all was done (0 for none)
+-- the machine after it, the bytes taken, the marks in order, and 21 where the list was full before all was done, 20 where a reply waits (0 for none)
 pub record Plot : Type 0 where
   pub state : State
   pub taken : ℕ
@@ -42,9 +43,13 @@ unfoldable pub drawOff : ℕ → State → ℕ → ℕ → (State → ℕ → Pl
 drawOff k m t r idle = drawOffBy drew (λ i. stop i t listFull) k m r idle
 
 -- when idle, take a byte; any byte may be refused, so that it too waits for a free record
+unfoldable pub takeWith : State → ℕ → ℕ → ℕ → (State → ℕ → Plot) → Plot
+takeWith m b t zero next = stop m t listFull
+takeWith m b t (suc r) next = took (takeNumber m b) (t + 1) r (λ q. next (takeState m b) q)
+
+-- one that is not taken, for a reply waits, ends it there as it ends feed, and is neither counted nor stored
 unfoldable pub takeOn : State → ℕ → ℕ → ℕ → (State → ℕ → Plot) → Plot
-takeOn m b t zero next = stop m t listFull
-takeOn m b t (suc r) next = took (takeNumber m b) (t + 1) r (λ q. next (takeState m b) q)
+takeOn m b t r next = cond (untaken (takeNumber m b)) (stop m t (takeNumber m b)) (takeWith m b t r next)
 
 -- t bytes are taken, these are left, and r records are free
 unfoldable pub plotFrom : State → List ℕ → ℕ → ℕ → Plot

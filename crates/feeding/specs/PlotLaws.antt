@@ -2,15 +2,19 @@
 --     at-end      idle, and no byte is left                at-full      a segment waits, no record is free
 --     at-byte     idle, and a byte is taken, or refused    at-draw      a segment waits, and is drawn
 --     at-stuck    idle, a byte is left, and no record is free
-use mathlib.Core.Path.{_≡_, refl, sym, _∙_}
+--     at-held     a reply waits, and a byte is left
+use mathlib.Core.Path.{_≡_, refl, sym, ap, _∙_}
+use mathlib.Core.Bool.{true, false, cond}
 use mathlib.Core.List.{List, [], _∷_}
 use Prim.Native.Nat.{ℕ, zero, suc, _+_, _≤_, _<_}
 use Rattle.hpgl.specs.declared.State.{State}
-use Rattle.feeding.specs.DrawOff.{listFull}
-use Rattle.hpgl.specs.Machine.{waiting, takeState, takeNumber, drawState, drawAnswer}
-use Rattle.feeding.specs.Plot.{Plot, stroke, refusal, stop, store, drew, took, drawOff, takeOn, plotFrom}
+use Rattle.feeding.specs.DrawOff.{listFull, untaken}
+use Rattle.hpgl.specs.Numbers.{busy}
+use Rattle.hpgl.specs.Cases.{pick}
+use Rattle.hpgl.specs.Machine.{waiting, occupied, takeState, takeNumber, drawState, drawAnswer}
+use Rattle.feeding.specs.Plot.{Plot, stroke, refusal, stop, store, drew, took, drawOff, takeWith, takeOn, plotFrom}
 use lib.ListN.{length, getD}
-use Rattle.feeding.specs.DrawOffLaws.{off-idle, off-full, off-draw, off-all, drew-all, Kept, stored-kept, drawn-kept, stop-kept, byte-kept}
+use Rattle.feeding.specs.DrawOffLaws.{off-idle, off-full, off-draw, off-all, drew-all, held-number, Kept, stored-kept, drawn-kept, stop-kept, byte-kept}
 use Rattle.hpgl.specs.Valid.{Usable}
 use Rattle.hpgl.specs.Made.{Made}
 use Rattle.feeding.specs.Led.{Led, usable-led, made-led}
@@ -39,13 +43,17 @@ module _ (m : State) (t : ℕ) (idle : waiting (m .work) ≡ 0) where
   at-end r = by-idle [] r
 
   module _ (b : ℕ) (bs : List ℕ) where
-    pub at-stuck : plotFrom m (b ∷ bs) t 0 ≡ stop m t listFull
-    unfolding takeOn
-    at-stuck = by-idle (b ∷ bs) 0
+    pub at-stuck : untaken (takeNumber m b) ≡ false → plotFrom m (b ∷ bs) t 0 ≡ stop m t listFull
+    unfolding takeOn takeWith
+    at-stuck h = by-idle (b ∷ bs) 0 ∙ rw h refl
 
-    pub at-byte : (r : ℕ) → plotFrom m (b ∷ bs) t (suc r) ≡ took (takeNumber m b) (t + 1) r (λ q. plotFrom (takeState m b) bs (t + 1) q)
-    unfolding takeOn
-    at-byte r = by-idle (b ∷ bs) (suc r)
+    pub at-byte : (r : ℕ) → untaken (takeNumber m b) ≡ false → plotFrom m (b ∷ bs) t (suc r) ≡ took (takeNumber m b) (t + 1) r (λ q. plotFrom (takeState m b) bs (t + 1) q)
+    unfolding takeOn takeWith
+    at-byte r h = by-idle (b ∷ bs) (suc r) ∙ rw h refl
+
+    pub at-held : (r : ℕ) → occupied (m .work) ≡ true → plotFrom m (b ∷ bs) t r ≡ stop m t busy
+    unfolding takeOn untaken
+    at-held r h = by-idle (b ∷ bs) r ∙ ap (λ (n : ℕ). cond (untaken n) (stop m t n) (takeWith m b t r (λ j p. plotFrom j bs (t + 1) p))) (held-number m b h)
 
 module _ (m : State) (bs : List ℕ) (t : ℕ) where
   pub at-full : 0 < waiting (m .work) → plotFrom m bs t 0 ≡ stop m t listFull
@@ -83,12 +91,17 @@ module _ (t : ℕ) (bs : List ℕ) where
       off-all drew (full t) idle Leaves h (λ i. stop-kept i t bs 0)
       (λ i q next l. drew-all (λ s. store (stroke s)) (Leaves i) (λ s p f. stored-kept) (drawAnswer i) q next (λ p. drawn-kept (l p))) k m r
 
+with-kept : (m : State) (b : ℕ) (bs : List ℕ) (t r : ℕ) (next : State → ℕ → Plot) →
+    ((q : ℕ) → Leaves (t + 1) bs (takeState m b) q (next (takeState m b) q)) → Leaves t (b ∷ bs) m r (takeWith m b t r next)
+unfolding takeWith
+with-kept m b bs t zero next h = stop-kept m t (b ∷ bs) 0
+with-kept m b bs t (suc r) next h =
+    took-kept t (b ∷ bs) m (takeNumber m b) (t + 1) r (λ q. next (takeState m b) q) (λ q. byte-kept m b bs t q (h q))
+
 take-kept : (m : State) (b : ℕ) (bs : List ℕ) (t r : ℕ) (next : State → ℕ → Plot) →
     ((q : ℕ) → Leaves (t + 1) bs (takeState m b) q (next (takeState m b) q)) → Leaves t (b ∷ bs) m r (takeOn m b t r next)
 unfolding takeOn
-take-kept m b bs t zero next h = stop-kept m t (b ∷ bs) 0
-take-kept m b bs t (suc r) next h =
-    took-kept t (b ∷ bs) m (takeNumber m b) (t + 1) r (λ q. next (takeState m b) q) (λ q. byte-kept m b bs t q (h q))
+take-kept m b bs t r next h = pick (Leaves t (b ∷ bs) m r) (untaken (takeNumber m b)) (stop-kept m t (b ∷ bs) r) (with-kept m b bs t r next h)
 
 kept : (m : State) (bs : List ℕ) (t r : ℕ) → Leaves t bs m r (plotFrom m bs t r)
 unfolding plotFrom

@@ -15,7 +15,7 @@ use Rattle.hpgl.specs.declared.Core.{Core}
 use Rattle.hpgl.specs.declared.State.{State}
 use Rattle.hpgl.specs.declared.Stroke.{Stroke}
 use Rattle.hpgl.specs.declared.Work.{Work}
-use Rattle.hpgl.specs.declared.Work.the-variants.{Nothing, Line, Chords, Edges}
+use Rattle.hpgl.specs.declared.Work.the-variants.{Nothing, Line, Chords, Edges, Answer}
 use Rattle.hpgl.specs.declared.Drawn.{Drawn}
 use Rattle.hpgl.specs.declared.Drawn.the-variants as drawn
 use Rattle.hpgl.specs.Place.{limits}
@@ -56,6 +56,7 @@ work-penned m (Chords o i zero) h = tt
 work-penned m (Chords o i (suc n)) h = shown-penned (m .core) h _ _
 work-penned m (Edges i zero) h = tt
 work-penned m (Edges i (suc n)) h = pick DrawnPenned (getD (m .store .edges) i noEdge .down) (shown-penned (m .core) h _ _) tt
+work-penned m (Answer r) h = tt
 
 draw-penned : (m : State) → Valid m → DrawnPenned (drawAnswer m)
 unfolding drawAnswer

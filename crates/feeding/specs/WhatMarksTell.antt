@@ -16,7 +16,9 @@ use Rattle.hpgl.specs.declared.Drawn.{Drawn}
 use Rattle.hpgl.specs.declared.Drawn.the-variants as drawn
 use Rattle.hpgl.specs.Machine.{waiting, takeState, takeNumber, strokeOf, drawState, drawAnswer}
 use Rattle.feeding.specs.DrawOffLaws.{draw-less}
-use Rattle.feeding.specs.Plot.{Mark, stroke, refusal, Plot, drew, took, drawOff, takeOn, plotFrom}
+use Rattle.feeding.specs.Plot.{Mark, stroke, refusal, Plot, drew, took, drawOff, takeWith, takeOn, plotFrom}
+use Rattle.feeding.specs.DrawOff.{untaken}
+use Rattle.hpgl.specs.Cases.{pick}
 use Rattle.hpgl.specs.Segment.{drawnOf, segment-drawn}
 use Rattle.hpgl.specs.Valid.{Every, none, more, Usable}
 use Rattle.hpgl.specs.ValidKept.{usable-take, usable-draw}
@@ -71,11 +73,16 @@ module _ (end : ℕ) where
       drew-told (drawAnswer m) r (λ q. drawOff k (drawState m) t q idle) (answer-inked v (omega (arith, w)))
       (λ q. off-told k (drawState m) t q idle (draw-less m k w) (usable-draw v) h)
 
+  with-told : (m : State) (b t r : ℕ) (next : State → ℕ → Plot) → t + 1 ≤ end → ((q : ℕ) → Every (Told end) (next (takeState m b) q .marks))
+      → Every (Told end) (takeWith m b t r next .marks)
+  unfolding takeWith
+  with-told m b t zero next l h = none
+  with-told m b t (suc r) next l h = took-told (takeNumber m b) (t + 1) r (λ q. next (takeState m b) q) l h
+
   take-told : (m : State) (b t r : ℕ) (next : State → ℕ → Plot) → t + 1 ≤ end → ((q : ℕ) → Every (Told end) (next (takeState m b) q .marks))
       → Every (Told end) (takeOn m b t r next .marks)
   unfolding takeOn
-  take-told m b t zero next l h = none
-  take-told m b t (suc r) next l h = took-told (takeNumber m b) (t + 1) r (λ q. next (takeState m b) q) l h
+  take-told m b t r next l h = pick (λ (f : Plot). Every (Told end) (f .marks)) (untaken (takeNumber m b)) none (with-told m b t r next l h)
 
   pub plot-told : (m : State) (bs : List ℕ) (t r : ℕ) → t + length bs ≤ end → Usable m → Every (Told end) (plotFrom m bs t r .marks)
   unfolding plotFrom

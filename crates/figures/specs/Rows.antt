@@ -2,7 +2,7 @@
 use Prim.Native.Nat.{ℕ, zero, suc}
 use Prim.Native.String.{String}
 use mathlib.Core.Path.{_≡_}
-use mathlib.Core.List.{List, [], _∷_, _++_}
+use mathlib.Core.List.{List, [], _∷_, _++_, map}
 use lib.IntN.{ℤ, pos, negℤ}
 use lib.ListN.{length}
 use Rattle.clip.specs.declared.Rect.{Rect}
@@ -11,9 +11,10 @@ use Rattle.hpgl.specs.declared.Stroke.{Stroke}
 use Rattle.clip.specs.Types.{LineType, typeOf}
 use Rattle.hpgl.specs.Place.{limits}
 use Rattle.hpgl.specs.ExactModel.{ExactSegment, Model, freshModel, takeModel}
-use Rattle.hpgl.specs.Machine.{rect, hardLimits, freshState, freshNumber, waiting, takeState, takeNumber}
+use Rattle.hpgl.specs.Replies.{noReply}
+use Rattle.hpgl.specs.Machine.{rect, hardLimits, freshState, freshNumber, waiting, takeState, takeNumber, drawState, drawAnswer, lookAt, fetchState, fetchNumber, fetchText, fetchOut}
 use Rattle.feeding.specs.Feed.{Feed, feedOf, laid}
-use Rattle.hpgl.specs.Trace.{Out, bytes, draws, drawnOff, refusal, traceFrom, trace}
+use Rattle.hpgl.specs.Trace.{Out, drawnValues, lookValues, bytes, draws, drawnOff, refusal, traceFrom, trace}
 use Rattle.drive.specs.declared.Moves.{Moves}
 use Rattle.drive.specs.declared.Moves.the-variants.{Two, One, Refused}
 use Rattle.drive.specs.declared.Move.the-variants.{Travel, Paint, Dot}
@@ -26,6 +27,19 @@ pub data Lent : Type 0 where
 -- its answer: bytes taken, strokes stored, number, and the records after it
 pub data Fed : Type 0 where
   fed : ℕ → ℕ → ℕ → List Stroke → Fed
+
+-- calls one by one, after which nothing is drawn or fetched of itself: bytes that are taken, a fetch with this in the lent buffer, a draw, a feed
+pub data Call : Type 0 where
+  held : String → Call
+  fetch : String → Call
+  draw : Call
+  feed : Lent → Call
+
+-- their answers: refusals and draws; of a fetch its number, its length and the buffer after it; of a feed as above
+pub data Told : Type 0 where
+  told : Out → Told
+  fetched : ℕ → ℕ → List ℕ → Told
+  gave : Fed → Told
 
 pub data Row : Type 0 where
   -- fresh with these hard limits; then each byte is taken, and all that waits is drawn: refusals, strokes, and what look sees at the end
@@ -42,6 +56,8 @@ pub data Row : Type 0 where
   feeds : List Lent → List Fed → Row
   -- a stroke and a pitch code
   moved : Stroke → ℕ → Moves → Row
+  -- calls one by one, what they answer, and what look sees at the end
+  called : List Call → List Told → Row
   -- bytes as in the first, and the line type of each segment that they leave to be drawn
   typed : Rect → String → List LineType → Row
 
@@ -52,6 +68,7 @@ pub data RowAnswer : Type 0 where
   many : ℕ → RowAnswer
   fedAs : List Fed → RowAnswer
   movedAs : Moves → RowAnswer
+  toldAs : List Told → RowAnswer
   typedAs : List LineType → RowAnswer
 
 abbrev pub minus : ℕ → ℤ
@@ -81,11 +98,25 @@ refusals k m (b ∷ bs) = refusal (takeNumber m b) (suc k) ++ refusals (suc k) (
 unfoldable pub drawnThen : State → List ℕ → List Out
 drawnThen m bs = draws (suc (waiting (m .work))) m ++ traceFrom 0 (drawnOff (suc (waiting (m .work))) m) bs
 
+unfoldable pub feedBy : State → Lent → Feed
+feedBy m (lent s records) = feedOf m (bytes s) (length records)
+
+unfoldable pub fedBy : Feed → Lent → Fed
+fedBy f (lent s records) = fed (f .taken) (length (f .strokes)) (f .number) (laid (f .strokes) records)
+
 unfoldable pub fedAll : State → List Lent → List Fed
 fedAll m [] = []
-fedAll m (lent s records ∷ calls) =
-    let f : Feed = feedOf m (bytes s) (length records) in
-    fed (f .taken) (length (f .strokes)) (f .number) (laid (f .strokes) records) ∷ fedAll (f .state) calls
+fedAll m (l ∷ ls) = let f : Feed = feedBy m l in fedBy f l ∷ fedAll (f .state) ls
+
+unfoldable pub fetchedBy : State → List ℕ → Told
+fetchedBy m buffer = fetched (fetchNumber m (length buffer)) (length (fetchText m (length buffer))) (fetchOut m buffer)
+
+unfoldable pub calledAll : State → List Call → List Told
+calledAll m [] = told (lookValues (lookAt m)) ∷ []
+calledAll m (held s ∷ cs) = map told (refusals 0 m (bytes s)) ++ calledAll (after m (bytes s)) cs
+calledAll m (fetch s ∷ cs) = fetchedBy m (bytes s) ∷ calledAll (fetchState m (length (bytes s))) cs
+calledAll m (draw ∷ cs) = told (drawnValues (drawAnswer m)) ∷ calledAll (drawState m) cs
+calledAll m (feed l ∷ cs) = let f : Feed = feedBy m l in gave (fedBy f l) ∷ calledAll (f .state) cs
 
 -- the moves that `Gives` asks for; there are no others (`moves-given`)
 unfoldable pub movesOf : Answer → Moves
@@ -108,7 +139,7 @@ unfoldable pub typesFrom : Model → List ℕ → List LineType
 typesFrom p [] = []
 typesFrom p (b ∷ bs) =
     let q : Model = takeModel p b in
-    typesIn (limits (q .core .settings)) (q .queue) ++ typesFrom (record { reader = q .reader; core = q .core; polygon = q .polygon; queue = [] }) bs
+    typesIn (limits (q .core .settings)) (q .queue) ++ typesFrom (record { reader = q .reader; core = q .core; polygon = q .polygon; queue = []; reply = noReply }) bs
 
 unfoldable pub answered : Row → RowAnswer
 answered (taken r s os) = outs (trace r s)
@@ -118,6 +149,7 @@ answered (filled s t os) = outs (traceFrom 0 (freshState wide) (bytes s ++ (poin
 answered (waits s n) = many (waiting (after (freshState wide) (bytes s) .work))
 answered (feeds calls fs) = fedAs (fedAll (freshState wide) calls)
 answered (moved s c m) = movedAs (movesOf (answerOf s c))
+answered (called cs ts) = toldAs (calledAll (freshState wide) cs)
 answered (typed r s ts) = typedAs (typesFrom (freshModel (hardLimits r)) (bytes s))
 
 unfoldable pub allAnswered : List Row → List RowAnswer
@@ -134,6 +166,7 @@ said (filled s t os) = outs os
 said (waits s n) = many n
 said (feeds calls fs) = fedAs fs
 said (moved s c m) = movedAs m
+said (called cs ts) = toldAs ts
 said (typed r s ts) = typedAs ts
 
 unfoldable pub allSaid : List Row → List RowAnswer

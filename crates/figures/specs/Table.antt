@@ -10,11 +10,11 @@ use lib.Ieee.{Float, fin}
 use Rattle.clip.specs.declared.Rect.{Rect}
 use Rattle.hpgl.specs.declared.Stroke.{Stroke}
 use Rattle.hpgl.specs.Machine.{rect}
-use Rattle.hpgl.specs.Trace.{Out, refused, stroke, hidden, idle, seen}
+use Rattle.hpgl.specs.Trace.{Out, refused, stroke, hidden, idle, seen, reply, bytes}
 use Rattle.drive.specs.declared.Place.{Place}
 use Rattle.drive.specs.declared.Move.the-variants.{Travel, Paint, Dot}
 use Rattle.drive.specs.declared.Moves.the-variants.{Two, One, Refused}
-use Rattle.figures.specs.Rows.{Row, taken, undrawn, started, filled, waits, feeds, moved, typed, lent, fed, minus, wide}
+use Rattle.figures.specs.Rows.{Row, taken, undrawn, started, filled, waits, feeds, moved, typed, called, lent, fed, Call, held, fetch, draw, feed, Told, told, fetched, gave, minus, wide}
 use Rattle.clip.specs.Types.{LineType, insideToInside, insideToOutside, outsideToInside, outsideToOutside}
 
 -- ---- how a row is written
@@ -39,6 +39,18 @@ ends s o = taken wide s (o ∷ [])
 
 abbrev stops : String → ℕ → ℕ → Out → Row
 stops s n k o = taken wide s (refused n k ∷ o ∷ [])
+
+-- a reply, which 13, 10 close
+abbrev says : String → Out
+says s = reply (bytes s ++ (13 ∷ 10 ∷ []))
+
+-- replies of a machine with other hard limits, which stays at the origin with pen 0 up
+abbrev boxed : String → List Out → Row
+boxed s os = taken (rect (minus 4) (minus 3) (pos 2) (pos 1)) s (os ++ (up 0 0 0 0 ∷ []))
+
+-- a fetch's number and length, and the buffer after it
+abbrev wrote : ℕ → ℕ → String → Told
+wrote n k s = fetched n k (bytes s)
 
 -- the limits of figures (e) to (h)
 abbrev ten : Rect
@@ -1038,6 +1050,69 @@ lineTypes =
     typed ten "SP1;CI12,90;" (outsideToOutside ∷ outsideToOutside ∷ outsideToOutside ∷ outOut) ∷
     []
 
+-- ---- Document 02, CR 5: replies for the designers' packages
+
+-- "Give the location and 1 for pen down or 0 for up, P1 and P2, window, the machine's hard limits (each left, bottom, right, top)"; "whole numbers in decimal with commas, closed by 13, 10; a minus
+-- sign only below zero"; "OW without a window gives the hard limits turned back". A location is not turned, P1 and P2 are not put in order, a window is not turned or cut by the hard limits
+abbrev replies : List Row
+replies =
+    take "PA3,-4;OA;PD;OA;" (says "3,-4,0" ∷ says "3,-4,1" ∷ seen (pos 3) (minus 4) 0 true 0 ∷ []) ∷
+    take "PA-.5,.5;OA;" (says "0,1,0" ∷ up 0 1 0 0 ∷ []) ∷
+    take "RO90;PA3,5;OA;" (says "3,5,0" ∷ up 3 5 0 0 ∷ []) ∷
+    boxed "OP;IP1,2,3,4;OP;IP10,10;OP;IP5,5,1,1;OP;" (says "-4,-3,2,1" ∷ says "1,2,3,4" ∷ says "10,10,12,12" ∷ says "5,5,1,1" ∷ []) ∷
+    boxed "OW;RO90;OW;RO180;OW;RO270;OW;" (says "-4,-3,2,1" ∷ says "-3,-2,1,4" ∷ says "-2,-1,4,3" ∷ says "-1,-4,3,2" ∷ []) ∷
+    boxed "IW-5,7,100.5,-8;OW;RO90;OW;RO180;OW;RO270;OW;IW;OW;" (says "-5,-8,101,7" ∷ says "-5,-8,101,7" ∷ says "-5,-8,101,7" ∷ says "-5,-8,101,7" ∷ says "-1,-4,3,2" ∷ []) ∷
+    taken (rect (minus 32768) (minus 32768) (pos 32767) (pos 32767)) "RO180;OW;" (says "-32767,-32767,32768,32768" ∷ up 0 0 0 0 ∷ []) ∷
+    boxed "OH;RO90;OH;RO180;IP9,9;IW0,0,1,1;OH;" (says "-4,-3,2,1" ∷ says "-4,-3,2,1" ∷ says "-4,-3,2,1" ∷ []) ∷
+    started (rect (pos 5) (pos 5) (pos 5) (pos 6)) 10 "OW;OH;" (says "0,0,1,1" ∷ says "0,0,1,1" ∷ up 0 0 0 0 ∷ []) ∷
+    take "oa;Oe;" (says "0,0,0" ∷ says "0" ∷ up 0 0 0 0 ∷ []) ∷
+    []
+
+-- "and the latest 1, 2, 3, 6 or 7 that take gave, 0 if none since fresh, IN or OE": DF keeps it, and so does an IN or OE that is refused, whose own number is the latest then; so is
+-- that of the letter which begins OE
+abbrev lastRefusals : List Row
+lastRefusals =
+    take "OE;XX;OE;OE;" (says "0" ∷ refused 1 5 ∷ says "1" ∷ says "0" ∷ up 0 0 0 0 ∷ []) ∷
+    take "XX;SP1,2;SP9;OE;" (refused 1 2 ∷ refused 2 9 ∷ refused 3 13 ∷ says "3" ∷ up 0 0 0 0 ∷ []) ∷
+    take "SP9;SP1,2;XX;OE;" (refused 3 4 ∷ refused 2 10 ∷ refused 1 12 ∷ says "1" ∷ up 0 0 0 0 ∷ []) ∷
+    take "IP0,0,10000,10000;SC0,1,0,1;PA101,0;OE;" (refused 6 36 ∷ says "6" ∷ up 0 0 0 0 ∷ []) ∷
+    filled "PM0;PA" "1,0,1,0,1,0;PM2;OE;" (refused 7 458 ∷ says "7" ∷ up 0 0 0 1019 ∷ []) ∷
+    take "XX;IN;OE;" (refused 1 2 ∷ says "0" ∷ up 0 0 0 0 ∷ []) ∷
+    take "XX;DF;OE;" (refused 1 2 ∷ says "1" ∷ up 0 0 0 0 ∷ []) ∷
+    take "XX;IN5;OE;" (refused 1 2 ∷ refused 2 7 ∷ says "2" ∷ up 0 0 0 0 ∷ []) ∷
+    take "XX;OE5;OE;OE;" (refused 1 2 ∷ refused 2 7 ∷ says "2" ∷ says "0" ∷ up 0 0 0 0 ∷ []) ∷
+    take "PA5OE;" (refused 2 4 ∷ says "2" ∷ up 0 0 0 0 ∷ []) ∷
+    []
+
+-- "Such an instruction takes no numbers, works in polygon mode too": it stores no bytes there. The manual's other output instructions are not known; "The reply is made when its instruction is
+-- carried out": on the byte that ends it, which a blank does not
+abbrev replyForms : List Row
+replyForms =
+    take "OA1,2;OP1;OW1;OH1;OE1;OA;" (refused 2 4 ∷ refused 2 10 ∷ refused 2 14 ∷ refused 2 18 ∷ refused 2 22 ∷ says "0,0,0" ∷ up 0 0 0 0 ∷ []) ∷
+    taken ten "PM0;PD5,5;OA;OP;OW;OH;OE;PM2;OA;" (says "5,5,1" ∷ says "0,0,10,10" ∷ says "0,0,10,10" ∷ says "0,0,10,10" ∷ says "0" ∷ says "0,0,0" ∷ up 0 0 0 31 ∷ []) ∷
+    take "PM0;SP1;OE;PM2;" (refused 1 6 ∷ says "1" ∷ up 0 0 0 11 ∷ []) ∷
+    take "OC;OS;OI;OF;" (refused 1 2 ∷ refused 1 5 ∷ refused 1 8 ∷ refused 1 11 ∷ up 0 0 0 0 ∷ []) ∷
+    take "PA5,5;OA\n;OA" (says "5,5,0" ∷ up 5 5 0 0 ∷ []) ∷
+    []
+
+-- "its reply is fetched by a call with a lent buffer. With no reply waiting that call writes nothing and answers length 0. While a reply waits a byte is refused with 20; feed stops there and does
+-- not count it. Buffer bytes past a reply keep their content. (31: buffer shorter than the reply; nothing written, the reply still waits.)" A 20 is not remembered; a draw says idle and leaves the reply
+abbrev fetches : List Row
+fetches =
+    called (held "OA;" ∷ fetch "......" ∷ fetch "......." ∷ fetch "......." ∷ []) (wrote 31 0 "......" ∷ wrote 0 7 "0,0,0\r\n" ∷ wrote 0 0 "......." ∷ told (up 0 0 0 0) ∷ []) ∷
+    called (held "OH;" ∷ fetch "" ∷ fetch "............................" ∷ []) (wrote 31 0 "" ∷ wrote 0 25 "-10000,-7000,10000,7000\r\n..." ∷ told (up 0 0 0 0) ∷ []) ∷
+    called (fetch "" ∷ fetch "..." ∷ []) (wrote 0 0 "" ∷ wrote 0 0 "..." ∷ told (up 0 0 0 0) ∷ []) ∷
+    called (held "OA;XX;" ∷ fetch "......." ∷ held "OE;" ∷ fetch "...." ∷ [])
+    (told (refused 20 4) ∷ told (refused 20 5) ∷ told (refused 20 6) ∷ wrote 0 7 "0,0,0\r\n" ∷ wrote 0 3 "0\r\n." ∷ told (up 0 0 0 0) ∷ []) ∷
+    called (held "OA;" ∷ draw ∷ fetch "......." ∷ []) (told idle ∷ wrote 0 7 "0,0,0\r\n" ∷ told (up 0 0 0 0) ∷ []) ∷
+    called (held "OAPA" ∷ fetch "......." ∷ held "A5,5;" ∷ []) (told (refused 20 4) ∷ wrote 0 7 "0,0,0\r\n" ∷ told (up 5 5 0 0) ∷ []) ∷
+    called (held "SP1;PD5,5;" ∷ fetch "......." ∷ held "O" ∷ draw ∷ held "OA;" ∷ held "X" ∷ fetch "......." ∷ [])
+    (wrote 0 0 "......." ∷ told (refused 20 1) ∷ told (line 1 0 0 5 5) ∷ told (refused 20 1) ∷ wrote 0 7 "5,5,1\r\n" ∷ told (down 5 5 1 0) ∷ []) ∷
+    called (feed (lent "SP1;PD5,5;OA;PD6,6;" (blank ∷ [])) ∷ fetch "......." ∷ feed (lent "PD6,6;" (blank ∷ [])) ∷ [])
+    (gave (fed 13 1 20 (path 0 0 5 5 ∷ [])) ∷ wrote 0 7 "5,5,1\r\n" ∷ gave (fed 6 1 0 (path 5 5 6 6 ∷ [])) ∷ told (down 6 6 1 0) ∷ []) ∷
+    called (feed (lent "OA;" []) ∷ feed (lent "" []) ∷ feed (lent "X" []) ∷ []) (gave (fed 3 0 0 []) ∷ gave (fed 0 0 0 []) ∷ gave (fed 0 0 20 []) ∷ told (up 0 0 0 0) ∷ []) ∷
+    []
+
 -- ---- the table, heading by heading
 
 abbrev pub table : List Row
@@ -1055,3 +1130,4 @@ table =
     ++ fifthDecimal
     ++ turnNumbers ++ turnImages ++ turnChanges ++ turnWindows ++ turnShapes
     ++ lineTypes
+    ++ replies ++ lastRefusals ++ replyForms ++ fetches

@@ -17,7 +17,7 @@ use Rattle.hpgl.specs.declared.Circle.{Circle}
 use Rattle.hpgl.specs.declared.Core.{Core}
 use Rattle.hpgl.specs.declared.Store.{Store}
 use Rattle.hpgl.specs.declared.Work.{Work}
-use Rattle.hpgl.specs.declared.Work.the-variants.{Nothing, Line, Chords, Edges}
+use Rattle.hpgl.specs.declared.Work.the-variants.{Nothing, Line, Chords, Edges, Answer}
 use Rattle.hpgl.specs.declared.State.{State}
 use Rattle.hpgl.specs.declared.Drawn.{Drawn}
 use Rattle.hpgl.specs.declared.Segment.{Segment}
@@ -93,6 +93,7 @@ alone r e (Line a b) p h = refl
 alone r e (Chords o i n) p h = never h refl
 alone r e (Edges i zero) p h = refl
 alone r e (Edges i (suc n)) p h = refl
+alone r e (Answer t) p h = refl
 
 begins : (r : Rows) (w : Work) (p : Point) → batchedOf w ≡ false → BeginsAt r w p
 unfolding batchedOf
@@ -100,6 +101,7 @@ begins r Nothing p h = tt
 begins r (Line a b) p h = tt
 begins r (Chords o i n) p h = never h refl
 begins r (Edges i n) p h = tt
+begins r (Answer t) p h = tt
 
 pub alone-waits : (m : State) {r : Rows} (p : Point) → r ≡ rowsOf (m .core .settings .turn) → batchedOf (m .work) ≡ false →
     segmentIn r (getD (m .store .edges) (edgePlace (m .work)) noEdge) (m .work) p p ≡ segmentOf m

@@ -24,14 +24,15 @@ use Rattle.hpgl.specs.declared.Acted.{Acted}
 use Rattle.hpgl.specs.declared.Core.{Core}
 use Rattle.hpgl.specs.declared.Store.{Store}
 use Rattle.hpgl.specs.declared.Work.{Work}
-use Rattle.hpgl.specs.declared.Work.the-variants.{Nothing, Line, Chords, Edges}
+use Rattle.hpgl.specs.declared.Work.the-variants.{Nothing, Line, Chords, Edges, Answer}
 use Rattle.hpgl.specs.declared.State.{State}
 use Rattle.hpgl.specs.declared.Stroke.{Stroke}
 use Rattle.hpgl.specs.declared.Drawn.{Drawn}
 use Rattle.hpgl.specs.declared.Drawn.the-variants as drawn
 use Rattle.feeding.specs.DrawOff.{listFull}
 use Rattle.hpgl.specs.Rules.{done}
-use Rattle.hpgl.specs.Machine.{waiting, takeState, takeNumber, workAfter, drawState, drawAnswer}
+use Rattle.hpgl.specs.Numbers.{busy}
+use Rattle.hpgl.specs.Machine.{waiting, replied, replying, occupied, takeState, takeNumber, workAfter, drawState, drawAnswer}
 use Rattle.feeding.specs.Plot.{Mark, stroke, refusal, Plot, stop, store, drew, numbersOf, laidMarks}
 use Rattle.feeding.specs.FeedLaws.{draw-less}
 use Rattle.hpgl.specs.Valid.{mostChords, ValidWork, Valid}
@@ -40,7 +41,7 @@ use Rattle.hpgl.specs.ValidKept.{valid-draw}
 use Rattle.gathering.specs.declared.Stopped.{Stopped}
 use Rattle.gathering.specs.Gather.{whole, stoppedAs, stoppedOf, gatherFrom, Gathers, remainsOf, stuckOf, haltedOf, countAfter, withStroke, recordOf, putOf}
 use Rattle.gathering.specs.Far.{before, Far, Reached}
-use Rattle.gathering.specs.GatherLaws.{at-end, at-stuck, at-byte, at-refusal, at-refused, at-full, at-draw}
+use Rattle.gathering.specs.GatherLaws.{idle-free, reply-alone, at-end, at-held, at-stuck, at-byte, at-refusal, at-refused, at-full, at-draw}
 use Rattle.gathering.proofs.Turns.{Turn, nothing-is, quiet-turn, turn-number, turn-taken, turn-valid}
 
 -- no more wait than a circle has chords
@@ -50,6 +51,7 @@ waits-most Nothing h = omega arith
 waits-most (Line a b) h = omega arith
 waits-most (Chords o i n) h = omega (arith, h .1)
 waits-most (Edges i n) h = omega arith
+waits-most (Answer r) h = omega arith
 
 -- fewer wait after a draw
 pub waits-less : (m : State) (w : Work) → 0 < waiting (m .work) → w ≡ workAfter (m .work) → waiting w < waiting (m .work)
@@ -94,21 +96,28 @@ module _ (w : Work) (k room : ℕ) where
   one-free true h f e = let l = rw (eq-eqb k room e) at h in never l refl
   one-free false h f e = let l = rw (eq-eqb k room e) at h in never refl (f (omega (arith, ltb-false 0 (waiting w) l)))
 
-  halt-stuck : (on : Bool) {n : ℕ} → n ≡ haltedOf on w k room → 0 < n → (stuckOf on w k room ≡ true) × (n ≡ listFull)
-  unfolding haltedOf
-  halt-stuck on = go (stuckOf on w k room)
-    where
-      go : (b : Bool) {n : ℕ} → n ≡ cond b listFull 0 → 0 < n → (b ≡ true) × (n ≡ listFull)
-      go true e h = (refl, e)
-      go false e h = absurd (omega (arith, e, h))
+  -- why it halts
+  data Halts (on : Bool) (n : ℕ) : Type 0 where
+    held : replying w ≡ true → n ≡ busy → Halts on n
+    stuck : replying w ≡ false → stuckOf on w k room ≡ true → n ≡ listFull → Halts on n
 
-  not-halted : (on : Bool) {n : ℕ} → n ≡ haltedOf on w k room → n ≤ 0 → stuckOf on w k room ≡ false
+  halts : (on : Bool) {n : ℕ} → n ≡ haltedOf on w k room → 0 < n → Halts on n
   unfolding haltedOf
-  not-halted on = go (stuckOf on w k room)
+  halts on {n} = go (replying w) (stuckOf on w k room) refl refl
     where
-      go : (b : Bool) {n : ℕ} → n ≡ cond b listFull 0 → n ≤ 0 → b ≡ false
-      go true e h = absurd (omega (arith, e, h))
-      go false e h = refl
+      go : (a b : Bool) → replying w ≡ a → stuckOf on w k room ≡ b → n ≡ cond a busy (cond b listFull 0) → 0 < n → Halts on n
+      go true b p q e h = held p e
+      go false true p q e h = stuck p q e
+      go false false p q e h = absurd (omega (arith, e, h))
+
+  not-halted : (on : Bool) {n : ℕ} → n ≡ haltedOf on w k room → n ≤ 0 → (replying w ≡ false) × (stuckOf on w k room ≡ false)
+  unfolding haltedOf
+  not-halted on = go (replying w) (stuckOf on w k room)
+    where
+      go : (a b : Bool) {n : ℕ} → n ≡ cond a busy (cond b listFull 0) → n ≤ 0 → (a ≡ false) × (b ≡ false)
+      go true b e h = absurd (omega (arith, e, h))
+      go false true e h = absurd (omega (arith, e, h))
+      go false false e h = (refl, refl)
 
 -- ---- a draw stores one mark at most
 
@@ -175,7 +184,11 @@ far-start on m s entry at v = record {
 module _ {on : Bool} {all : Plot} {s : List ℕ} {entry now : List ℤ} {m : State} {at count : ℕ} (far : Far on all s entry now m at count) where
   -- there is room for a further mark, and for its numbers
   pub far-free : {n : ℕ} → n ≡ haltedOf on (m .work) count (length entry / 5) → n ≤ 0 → (waiting (m .work) ≡ 0 → on ≡ true) → count < length entry / 5
-  far-free e h f = omega (arith, one-free (m .work) count (length entry / 5) on (not-halted (m .work) count (length entry / 5) on e h) f, far .room)
+  far-free e h f = omega (arith, one-free (m .work) count (length entry / 5) on (not-halted (m .work) count (length entry / 5) on e h .1) f, far .room)
+
+  -- and no reply waits
+  pub far-silent : {n : ℕ} → n ≡ haltedOf on (m .work) count (length entry / 5) → n ≤ 0 → replying (m .work) ≡ false
+  far-silent e h = not-halted (m .work) count (length entry / 5) on e h .0
 
   pub far-fits : count < length entry / 5 → count * 5 + 5 ≤ length now
   far-fits h = omega (arith, mul-div-le (length entry) 5, far .long)
@@ -193,15 +206,16 @@ module _ {on : Bool} {all : Plot} {s : List ℕ} {entry now : List ℤ} {m : Sta
         far .laid ∙ sym (ap (λ (f : Plot). laidMarks (f .marks) entry) w ∙ ap (λ (ks : List Mark). laidMarks ks entry) z),
       )
 
-  far-full : remainsOf (m .work) at (length s) ≡ true → stuckOf on (m .work) count (length entry / 5) ≡ true → Gathers all entry now (stoppedAs m at count listFull)
-  far-full h k =
+  far-full : remainsOf (m .work) at (length s) ≡ true → replying (m .work) ≡ false → stuckOf on (m .work) count (length entry / 5) ≡ true →
+      Gathers all entry now (stoppedAs m at count listFull)
+  far-full h silent k =
       let z : length entry / 5 - count ≡ 0 = omega (arith, used-all (m .work) count (length entry / 5) on k) in
       far-stop m at listFull (ap (λ (r : ℕ). gatherFrom on m (drop at s) at r) z ∙ full (waiting (m .work)) refl)
     where
       full : (n : ℕ) → waiting (m .work) ≡ n → gatherFrom on m (drop at s) at 0 ≡ stop m at listFull
       full zero z =
           ap (λ (bs : List ℕ). gatherFrom on m bs at 0) (bytes-left (byte-remains (m .work) at (length s) h z))
-          ∙ at-stuck m at z (getD s at 0) (drop (at + 1) s) (stuck-on (m .work) count (length entry / 5) on k z)
+          ∙ at-stuck m at (idle-free (m .work) z silent) (getD s at 0) (drop (at + 1) s) (stuck-on (m .work) count (length entry / 5) on k z)
       full (suc n) z = at-full m (drop at s) at (omega (arith, z)) on
 
   -- a segment waits, and there is no record for it
@@ -211,7 +225,15 @@ module _ {on : Bool} {all : Plot} {s : List ℕ} {entry now : List ℤ} {m : Sta
       far-stop m at listFull (ap (λ (r : ℕ). gatherFrom on m (drop at s) at r) z ∙ at-full m (drop at s) at (omega (arith, h)) on)
 
   pub far-halted : remainsOf (m .work) at (length s) ≡ true → {n : ℕ} → n ≡ haltedOf on (m .work) count (length entry / 5) → 0 < n → Gathers all entry now (stoppedAs m at count n)
-  far-halted h e l = let k = halt-stuck (m .work) count (length entry / 5) on e l in subst (λ (n : ℕ). Gathers all entry now (stoppedAs m at count n)) (sym (k .1)) (far-full h (k .0))
+  far-halted h {n} e l = go n (halts (m .work) count (length entry / 5) on e l)
+    where
+      go : (n : ℕ) → Halts (m .work) count (length entry / 5) on n → Gathers all entry now (stoppedAs m at count n)
+      go n (stuck p q z) = subst (λ (n : ℕ). Gathers all entry now (stoppedAs m at count n)) (sym z) (far-full h p q)
+      go n (held p z) =
+          subst (λ (n : ℕ). Gathers all entry now (stoppedAs m at count n)) (sym z)
+          (far-stop m at busy
+          (ap (λ (bs : List ℕ). gatherFrom on m bs at (length entry / 5 - count)) (bytes-left (byte-remains (m .work) at (length s) h (reply-alone (m .work) p)))
+          ∙ at-held m at p (getD s at 0) (drop (at + 1) s) on (length entry / 5 - count)))
 
   pub far-end : waiting (m .work) ≡ 0 → length s ≤ at → Gathers all entry now (stoppedAs m at count 0)
   far-end h k = far-stop m at 0 (rw (drop-of-length-le s k) (at-end m at h on (length entry / 5 - count)))
@@ -280,7 +302,7 @@ module _ {on : Bool} {all : Plot} {s : List ℕ} {entry now : List ℤ} {m : Sta
     far-draw {d} e f g h = rw (f, g, h) (drawn-by d (sym e))
 
   -- a byte is taken
-  module _ {next : State} {q : Step} {t : Acted} (turn : Turn m (getD s at 0) q t next) (idle : waiting (m .work) ≡ 0) (h : at < length s) where
+  module _ {next : State} {q : Step} {t : Acted} (turn : Turn m (getD s at 0) q t next) (idle : occupied (m .work) ≡ false) (h : at < length s) where
     number-is : takeNumber m (getD s at 0) ≡ t .number
     number-is = turn-number m next (getD s at 0) q t turn idle
 
@@ -327,12 +349,12 @@ module _ {on : Bool} {all : Plot} {s : List ℕ} {entry now : List ℤ} {m : Sta
 
 module _ {on : Bool} {all : Plot} {s : List ℕ} {entry now : List ℤ} {count : ℕ} (free : on ≡ true → count < length entry / 5) where
   -- one byte, and then the others
-  next-byte : (m : State) (at : ℕ) → Far on all s entry now m at count → waiting (m .work) ≡ 0 → at < length s →
+  next-byte : (m : State) (at : ℕ) → Far on all s entry now m at count → occupied (m .work) ≡ false → at < length s →
       (let r = stepOf (m .reader) (getD s at 0) .reader in
       let n = whole r (m .core) (m .store) Nothing in
       Far on all s entry now n (at + 1) count → at + 1 < length s → Reached on all s entry now n (at + 1) count (nextOf r (drop (at + 1) s) (at + 1))) →
       Reached on all s entry now m at count (nextOf (m .reader) (drop at s) at)
-  unfolding waiting done
+  unfolding occupied replying replied waiting done
   next-byte m at far idle h rest = go (isNothing (v .event)) refl (ltb (at + 1) (length s)) refl
     where
       v : Step
@@ -344,7 +366,7 @@ module _ {on : Bool} {all : Plot} {s : List ℕ} {entry now : List ℤ} {count :
       go : (t : Bool) → isNothing (v .event) ≡ t → (l : Bool) → ltb (at + 1) (length s) ≡ l → Reached on all s entry now m at count (nextOf (m .reader) (drop at s) at)
       go false e l k =
           here (next-event (m .reader) (getD s at 0) (drop (at + 1) s) at e)
-          (record { reader = m .reader; work = m .work; place = at; further = omega arith; within = h; ends = refl; step = refl; idle = idle; far = far })
+          (record { reader = m .reader; work = m .work; place = at; further = omega arith; within = h; ends = refl; step = refl; free = idle; far = far })
       go true e true k =
           let r = rest (far-turn far (quiet-turn m (getD s at 0) e) idle h free refl) (ltb-true (at + 1) (length s) k) in
           here (next-quiet (m .reader) (getD s at 0) (drop (at + 1) s) at e)
@@ -356,7 +378,7 @@ module _ {on : Bool} {all : Plot} {s : List ℕ} {entry now : List ℤ} {count :
             within = r .within;
             ends = r .ends;
             step = r .step;
-            idle = r .idle;
+            free = r .free;
             far = r .far;
           })
       go true e false k =
@@ -372,16 +394,16 @@ module _ {on : Bool} {all : Plot} {s : List ℕ} {entry now : List ℤ} {count :
             within = h;
             ends = refl;
             step = ap (λ (x : Event). v .reader telling x) (sym (nothing-is (v .event) e));
-            idle = idle;
+            free = idle;
             far = far;
           })
 
-  next-bytes : (n : ℕ) (m : State) (at : ℕ) → length s ≤ at + n → Far on all s entry now m at count → waiting (m .work) ≡ 0 → at < length s →
+  next-bytes : (n : ℕ) (m : State) (at : ℕ) → length s ≤ at + n → Far on all s entry now m at count → occupied (m .work) ≡ false → at < length s →
       Reached on all s entry now m at count (nextOf (m .reader) (drop at s) at)
-  unfolding waiting
+  unfolding occupied replying replied waiting
   next-bytes zero m at l far idle h = absurd (omega arith)
   next-bytes (suc n) m at l far idle h = next-byte m at far idle h (λ f k. next-bytes n _ (at + 1) (omega arith) f refl k)
 
-  pub far-next : {m : State} {at : ℕ} → Far on all s entry now m at count → waiting (m .work) ≡ 0 → at < length s →
+  pub far-next : {m : State} {at : ℕ} → Far on all s entry now m at count → occupied (m .work) ≡ false → at < length s →
       Reached on all s entry now m at count (nextOf (m .reader) (drop at s) at)
   far-next {m} {at} far idle h = next-bytes (length s) m at (omega arith) far idle h

@@ -39,7 +39,8 @@ use Rattle.hpgl.specs.declared.Segment.the-variants as segment
 use Rattle.hpgl.specs.Cases.{pick}
 use Rattle.hpgl.specs.Pins.{pinned}
 use Rattle.hpgl.specs.Place.{limits}
-use Rattle.hpgl.specs.Rules.{done, letters, inked, longer, epRule, endRule, actOn}
+use Rattle.hpgl.specs.Rules.{done, letters, inked, longer, epRule, endRule, actOn, noting}
+use Rattle.hpgl.specs.Replies.{remembering, remembered}
 use Rattle.hpgl.specs.Machine.{waiting, stored, queued, readerAfter, workAfter}
 use Rattle.hpgl.specs.Segment.{workSegment, segmentOf, drawnOf, segment-drawn, SmallSegment, segment-small}
 use Rattle.feeding.specs.DrawOff.{listFull}
@@ -105,7 +106,7 @@ module _ {on : Bool} {all : Plot} {s : List ℕ} {entry now : List ℤ} {m : Sta
   -- a turn that nothing is stored in
   pub next-turned : {t : Acted} {next : State} → Turn last byte (q .reader telling q .event) t next → t .number ≡ 0 → (on ≡ true → count < length entry / 5) →
       Far on all s entry now next (q .at) count
-  next-turned turn z free = at-next (far-turn (r .far) turn (r .idle) (r .within) free z)
+  next-turned turn z free = at-next (far-turn (r .far) turn (r .free) (r .within) free z)
 
   -- there is room for a segment that has a record
   pub next-fits : (g : Segment) → overflowsOf g count (length entry / 5) ≡ false → (l : Rect) (p : ℕ) {d : Drawn} → d ≡ drawnOf l p g → countAfter d count * 5 ≤ length now
@@ -116,14 +117,14 @@ module _ {on : Bool} {all : Plot} {s : List ℕ} {entry now : List ℤ} {m : Sta
     next g = whole (q .reader) c (m .store) (leaves (m .store .edges) (m .core .carriage .polygon .edges) c (lineOf g))
 
     moved-turn : (g : Segment) → doing c g ≡ actOn (m .core) (q .event) → Turn last byte (q .reader telling q .event) (doing c g) (next g)
-    unfolding readerAfter stored queued lineOf
+    unfolding readerAfter stored queued lineOf noting remembering remembered
     moved-turn segment.Nothing e = record { step = r .step; act = e; reader = refl; core = refl; edges = refl; work = refl }
     moved-turn segment.PenUp e = record { step = r .step; act = e; reader = refl; core = refl; edges = refl; work = refl }
     moved-turn (segment.Line a b) e = record { step = r .step; act = e; reader = refl; core = refl; edges = refl; work = refl }
 
     -- what it leaves waits
     next-waits : (g : Segment) → doing c g ≡ actOn (m .core) (q .event) → (on ≡ true → count < length entry / 5) → Far on all s entry now (next g) (q .at) count
-    next-waits g e free = at-next (far-turn (r .far) (moved-turn g e) (r .idle) (r .within) free refl)
+    next-waits g e free = at-next (far-turn (r .far) (moved-turn g e) (r .free) (r .within) free refl)
 
     -- a segment for which there is no record ends it
     pub next-full : (g : Segment) → overflowsOf g count (length entry / 5) ≡ true → doing c g ≡ actOn (m .core) (q .event) → (on ≡ true → count < length entry / 5) →
@@ -141,12 +142,12 @@ module _ {on : Bool} {all : Plot} {s : List ℕ} {entry now : List ℤ} {m : Sta
     next-small segment.Nothing e = tt
     next-small segment.PenUp e = tt
     next-small (segment.Line a b) e =
-        segment-small {m = next (segment.Line a b)} (turn-valid last (next (segment.Line a b)) byte _ _ (moved-turn (segment.Line a b) e) (r .idle) (r .far .valid))
+        segment-small {m = next (segment.Line a b)} (turn-valid last (next (segment.Line a b)) byte _ _ (moved-turn (segment.Line a b) e) (r .free) (r .far .valid))
 
     -- and is drawn
     module _ (free : on ≡ true → count < length entry / 5) where
       turned : (g : Segment) → doing c g ≡ actOn (m .core) (q .event) → Far on all s entry now (next g) (r .place + 1) count
-      turned g e = far-turn (r .far) (moved-turn g e) (r .idle) (r .within) free refl
+      turned g e = far-turn (r .far) (moved-turn g e) (r .free) (r .within) free refl
 
       abbrev drawnBy : Segment → Drawn
       drawnBy g = drawnOf (limits (c .settings)) (c .carriage .pen .number) g
@@ -177,14 +178,14 @@ module _ {on : Bool} {all : Plot} {s : List ℕ} {entry now : List ℤ} {m : Sta
     points e = sym (rw (z, e) refl) ∙ acts
 
     pub next-point : (b : Bool) → was .empty ≡ b → {g : Polygon} → g ≡ longer was (t .cost) (t .hand .position) → Far on all s entry now (whole (q .reader) (coreOf (m .core .settings) (t .hand) g) (grown b) Nothing) (q .at) count
-    unfolding readerAfter stored queued done
+    unfolding readerAfter stored queued done noting remembering remembered
     next-point true e f = next-turned (record { step = r .step; act = points e; reader = refl; core = ap (coreOf (m .core .settings) (t .hand)) f; edges = refl; work = refl }) refl free
     next-point false e f = next-turned (record { step = r .step; act = points e; reader = refl; core = ap (coreOf (m .core .settings) (t .hand)) f; edges = refl; work = refl }) refl free
 
   -- EP: the stored edges wait
   pub next-outline : {k : ℕ} {n : Numbers} → q .event ≡ event.Ended k n → k ≡ EP → {w : Work} → w ≡ outlineOf (m .core .carriage .pen) (m .core .carriage .polygon .edges) →
       (on ≡ true → count < length entry / 5) → Far on all s entry now (whole (q .reader) (m .core) (m .store) w) (q .at) count
-  unfolding readerAfter done actOn endRule epRule
+  unfolding readerAfter done actOn endRule epRule noting remembering remembered
   next-outline {n = n} told e f free =
       let acts = ap (actOn (m .core)) (told ∙ ap (λ (k : ℕ). event.Ended k n) e) in
       let b = inked (m .core) in
@@ -196,8 +197,8 @@ module _ {on : Bool} {all : Plot} {s : List ℕ} {entry now : List ℤ} {m : Sta
       let caused = subst Caused (sym (ap (λ (x : Step). x .event) (r .step)) ∙ told) (cause-law (r .reader) byte) in
       subst (λ (n : ℕ). T (isCause n)) l caused
 
-  -- a refusal: the reader passes over the rest, and nothing is stored or queued
-  module _ {t : Acted} {x : Reader} {c : Core} (act : t ≡ actOn (m .core) (q .event)) (some : t .number ≡ 0 → ⊥) (off : x ≡ passedOver (q .reader)) (left : c ≡ t .core) where
+  -- a refusal: the reader passes over the rest, its number is remembered, and nothing is stored or queued
+  module _ {t : Acted} {x : Reader} {c : Core} (act : t ≡ actOn (m .core) (q .event)) (some : t .number ≡ 0 → ⊥) (off : x ≡ passedOver (q .reader)) (left : c ≡ noting (t .number) (t .core)) where
     keeps : t .action ≡ Keep
     keeps = subst (λ (t : Acted). (t .number ≡ 0 → ⊥) → t .action ≡ Keep) (sym act) (λ f. pinned (m .core) (q .event) .refused f .0) some
 
@@ -213,10 +214,10 @@ module _ {on : Bool} {all : Plot} {s : List ℕ} {entry now : List ℤ} {m : Sta
         d ≡ recordOf (refusal (t .number) (q .at)) → numbers ≡ withStroke d (count * 5) now → n ≡ count + 1 → Far on all s entry numbers (whole x c (m .store) Nothing) (q .at) n
     next-refusal o free e f h =
         at-next
-        (far-refusal (r .far) refused-turn (r .idle) (r .within) some o free (f ∙ (λ i. withStroke ((e ∙ ap (λ (k : ℕ). recordOf (refusal (t .number) k)) (r .ends)) i) (count * 5) now)) h)
+        (far-refusal (r .far) refused-turn (r .free) (r .within) some o free (f ∙ (λ i. withStroke ((e ∙ ap (λ (k : ℕ). recordOf (refusal (t .number) k)) (r .ends)) i) (count * 5) now)) h)
 
     -- or ends the feed
     pub next-refused : on ≡ false → Gathers all entry now (stoppedAs (whole x c (m .store) Nothing) (q .at) count (t .number))
     next-refused o =
         subst (λ (k : ℕ). Gathers all entry now (stoppedAs (whole x c (m .store) Nothing) k count (t .number))) (sym (r .ends))
-        (far-refused (r .far) refused-turn (r .idle) (r .within) some o)
+        (far-refused (r .far) refused-turn (r .free) (r .within) some o)

@@ -23,7 +23,7 @@ use Rattle.hpgl.specs.declared.Settings.{Settings}
 use Rattle.hpgl.specs.declared.Polygon.{Polygon}
 use Rattle.hpgl.specs.declared.Core.{Core}
 use Rattle.hpgl.specs.declared.Action.{Action}
-use Rattle.hpgl.specs.declared.Action.the-variants.{Keep, Line, Chords, Join, Outline, Rectangle}
+use Rattle.hpgl.specs.declared.Action.the-variants.{Keep, Line, Chords, Join, Outline, Rectangle, Answer}
 use Rattle.hpgl.proofs.Action.{the-type}
 use Rattle.hpgl.specs.declared.Edge.{Edge}
 use Rattle.hpgl.specs.declared.Work.{Work}
@@ -33,8 +33,9 @@ use Rattle.hpgl.specs.declared.State.{State}
 use Rattle.hpgl.specs.Cases.{never}
 use Rattle.hpgl.specs.Numbers.{tooFar, polygonFull, polygonBytes}
 use Rattle.hpgl.specs.Place.{location, inRange}
-use Rattle.hpgl.specs.Rules.{done, refuse, letters, moveTo, pointCost, storePoint, aimed, goTo, pairRule, endRule, actOn}
-use Rattle.hpgl.specs.Machine.{waiting, stored, queued, readerAfter, applied, acted, takeState, takeNumber}
+use Rattle.hpgl.specs.Rules.{done, refuse, letters, moveTo, pointCost, storePoint, aimed, goTo, pairRule, noting, noted, endRule, actOn}
+use Rattle.hpgl.specs.Replies.{remembering, remembered}
+use Rattle.hpgl.specs.Machine.{occupied, stored, queued, readerAfter, applied, acted, takeState, takeNumber}
 use Rattle.hpgl.specs.Valid.{Valid}
 use Rattle.hpgl.specs.ValidKept.{valid-take}
 use Rattle.rulekit.specs.declared.hand.Hand.{Hand}
@@ -51,7 +52,7 @@ pub record Turn (m : State) (b : ℕ) (q : Step) (t : Acted) (next : State) : Ty
   pub step : q ≡ stepOf (m .reader) b
   pub act : t ≡ actOn (m .core) (q .event)
   pub reader : next .reader ≡ readerAfter (q .reader) (t .number)
-  pub core : next .core ≡ t .core
+  pub core : next .core ≡ noting (t .number) (t .core)
   pub edges : next .store .edges ≡ stored (m .store .edges) (m .core .carriage .polygon .edges) (t .action)
   pub work : next .work ≡ leaves (m .store .edges) (m .core .carriage .polygon .edges) (t .core) (t .action)
 
@@ -75,7 +76,7 @@ nothing-is (event.Refused k) h = absurd (true≢false (sym h))
 -- a byte that means nothing yet
 pub quiet-turn : (m : State) (b : ℕ) → let q = stepOf (m .reader) b in
     isNothing (q .event) ≡ true → Turn m b q (done (m .core) Keep) (whole (q .reader) (m .core) (m .store) Nothing)
-unfolding actOn done readerAfter stored queued
+unfolding actOn done noting remembering remembered readerAfter stored queued
 quiet-turn m b h = record {
   step = refl;
   act = rw (nothing-is (stepOf (m .reader) b .event) h) refl;
@@ -85,20 +86,20 @@ quiet-turn m b h = record {
   work = refl;
 }
 
-module _ (m next : State) (b : ℕ) (q : Step) (t : Acted) (turn : Turn m b q t next) (idle : waiting (m .work) ≡ 0) where
-  acted-is : t ≡ acted m b
+module _ (m next : State) (b : ℕ) (q : Step) (t : Acted) (turn : Turn m b q t next) (free : occupied (m .work) ≡ false) where
+  acted-is : noted t ≡ acted m b
   unfolding acted
-  acted-is = turn .act ∙ ap (λ (x : Step). actOn (m .core) (x .event)) (turn .step)
+  acted-is = ap noted (turn .act ∙ ap (λ (x : Step). actOn (m .core) (x .event)) (turn .step))
 
   pub turn-number : takeNumber m b ≡ t .number
-  unfolding takeNumber
-  turn-number = rw (eq-eqb (waiting (m .work)) 0 idle) (ap (λ (x : Acted). x .number) (sym acted-is))
+  unfolding takeNumber noted
+  turn-number = rw free (ap (λ (x : Acted). x .number) (sym acted-is))
 
   pub turn-taken : takeState m b ≡ next
-  unfolding takeState applied
+  unfolding takeState applied noted noting
   turn-taken =
-      let parts : next ≡ applied m (q .reader) t = λ i. record { reader = turn .reader i; core = turn .core i; store = record { edges = turn .edges i }; work = turn .work i } in
-      rw (eq-eqb (waiting (m .work)) 0 idle) (sym (parts ∙ ap₂ (λ (x : Step) (y : Acted). applied m (x .reader) y) (turn .step) acted-is))
+      let parts : next ≡ applied m (q .reader) (noted t) = λ i. record { reader = turn .reader i; core = turn .core i; store = record { edges = turn .edges i }; work = turn .work i } in
+      rw free (sym (parts ∙ ap₂ (λ (x : Step) (y : Acted). applied m (x .reader) y) (turn .step) acted-is))
 
   pub turn-valid : Valid m → Valid next
   turn-valid v = subst Valid turn-taken (valid-take b v)
@@ -158,10 +159,12 @@ pair-refused c n f = go (inRange (location (c .settings) (aimed c n))) (c .carri
 -- ---- an action that leaves the store, by its tag
 
 abbrev pub Unjoined : Action → Type 0
-Unjoined a = OneOf (0 ∷ 1 ∷ 2 ∷ 4 ∷ 5 ∷ []) (tagOf the-type a)
+Unjoined a = OneOf (0 ∷ 1 ∷ 2 ∷ 4 ∷ 5 ∷ 6 ∷ []) (tagOf the-type a)
 
 no-join : (e : Edge) → Unjoined (Join e) → ⊥
-no-join e h = ⊎-elim (λ e. omega (arith, e)) (⊎-elim (λ e. omega (arith, e)) (⊎-elim (λ e. omega (arith, e)) (⊎-elim (λ e. omega (arith, e)) (λ e. omega (arith, e))))) h
+no-join e h =
+    ⊎-elim (λ e. omega (arith, e))
+    (⊎-elim (λ e. omega (arith, e)) (⊎-elim (λ e. omega (arith, e)) (⊎-elim (λ e. omega (arith, e)) (⊎-elim (λ e. omega (arith, e)) (λ e. omega (arith, e)))))) h
 
 pub unstored : (es : List Edge) (k : ℕ) (a : Action) → heavyOf a ≡ false → Unjoined a → es ≡ stored es k a
 unfolding stored heavyOf
@@ -171,3 +174,4 @@ unstored es k (Chords o) h j = refl
 unstored es k (Join e) h j = absurd (no-join e j)
 unstored es k Outline h j = refl
 unstored es k (Rectangle p q b) h j = never h refl
+unstored es k (Answer r) h j = refl

@@ -1,6 +1,6 @@
 -- How far a feed or a plot is.
 use mathlib.Core.Path.{_≡_}
-use mathlib.Core.Bool.{Bool}
+use mathlib.Core.Bool.{Bool, false}
 use mathlib.Core.List.{List, _++_}
 use Prim.Native.Nat.{ℕ, _+_, _-_, _/_, _≤_, _<_}
 use lib.IntN.{ℤ}
@@ -13,7 +13,7 @@ use Rattle.hpgl.specs.declared.Core.{Core}
 use Rattle.hpgl.specs.declared.Store.{Store}
 use Rattle.hpgl.specs.declared.Work.{Work}
 use Rattle.hpgl.specs.declared.State.{State}
-use Rattle.hpgl.specs.Machine.{waiting}
+use Rattle.hpgl.specs.Machine.{waiting, occupied}
 use Rattle.feeding.specs.Plot.{Mark, Plot, laidMarks}
 use Rattle.hpgl.specs.Valid.{Valid}
 use Rattle.rulekit.specs.declared.places.Frame.{Frame}
@@ -43,7 +43,7 @@ pub record Reached (on : Bool) (all : Plot) (s : List ℕ) (entry now : List ℤ
   pub within : place < length s
   pub ends : q .at ≡ place + 1
   pub step : (q .reader telling q .event) ≡ stepOf reader (getD s place 0)
-  pub idle : waiting work ≡ 0
+  pub free : occupied work ≡ false
   pub far : Far on all s entry now (whole reader (m .core) (m .store) work) place count
 
 -- ---- work that is drawn by a loop of its own

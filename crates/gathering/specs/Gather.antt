@@ -12,7 +12,7 @@ use Rattle.hpgl.specs.declared.Store.{Store}
 use Rattle.hpgl.specs.declared.Pen.{Pen}
 use Rattle.hpgl.specs.declared.Circle.{Circle}
 use Rattle.hpgl.specs.declared.Work.{Work}
-use Rattle.hpgl.specs.declared.Work.the-variants.{Nothing, Line, Chords, Edges}
+use Rattle.hpgl.specs.declared.Work.the-variants.{Nothing, Line, Chords, Edges, Answer}
 use Rattle.hpgl.specs.declared.Action.{Action}
 use Rattle.hpgl.specs.declared.Action.the-variants as action
 use Rattle.hpgl.specs.declared.State.{State}
@@ -22,7 +22,8 @@ use Rattle.hpgl.specs.declared.Segment.the-variants as segment
 use Rattle.hpgl.specs.declared.Drawn.{Drawn}
 use Rattle.hpgl.specs.declared.Drawn.the-variants as drawn
 use Rattle.feeding.specs.DrawOff.{listFull}
-use Rattle.hpgl.specs.Machine.{waiting}
+use Rattle.hpgl.specs.Numbers.{busy}
+use Rattle.hpgl.specs.Machine.{waiting, replying}
 use Rattle.feeding.specs.Feed.{Feed, feedFrom}
 use Rattle.feeding.specs.Plot.{Mark, stroke, refusal, Plot, plotFrom, laidMarks}
 use Rattle.gathering.specs.declared.Stopped.{Stopped}
@@ -61,9 +62,9 @@ remainsOf w at end = cond (ltb at end) true (ltb 0 (waiting w))
 unfoldable pub stuckOf : Bool → Work → ℕ → ℕ → Bool
 stuckOf on w k room = cond (eqb k room) (cond on true (ltb 0 (waiting w))) false
 
--- the number that ends it there, or 0
+-- the number that ends it there, or 0; 20 where a reply waits
 unfoldable pub haltedOf : Bool → Work → ℕ → ℕ → ℕ
-haltedOf on w k room = cond (stuckOf on w k room) listFull 0
+haltedOf on w k room = cond (replying w) busy (cond (stuckOf on w k room) listFull 0)
 
 -- a segment that may need a record, of which all are used
 unfoldable pub overflowsOf : Segment → ℕ → ℕ → Bool
@@ -77,6 +78,7 @@ batchedOf Nothing = false
 batchedOf (Line a b) = false
 batchedOf (Chords o i n) = true
 batchedOf (Edges i n) = false
+batchedOf (Answer r) = false
 
 -- an action that changes the store by more than one edge
 unfoldable pub heavyOf : Action → Bool
@@ -86,6 +88,7 @@ heavyOf (action.Chords o) = false
 heavyOf (action.Join e) = false
 heavyOf action.Outline = false
 heavyOf (action.Rectangle p q shown) = true
+heavyOf (action.Answer r) = false
 
 -- the marks after a draw, of k before it
 unfoldable pub countAfter : Drawn → ℕ → ℕ

@@ -32,12 +32,15 @@ use queue::drawing::segment;
 use queue::drawing::vertex;
 use queue::drawing::work_after;
 use queue::storing::queued;
+use queue::storing::replying;
 use queue::storing::stored;
 use queue::storing::waiting;
 use reader::Event;
 use reader::Reader;
 use rulekit::hand::core_of;
 use rulekit::hand::hand_of;
+use rulekit::hand::noted;
+use rulekit::numbers::BUSY;
 use rulekit::numbers::LIST_FULL;
 use rulekit::places::Frame;
 use rulekit::places::frame_of;
@@ -143,11 +146,15 @@ fn remains(w: Work, at: usize, end: usize) -> bool
     0 < waiting(w)
 }
 
-// The number that ends it before what comes next, or 0: all records are used, and a segment needs one, or, where refusals are stored, any byte.
+// The number that ends it before what comes next, or 0: a reply waits, and no byte is taken; all records are used, and a segment needs one, or,
+// where refusals are stored, any byte.
 fn halted(on: bool, w: Work, count: usize, room: usize) -> u8
     requires { ⌜ count ≤ room ⌝ }
     ensures { λ r. ⌜ r ≡ S.haltedOf on w count room ⌝ }
 {
+    if replying(w) {
+        return BUSY;
+    }
     if count < room {
         return 0;
     }
@@ -246,6 +253,7 @@ fn batched(w: Work) -> bool
         Work::Line(_, _) => false,
         Work::Chords(_, _, _) => true,
         Work::Edges(_, _) => false,
+        Work::Answer(_) => false,
     }
 }
 
@@ -276,6 +284,10 @@ fn batch(
             work: w,
             count: before,
         },
+        Work::Answer(_) => Progress {
+            work: w,
+            count: before,
+        },
     }
 }
 
@@ -290,6 +302,7 @@ fn heavy(a: Action) -> bool
         Action::Join(_) => false,
         Action::Outline => false,
         Action::Rectangle(_, _, _) => true,
+        Action::Answer(_) => false,
     }
 }
 
@@ -426,11 +439,13 @@ pub fn gather(m: State, bytes: &[u8], from: usize, numbers: &mut [i64], on: bool
                 if t.number > 0 {
                     // PM2 may be refused and end polygon mode all the same
                     reader = reader.passed_over();
+                    hand = noted(hand, t.number);
                     if on {
                         count = put_record(numbers, count, refusal_record(t.number, at));
                         continue;
                     }
-                    return gathered(reader, core, store, work, at, count, t.number);
+                    let left = core_of(settings, hand, polygon);
+                    return gathered(reader, left, store, work, at, count, t.number);
                 }
                 let action = t.action;
                 if let Action::Join(e) = action {
@@ -449,8 +464,9 @@ pub fn gather(m: State, bytes: &[u8], from: usize, numbers: &mut [i64], on: bool
             }
             Event::Refused(k) => number = k,
         }
-        // refused: all else is as it was
+        // refused: but for what is remembered of it, all else is as it was
         reader = reader.passed_over();
+        hand = noted(hand, number);
         if on {
             count = put_record(numbers, count, refusal_record(number, at));
             continue;

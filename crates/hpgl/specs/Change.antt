@@ -8,6 +8,7 @@ use Rattle.hpgl.specs.declared.Window.{Window}
 use Rattle.hpgl.specs.declared.Settings.{Settings}
 use Rattle.hpgl.specs.declared.Pen.{Pen}
 use Rattle.hpgl.specs.declared.Polygon.{Polygon}
+use Rattle.hpgl.specs.declared.Memory.{Memory}
 use Rattle.hpgl.specs.declared.Carriage.{Carriage}
 use Rattle.hpgl.specs.declared.Core.{Core}
 use Rattle.hpgl.specs.declared.Work.{Work}
@@ -21,16 +22,19 @@ withWork m w = record { reader = m .reader; core = m .core; store = m .store; wo
 -- ---- the carriage
 
 abbrev pub withPosition : Carriage → Position → Carriage
-withPosition c p = record { position = p; pen = c .pen; relative = c .relative; polygon = c .polygon }
+withPosition c p = record { position = p; pen = c .pen; relative = c .relative; polygon = c .polygon; memory = c .memory }
 
 abbrev pub withPen : Carriage → Pen → Carriage
-withPen c p = record { position = c .position; pen = p; relative = c .relative; polygon = c .polygon }
+withPen c p = record { position = c .position; pen = p; relative = c .relative; polygon = c .polygon; memory = c .memory }
 
 abbrev pub withRelative : Carriage → Bool → Carriage
-withRelative c r = record { position = c .position; pen = c .pen; relative = r; polygon = c .polygon }
+withRelative c r = record { position = c .position; pen = c .pen; relative = r; polygon = c .polygon; memory = c .memory }
 
 abbrev pub withPolygon : Carriage → Polygon → Carriage
-withPolygon c g = record { position = c .position; pen = c .pen; relative = c .relative; polygon = g }
+withPolygon c g = record { position = c .position; pen = c .pen; relative = c .relative; polygon = g; memory = c .memory }
+
+abbrev pub withMemory : Carriage → Memory → Carriage
+withMemory c n = record { position = c .position; pen = c .pen; relative = c .relative; polygon = c .polygon; memory = n }
 
 -- ---- the core
 

@@ -1,10 +1,11 @@
 -- Condition 3, as one claim about a whole list of calls: the statement alone. Condition3Proof.antt proves it.
 --
--- The calls are take, with any byte and any answer, and draw, in any order; the list may be empty. The first gets the machine that fresh returned,
--- with 10 too, each later one the machine that the call before it left. The exact model is fed with the same calls and nothing else.
+-- The calls are take, with any byte and any answer, draw, and fetch, with a buffer of any length (document 02, CR 5), in any order; the list may be empty. The first
+-- gets the machine that fresh returned, with 10 too, each later one the machine that the call before it left. The exact model is fed with the same calls and nothing else.
 --
 -- Among the machines that it excludes: one that loses a segment or draws it out of order, takes a byte while one waits, clips to other limits, paints
--- with another pen, says "hidden" of what shows or "idle" while one waits, or shows an edge that was reached pen up.
+-- with another pen, says "hidden" of what shows or "idle" while one waits, or shows an edge that was reached pen up; and one that
+-- takes a byte while a reply waits, loses a reply, or tells what is so when it is fetched and not when it was asked for.
 use mathlib.Core.Path.{_≡_}
 use mathlib.Core.Bool.{true}
 use mathlib.Core.List.{List, [], _∷_}
@@ -21,21 +22,24 @@ use Rattle.hpgl.specs.declared.Stroke.{Stroke}
 use Rattle.hpgl.specs.declared.Drawn.{Drawn}
 use Rattle.hpgl.specs.declared.Drawn.the-variants as drawn
 use Rattle.hpgl.specs.Place.{point, limits}
-use Rattle.hpgl.specs.Machine.{hardLimits, freshState, takeState, strokeOf, drawState, drawAnswer}
-use Rattle.hpgl.specs.ExactModel.{ExactSegment, Model, freshModel, takeModel, drawModel}
+use Rattle.hpgl.specs.Machine.{hardLimits, freshState, takeState, strokeOf, drawState, drawAnswer, fetchState, fetchedOf, fetchText}
+use Rattle.hpgl.specs.ExactModel.{ExactSegment, Model, freshModel, takeModel, drawModel, fetchModel}
 
 pub data Call : Type 0 where
   take : (b : ℕ) → b < 256 → Call
   draw : Call
+  fetch : (room : ℕ) → Call
 
 -- the machine and the model after a call
 unfoldable pub stateAfter : State → Call → State
 stateAfter m (take b h) = takeState m b
 stateAfter m draw = drawState m
+stateAfter m (fetch room) = fetchState m room
 
 unfoldable pub modelAfter : Model → Call → Model
 modelAfter p (take b h) = takeModel p b
 modelAfter p draw = drawModel p
+modelAfter p (fetch room) = fetchModel p room
 
 -- ---- what a draw promises
 
@@ -77,9 +81,11 @@ Holds c (g ∷ gs) drawn.Idle = ⊥
 Holds c (g ∷ gs) drawn.Hidden = Unseen c g
 Holds c (g ∷ gs) (drawn.Stroke s) = Painted c g s
 
+-- and a fetch writes the reply that the model made
 unfoldable pub HoldsAt : State → Model → Call → Type 0
 HoldsAt m p (take b h) = Unit
 HoldsAt m p draw = Holds (p .core .settings) (p .queue) (drawAnswer m)
+HoldsAt m p (fetch room) = fetchText m room ≡ fetchedOf (p .reply) room
 
 -- each call of the list, at the machine and the model that the calls before it left
 unfoldable pub HoldsAll : State → Model → List Call → Type 0

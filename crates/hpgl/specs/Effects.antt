@@ -1,7 +1,7 @@
 -- Who may change what, and what it is set to (document 01, "Position", "Rectangles and polygons", "Causes and numbers"; document 02): a line for each thing that happens, with the
 -- parts of the machine that it changes. All that a line does not name is as it was before. The rules (Rules.antt) are written once more here, by parts and not by steps;
 -- EffectsProof.antt proves that both say the same of every machine that the calls make.
-use mathlib.Core.Bool.{Bool, true, false, cond, not, _&&_}
+use mathlib.Core.Bool.{Bool, true, false, cond, not, _&&_, _||_}
 use Prim.Native.Nat.{ℕ, _+_, _/_}
 use lib.Dec.{eqb}
 use lib.IntN.{ℤ, pos, natAbs, _+ℤ_, _-ℤ_}
@@ -21,7 +21,7 @@ use Rattle.hpgl.specs.declared.Polygon.{Polygon}
 use Rattle.hpgl.specs.declared.Core.{Core}
 use Rattle.hpgl.specs.Place.{point, rounded, axisX, axisY, location, absolutePosition, relativePosition, restAt, pagePoint}
 use Rattle.hpgl.specs.Rules.{unscaled, noWindow, closes, sweptAngle, wayFrom}
-use Rattle.hpgl.specs.Instruction.{Instruction, IN, DF, EP, IP, SC, IW, RO, SP, PM, CI, EA, ER, AA, AR, PU, PD, PA, PR}
+use Rattle.hpgl.specs.Instruction.{Instruction, IN, DF, EP, IP, SC, IW, RO, SP, PM, CI, EA, ER, AA, AR, OA, OP, OW, OH, OE, PU, PD, PA, PR}
 
 -- ---- the parts, and how one is set. `c ▸ s` is c with the part that s names set as s says
 
@@ -31,26 +31,30 @@ c ▸ s = s c
 
 -- the pen: down or up; its number; whether the PU or PD that is read changed it and no pair came yet
 abbrev pub penDown : Bool → Core → Core
-penDown b c = record { settings = c .settings; carriage = record { position = c .carriage .position; pen = record { number = c .carriage .pen .number; down = b; changed = c .carriage .pen .changed }; relative = c .carriage .relative; polygon = c .carriage .polygon } }
+penDown b c = record { settings = c .settings; carriage = record { position = c .carriage .position; pen = record { number = c .carriage .pen .number; down = b; changed = c .carriage .pen .changed }; relative = c .carriage .relative; polygon = c .carriage .polygon; memory = c .carriage .memory } }
 
 abbrev pub penNumber : ℕ → Core → Core
-penNumber k c = record { settings = c .settings; carriage = record { position = c .carriage .position; pen = record { number = k; down = c .carriage .pen .down; changed = c .carriage .pen .changed }; relative = c .carriage .relative; polygon = c .carriage .polygon } }
+penNumber k c = record { settings = c .settings; carriage = record { position = c .carriage .position; pen = record { number = k; down = c .carriage .pen .down; changed = c .carriage .pen .changed }; relative = c .carriage .relative; polygon = c .carriage .polygon; memory = c .carriage .memory } }
 
 abbrev pub penChanged : Bool → Core → Core
-penChanged b c = record { settings = c .settings; carriage = record { position = c .carriage .position; pen = record { number = c .carriage .pen .number; down = c .carriage .pen .down; changed = b }; relative = c .carriage .relative; polygon = c .carriage .polygon } }
+penChanged b c = record { settings = c .settings; carriage = record { position = c .carriage .position; pen = record { number = c .carriage .pen .number; down = c .carriage .pen .down; changed = b }; relative = c .carriage .relative; polygon = c .carriage .polygon; memory = c .carriage .memory } }
 
 -- relative or absolute mode
 abbrev pub relative : Bool → Core → Core
-relative b c = record { settings = c .settings; carriage = record { position = c .carriage .position; pen = c .carriage .pen; relative = b; polygon = c .carriage .polygon } }
+relative b c = record { settings = c .settings; carriage = record { position = c .carriage .position; pen = c .carriage .pen; relative = b; polygon = c .carriage .polygon; memory = c .carriage .memory } }
 
 -- B and O on both axes
 abbrev pub position : Position → Core → Core
-position p c = record { settings = c .settings; carriage = record { position = p; pen = c .carriage .pen; relative = c .carriage .relative; polygon = c .carriage .polygon } }
+position p c = record { settings = c .settings; carriage = record { position = p; pen = c .carriage .pen; relative = c .carriage .relative; polygon = c .carriage .polygon; memory = c .carriage .memory } }
 
 -- polygon mode and bytes. How the polygon is kept besides (g) is no matter of this page: condition 3 judges it by what EP draws, `pm2-ends` by what PM2 restores
 abbrev pub polygon : Polygon → Bool → ℕ → Core → Core
 polygon g on n c =
-    record { settings = c .settings; carriage = record { position = c .carriage .position; pen = c .carriage .pen; relative = c .carriage .relative; polygon = record { mode = on; bytes = n; edges = g .edges; empty = g .empty; first = g .first; saved = g .saved } } }
+    record { settings = c .settings; carriage = record { position = c .carriage .position; pen = c .carriage .pen; relative = c .carriage .relative; polygon = record { mode = on; bytes = n; edges = g .edges; empty = g .empty; first = g .first; saved = g .saved }; memory = c .carriage .memory } }
+
+-- the refusal that OE tells (document 02, CR 5)
+abbrev pub refusal : ℕ → Core → Core
+refusal k c = record { settings = c .settings; carriage = record { position = c .carriage .position; pen = c .carriage .pen; relative = c .carriage .relative; polygon = c .carriage .polygon; memory = record { refusal = k } } }
 
 -- P1 and P2, scale, turn, window
 abbrev pub corners : Point → Point → Core → Core
@@ -170,7 +174,7 @@ leaves c n g =
 abbrev pub atEnd : {op : ℕ} → Instruction op → Core → Numbers → Polygon → Core
 atEnd IN c n g =
     c ▸ penDown false ▸ penChanged false ▸ relative false ▸ corners (point (c .settings .hard .left) (c .settings .hard .bottom)) (point (c .settings .hard .right) (c .settings .hard .top))
-    ▸ scale unscaled ▸ turn 0 ▸ window noWindow ▸ position (restAt (page c)) ▸ polygon g false 0
+    ▸ scale unscaled ▸ turn 0 ▸ window noWindow ▸ position (restAt (page c)) ▸ polygon g false 0 ▸ refusal 0
 atEnd DF c n g = c ▸ relative false ▸ scale unscaled ▸ window noWindow ▸ position (atRest c)
 atEnd IP c n g = c ▸ corners (newP1 c n) (newP2 c n) ▸ position (atRest c)
 atEnd SC c n g = c ▸ scale (newScale n) ▸ position (atRest c)
@@ -182,6 +186,11 @@ atEnd EA c n g = c ▸ polygon g false 49
 atEnd ER c n g = c ▸ polygon g false 49
 atEnd AA c n g = c ▸ position (restAt (arcEnd c (centreAA c n) n))
 atEnd AR c n g = c ▸ position (restAt (arcEnd c (centreAR c n) n))
+atEnd OE c n g = c ▸ refusal 0
+atEnd OA c n g = c
+atEnd OP c n g = c
+atEnd OW c n g = c
+atEnd OH c n g = c
 atEnd EP c n g = c
 atEnd CI c n g = c
 atEnd PU c n g = c
@@ -200,11 +209,15 @@ pub data Happens : Event → Type 0 where
   name : {op : ℕ} → Instruction op → Happens (event.Named op)
   pair : (n : Coordinates) → Happens (event.Pair n)
   end : {op : ℕ} → Instruction op → (n : Numbers) → Happens (event.Ended op n)
-  refusal : (k : ℕ) → Happens (event.Refused k)
+  refused : (k : ℕ) → Happens (event.Refused k)
 
 abbrev pub changedBy : {e : Event} → Happens e → Core → ℕ → Polygon → Core
 changedBy nothing c k g = c
 changedBy (name {op} i) c k g = cond (eqb k 0) (atName op c) c
 changedBy (pair n) c k g = cond (eqb k 0) (atPair c n g) c
 changedBy (end {op} i n) c k g = cond (eqb k 0) (atEnd i c n g) (atRefusal op c n k g)
-changedBy (refusal r) c k g = c
+changedBy (refused r) c k g = c
+
+-- and then, whatever it was, its number is remembered: "the latest 1, 2, 3, 6 or 7 that take gave"
+abbrev pub remembers : ℕ → Core → Core
+remembers k c = cond (eqb k 1 || eqb k 2 || eqb k 3 || eqb k 6 || eqb k 7) (c ▸ refusal k) c

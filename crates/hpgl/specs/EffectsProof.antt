@@ -1,7 +1,7 @@
 -- The rules change just what Effects.antt names. By cases over the rules, one lemma each: every leaf carries out, and then both sides are the same record, or refuses and
 -- leaves the core. Where the position rests, the turn there and back is the point itself.
 use mathlib.Core.Path.{_≡_, refl, sym, ap, _∙_}
-use mathlib.Core.Bool.{Bool, true, false, cond, not, _&&_, true≢false}
+use mathlib.Core.Bool.{Bool, true, false, cond, not, _&&_, _||_, true≢false}
 use Prim.Native.Nat.{ℕ, _+_, _/_, _<_}
 use native.Mathlib.Omega.{arith}
 use borrow.Author.Tests.{ltb-true}
@@ -32,12 +32,13 @@ use Rattle.hpgl.specs.declared.Acted.{Acted}
 use Rattle.hpgl.specs.Numbers.{unknown, outOfRange, tooFar, polygonFull, polygonBytes, modeBytes, pointBytes, mostPen, leastAngle}
 use Rattle.hpgl.specs.Place.{rounded, axisX, axisY, location, inRange, restAt, pagePoint}
 use Rattle.hpgl.specs.Change.{withPosition, withRelative, withPolygon, withCarriage, withCorners, withScale, withWindow}
-use Rattle.hpgl.specs.Rules.{done, refuse, unscaled, noWindow, inked, freshSettings, noPolygon, freshCarriage, letters, nameRule, rebased, inRule, dfRule, goodCorners, setCorners, carried, ipRule, scRule, setTurn, turnTo, roRule, setWindow, iwRule, setPen, spRule, moveTo, pointCost, longer, edgeTo, storePoint, aimed, goTo, pairRule, begun, pm0, closes, endedWith, ended, pm1In, pm1, leave, pm2In, pm2, pmRule, epRule, rectangular, rectangleTo, eaRule, erRule, circleFits, circleWith, chordAngle, ciRule, sweptAngle, wayFrom, arc, lastVertex, follow, arcAbout, aaRule, arRule, endRule, actOn}
-use Rattle.hpgl.specs.Instruction.{Instruction, IN, DF, EP, IP, SC, IW, RO, SP, PM, CI, EA, ER, AA, AR, PU, PD, PA, PR}
+use Rattle.hpgl.specs.Rules.{done, refuse, unscaled, noWindow, inked, freshSettings, noPolygon, freshCarriage, letters, nameRule, rebased, inRule, dfRule, goodCorners, setCorners, carried, ipRule, scRule, setTurn, turnTo, roRule, setWindow, iwRule, setPen, spRule, moveTo, pointCost, longer, edgeTo, storePoint, aimed, goTo, pairRule, begun, pm0, closes, endedWith, ended, pm1In, pm1, leave, pm2In, pm2, pmRule, epRule, rectangular, rectangleTo, eaRule, erRule, circleFits, circleWith, chordAngle, ciRule, sweptAngle, wayFrom, arc, lastVertex, follow, arcAbout, aaRule, arRule, oaRule, opRule, owRule, ohRule, oeRule, noting, endRule, actOn}
+use Rattle.hpgl.specs.Replies.{remembered, remembering}
+use Rattle.hpgl.specs.Instruction.{Instruction, IN, DF, EP, IP, SC, IW, RO, SP, PM, CI, EA, ER, AA, AR, OA, OP, OW, OH, OE, PU, PD, PA, PR}
 use Rattle.hpgl.specs.Related.{Sound}
 use Rattle.hpgl.specs.ArcCases.{by-arc}
 use Rattle.hpgl.specs.Effects as effects
-use Rattle.hpgl.specs.Effects.{_▸_, penNumber, corners, scale, turn, window, position, polygon, asked, changedBy, Happens, nothing, name, pair, end, refusal}
+use Rattle.hpgl.specs.Effects.{_▸_, penNumber, corners, scale, turn, window, position, polygon, asked, changedBy, Happens, nothing, name, pair, end, refused, remembers}
 
 module _ (c : Core) where
   record Obeys {e : Event} (k : Happens e) (t : Acted) : Type 0 where
@@ -292,7 +293,7 @@ module _ (c : Core) where
       either false = refl
 
   obeys-end : {op : ℕ} (i : Instruction op) (n : Numbers) → Sound (c .settings) → Obeys (end i n) (endRule c op n)
-  unfolding endRule eaRule erRule epRule aaRule arRule done windowed toTurn turned penned scaled
+  unfolding endRule eaRule erRule epRule aaRule arRule oaRule opRule owRule ohRule oeRule done windowed toTurn turned penned scaled
   obeys-end IN n h = obeys-in n
   obeys-end DF n h = obeys-df (h .turn) n
   obeys-end EP n h = record { is = refl }
@@ -307,6 +308,11 @@ module _ (c : Core) where
   obeys-end ER n h = record { is = carries-rectangle _ .is }
   obeys-end AA n h = record { is = sets-arc _ n h .is }
   obeys-end AR n h = record { is = sets-arc _ n h .is }
+  obeys-end OA n h = record { is = refl }
+  obeys-end OP n h = record { is = refl }
+  obeys-end OW n h = record { is = refl }
+  obeys-end OH n h = record { is = refl }
+  obeys-end OE n h = record { is = refl }
   obeys-end PU n h = record { is = refl }
   obeys-end PD n h = record { is = refl }
   obeys-end PA n h = record { is = refl }
@@ -319,4 +325,13 @@ obeyed c nothing h = refl
 obeyed c (name i) h = obeys-name c i .is
 obeyed c (pair n) h = obeys-pair c n .is
 obeyed c (end i n) h = obeys-end c i n h .is
-obeyed c (refusal k) h = refl
+obeyed c (refused k) h = refl
+
+-- and its number is remembered
+pub remembers-so : (k : ℕ) (c : Core) → noting k c ≡ remembers k c
+unfolding noting remembering remembered
+remembers-so k c = by (eqb k 1 || eqb k 2 || eqb k 3 || eqb k 6 || eqb k 7)
+  where
+    by : (b : Bool) → _≡_ {A = Core} (c ▸ effects.refusal (cond b k (c .carriage .memory .refusal))) (cond b (c ▸ effects.refusal k) c)
+    by true = refl
+    by false = refl

@@ -31,12 +31,17 @@ pub data Works : ℕ → Type 0 where
   ER : Works code.ER
   AA : Works code.AA
   AR : Works code.AR
+  OA : Works code.OA
+  OP : Works code.OP
+  OW : Works code.OW
+  OH : Works code.OH
+  OE : Works code.OE
 
 abbrev pub working : List ℕ
-working = code.IN ∷ code.DF ∷ code.EP ∷ code.IP ∷ code.SC ∷ code.IW ∷ code.RO ∷ code.SP ∷ code.PM ∷ code.CI ∷ code.EA ∷ code.ER ∷ code.AA ∷ code.AR ∷ []
+working = code.IN ∷ code.DF ∷ code.EP ∷ code.IP ∷ code.SC ∷ code.IW ∷ code.RO ∷ code.SP ∷ code.PM ∷ code.CI ∷ code.EA ∷ code.ER ∷ code.AA ∷ code.AR ∷ code.OA ∷ code.OP ∷ code.OW ∷ code.OH ∷ code.OE ∷ []
 
 works : (op : ℕ) → among op working ≡ true → Works op
-works = listed Works working (IN ⨾ DF ⨾ EP ⨾ IP ⨾ SC ⨾ IW ⨾ RO ⨾ SP ⨾ PM ⨾ CI ⨾ EA ⨾ ER ⨾ AA ⨾ AR ⨾ none)
+works = listed Works working (IN ⨾ DF ⨾ EP ⨾ IP ⨾ SC ⨾ IW ⨾ RO ⨾ SP ⨾ PM ⨾ CI ⨾ EA ⨾ ER ⨾ AA ⨾ AR ⨾ OA ⨾ OP ⨾ OW ⨾ OH ⨾ OE ⨾ none)
 
 -- PU, PD, PA, PR have done their work, and no name gives a code beyond the table.
 pub record Rests (op : ℕ) : Type 0 where
@@ -64,6 +69,11 @@ rests c op n r =
       other r code.ER refl,
       other r code.AA refl,
       other r code.AR refl,
+      other r code.OA refl,
+      other r code.OP refl,
+      other r code.OW refl,
+      other r code.OH refl,
+      other r code.OE refl,
     ) refl
 
 pub pairs-end : (c : Core) (op : ℕ) (n : Numbers) → takesPairs op ≡ true → endRule c op n ≡ done c Keep

@@ -1,11 +1,12 @@
 -- The exact model: what is owed paint, by the documents' words (01, "Strokes"; 02), at exact positions and in a queue. It is fed with the calls alone.
 -- Reading, settings and position go by the same rules as the machine's; but what joins the polygon and the queue is decided here, from the event, the
--- number and the positions before and after. It never looks at the machine's actions, store, work or counts.
+-- number and the positions before and after, and so is what is replied. It never looks at the machine's actions, store, work or counts.
 use Prim.Native.Nat.{ℕ, zero, suc, _+_}
 use mathlib.Core.Bool.{Bool, true, cond, not, _||_}
 use mathlib.Core.List.{List, [], _∷_, _++_}
-use lib.Dec.{eqb}
+use lib.Dec.{eqb, leb}
 use lib.IntN.{ℤ, pos, natAbs}
+use lib.ListN.{length}
 use Rattle.clip.specs.Line.{Exact, nearest}
 use Rattle.clip.specs.declared.Point.{Point}
 use Rattle.clip.specs.declared.Rect.{Rect}
@@ -23,8 +24,10 @@ use Rattle.plane.specs.Arc.{partsOf, bendOf, exactArc}
 use Rattle.hpgl.specs.declared.Position.{Position}
 use Rattle.hpgl.specs.declared.Settings.{Settings}
 use Rattle.hpgl.specs.declared.Core.{Core}
+use Rattle.hpgl.specs.declared.Reply.{Reply}
+use Rattle.hpgl.specs.Replies.{noReply, replyOf, replyText}
 use Rattle.hpgl.specs.Place.{axisX, axisY, exactPosition, absolutePosition, relativePosition}
-use Rattle.hpgl.specs.Rules.{freshCore, differ, chordAngle, sweptAngle, arcAngle, wayFrom, actOn}
+use Rattle.hpgl.specs.Rules.{freshCore, differ, chordAngle, sweptAngle, arcAngle, wayFrom, actOn, noted}
 use Rattle.hpgl.specs.Machine.{readerAfter}
 
 -- ---- what the model has
@@ -56,6 +59,8 @@ pub record Model : Type 0 where
   pub core : Core
   pub polygon : ExactPolygon
   pub queue : List ExactSegment
+  -- the reply that waits; of no numbers, none does
+  pub reply : Reply
 
 -- ---- segments
 
@@ -197,14 +202,24 @@ added c d (Pair p) g = move c d
 added c d (Ended op n) g = instructed c d op n g
 added c d (Refused k) g = []
 
+-- ---- the reply
+
+-- "The reply is made when its instruction is carried out": by the core before it
+unfoldable pub answered : Core → Event → Reply
+answered c Nothing = noReply
+answered c (Named op) = noReply
+answered c (Pair p) = noReply
+answered c (Ended op n) = replyOf c op
+answered c (Refused k) = noReply
+
 -- ---- the calls
 
 unfoldable pub freshModel : Rect → Model
-freshModel r = record { reader = freshReader; core = freshCore r; polygon = noPoints; queue = [] }
+freshModel r = record { reader = freshReader; core = freshCore r; polygon = noPoints; queue = []; reply = noReply }
 
--- the core and the number of an event, by the rules of reading, settings and position
+-- the core and the number of an event, by the rules of reading, settings and position; the number is remembered
 unfoldable pub coreAfter : Core → Event → Core
-coreAfter c e = actOn c e .core
+coreAfter c e = noted (actOn c e) .core
 
 unfoldable pub numberOf : Core → Event → ℕ
 numberOf c e = actOn c e .number
@@ -213,17 +228,18 @@ numberOf c e = actOn c e .number
 unfoldable pub taken : Model → Reader → Event → ℕ → Core → Model
 taken m r e zero d =
     let g : ExactPolygon = polygonAfter (m .core) d e (m .polygon) in
-    record { reader = r; core = d; polygon = g; queue = m .queue ++ added (m .core) d e g }
-taken m r e (suc k) d = record { reader = readerAfter r (suc k); core = d; polygon = m .polygon; queue = m .queue }
+    record { reader = r; core = d; polygon = g; queue = m .queue ++ added (m .core) d e g; reply = answered (m .core) e }
+taken m r e (suc k) d = record { reader = readerAfter r (suc k); core = d; polygon = m .polygon; queue = m .queue; reply = noReply }
 
--- a take while a segment waits is refused, and leaves all
-unfoldable pub takeWhen : Model → List ExactSegment → ℕ → Model
-takeWhen m [] b =
+-- a take while a segment waits is refused, and leaves all; so is one while a reply waits, of k numbers
+unfoldable pub takeWhen : Model → List ExactSegment → ℕ → ℕ → Model
+takeWhen m [] zero b =
     taken m (stepOf (m .reader) b .reader) (stepOf (m .reader) b .event) (numberOf (m .core) (stepOf (m .reader) b .event)) (coreAfter (m .core) (stepOf (m .reader) b .event))
-takeWhen m (s ∷ ss) b = m
+takeWhen m [] (suc k) b = m
+takeWhen m (s ∷ ss) k b = m
 
 unfoldable pub takeModel : Model → ℕ → Model
-takeModel m b = takeWhen m (m .queue) b
+takeModel m b = takeWhen m (m .queue) (m .reply .count) b
 
 -- "A draw removes the first and works off that one; on an empty queue it changes nothing."
 unfoldable pub rest : List ExactSegment → List ExactSegment
@@ -231,4 +247,13 @@ rest [] = []
 rest (s ∷ ss) = ss
 
 unfoldable pub drawModel : Model → Model
-drawModel m = record { reader = m .reader; core = m .core; polygon = m .polygon; queue = rest (m .queue) }
+drawModel m = record { reader = m .reader; core = m .core; polygon = m .polygon; queue = rest (m .queue); reply = m .reply }
+
+-- a fetch takes the reply that waits, of k numbers, if the buffer is long enough, and leaves all else
+unfoldable pub fetchWhen : Model → ℕ → ℕ → Model
+fetchWhen m zero room = m
+fetchWhen m (suc k) room =
+    cond (leb (length (replyText (m .reply))) room) (record { reader = m .reader; core = m .core; polygon = m .polygon; queue = m .queue; reply = noReply }) m
+
+unfoldable pub fetchModel : Model → ℕ → Model
+fetchModel m room = fetchWhen m (m .reply .count) room

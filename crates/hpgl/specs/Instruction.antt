@@ -22,6 +22,11 @@ pub data Instruction : ℕ → Type 0 where
   ER : Instruction code.ER
   AA : Instruction code.AA
   AR : Instruction code.AR
+  OA : Instruction code.OA
+  OP : Instruction code.OP
+  OW : Instruction code.OW
+  OH : Instruction code.OH
+  OE : Instruction code.OE
 
 -- every code of the table is one of them
 pub instruction : (op : ℕ) → op < code.rows → Instruction op
@@ -43,4 +48,9 @@ instruction (suc (suc (suc (suc (suc (suc (suc (suc (suc (suc (suc (suc (suc (su
 instruction (suc (suc (suc (suc (suc (suc (suc (suc (suc (suc (suc (suc (suc (suc (suc zero))))))))))))))) h = ER
 instruction (suc (suc (suc (suc (suc (suc (suc (suc (suc (suc (suc (suc (suc (suc (suc (suc zero)))))))))))))))) h = AA
 instruction (suc (suc (suc (suc (suc (suc (suc (suc (suc (suc (suc (suc (suc (suc (suc (suc (suc zero))))))))))))))))) h = AR
-instruction (suc (suc (suc (suc (suc (suc (suc (suc (suc (suc (suc (suc (suc (suc (suc (suc (suc (suc op)))))))))))))))))) h = absurd (omega arith)
+instruction (suc (suc (suc (suc (suc (suc (suc (suc (suc (suc (suc (suc (suc (suc (suc (suc (suc (suc zero)))))))))))))))))) h = OA
+instruction (suc (suc (suc (suc (suc (suc (suc (suc (suc (suc (suc (suc (suc (suc (suc (suc (suc (suc (suc zero))))))))))))))))))) h = OP
+instruction (suc (suc (suc (suc (suc (suc (suc (suc (suc (suc (suc (suc (suc (suc (suc (suc (suc (suc (suc (suc zero)))))))))))))))))))) h = OW
+instruction (suc (suc (suc (suc (suc (suc (suc (suc (suc (suc (suc (suc (suc (suc (suc (suc (suc (suc (suc (suc (suc zero))))))))))))))))))))) h = OH
+instruction (suc (suc (suc (suc (suc (suc (suc (suc (suc (suc (suc (suc (suc (suc (suc (suc (suc (suc (suc (suc (suc (suc zero)))))))))))))))))))))) h = OE
+instruction (suc (suc (suc (suc (suc (suc (suc (suc (suc (suc (suc (suc (suc (suc (suc (suc (suc (suc (suc (suc (suc (suc (suc op))))))))))))))))))))))) h = absurd (omega arith)

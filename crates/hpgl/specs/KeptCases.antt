@@ -16,13 +16,13 @@ use Rattle.hpgl.specs.declared.Action.the-variants.{Keep, Join, Rectangl
 use Rattle.hpgl.specs.Numbers.{polygonBytes, mostPen, mostEdges}
 use Rattle.hpgl.specs.Rules.{done, refuse, inked}
 use Rattle.hpgl.specs.Machine.{waiting, queued}
-use Rattle.hpgl.specs.Valid.{ValidSettings, Placed, KeptPosition, ValidPolygon, ValidCore, ValidAction, Inked, ValidActed}
+use Rattle.hpgl.specs.Valid.{ValidSettings, Placed, KeptPosition, ValidPolygon, Recalled, ValidCore, ValidAction, Inked, ValidActed}
 use Rattle.hpgl.specs.Cases.{never}
 
 -- a core, by the parts of which something is asked
 pub valid-core : {d : Core} → ValidSettings (d .settings) → Placed (d .settings) (d .carriage .position) → d .carriage .pen .number ≤ mostPen →
-    ValidPolygon (d .settings) (d .carriage .polygon) → ValidCore d
-valid-core s p n g = record { settings = s; position = p; pen = n; polygon = g }
+    ValidPolygon (d .settings) (d .carriage .polygon) → Recalled (d .carriage .memory .refusal) → ValidCore d
+valid-core s p n g m = record { settings = s; position = p; pen = n; polygon = g; memory = m }
 
 -- outside polygon mode the stored positions need not be placed under the settings
 pub closed-polygon : {s : Settings} {g : Polygon} → g .mode ≡ false → g .bytes ≤ polygonBytes → g .edges ≤ mostEdges → KeptPosition (g .first) → KeptPosition (g .saved .position)

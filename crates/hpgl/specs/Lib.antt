@@ -1,7 +1,9 @@
 pub mod Numbers
 pub mod Place
 pub mod Change
+pub mod Replies
 pub mod Rules
+pub mod Noted
 pub mod Machine
 pub mod Values
 pub mod Trace
@@ -9,6 +11,7 @@ pub mod ExactModel
 pub mod Condition3
 pub mod Valid
 pub mod Made
+pub mod Free
 pub mod ArcCases
 pub mod Cases
 pub mod Pins
@@ -18,6 +21,7 @@ pub mod Near
 pub mod Steps
 pub mod SegmentsLocated
 pub mod OpenInstruction
+pub mod Answers
 pub mod Condition3Proof
 pub mod LineTypes
 pub mod Instruction
@@ -37,7 +41,12 @@ pub mod SettingsKept
 pub mod PositionKept
 pub mod PolygonKept
 pub mod VerticesKept
+pub mod RepliesKept
 pub mod ReaderKept
 pub mod ValidKept
 pub mod Segment
 pub mod WhatTakeDoes
+pub mod ReplyLaws
+pub mod FetchLaws
+pub mod PinsReply
+pub mod LastRefusal

@@ -20,7 +20,7 @@ use Rattle.hpgl.specs.declared.Drawn.the-variants as drawn
 use Rattle.hpgl.specs.Place.{limits}
 use Rattle.hpgl.specs.Machine.{hardLimits, freshState, strokeOf, drawAnswer}
 use Rattle.hpgl.specs.ExactModel.{ExactSegment, Model, freshModel}
-use Rattle.hpgl.specs.Condition3.{Call, take, draw, stateAfter, modelAfter, InLimits, Holds, HoldsAt, HoldsAll}
+use Rattle.hpgl.specs.Condition3.{Call, take, draw, fetch, stateAfter, modelAfter, InLimits, Holds, HoldsAt, HoldsAll}
 use Rattle.hpgl.specs.Near.{limits-within}
 use Rattle.hpgl.specs.Condition3Proof.{condition-3}
 
@@ -44,6 +44,7 @@ FirstByType s (g ∷ gs) a = g .owed ≡ true → ByType s g a
 unfoldable pub TypesAt : State → Model → Call → Type 0
 TypesAt m p (take b h) = Unit
 TypesAt m p draw = FirstByType (p .core .settings) (p .queue) (drawAnswer m)
+TypesAt m p (fetch room) = Unit
 
 unfoldable pub TypesAll : State → Model → List Call → Type 0
 TypesAll m p [] = Unit
@@ -82,6 +83,7 @@ unfolding HoldsAll HoldsAt TypesAll TypesAt
 each-typed m p [] h = tt
 each-typed m p (take b l ∷ cs) h = (tt, each-typed _ _ cs (h .1))
 each-typed m p (draw ∷ cs) h = (first-typed (p .core .settings) (p .queue) (drawAnswer m) (h .0), each-typed _ _ cs (h .1))
+each-typed m p (fetch room ∷ cs) h = (tt, each-typed _ _ cs (h .1))
 
 pub line-types : LineTypes
 line-types r calls = each-typed (freshState r) (freshModel (hardLimits r)) calls (condition-3 r calls)

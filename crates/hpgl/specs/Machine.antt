@@ -1,10 +1,10 @@
--- The calls fresh, take, draw and look (document 01, "The calls"), over the machine's state.
+-- The calls fresh, take, draw and look (document 01, "The calls"), and fetch (document 02, CR 5), over the machine's state.
 use Prim.Native.Nat.{ℕ, zero, suc, _+_}
-use mathlib.Core.Bool.{Bool, true, false, cond, _&&_}
-use mathlib.Core.List.{List}
-use lib.Dec.{eqb}
+use mathlib.Core.Bool.{Bool, true, false, cond, not, _&&_, _||_}
+use mathlib.Core.List.{List, [], _++_}
+use lib.Dec.{eqb, leb}
 use lib.IntN.{ℤ, pos}
-use lib.ListN.{getD, set, replicate}
+use lib.ListN.{getD, set, replicate, length, drop}
 use Rattle.exact.specs.Whole.{_<?_}
 use Rattle.clip.specs.Clip.{clip}
 use Rattle.clip.specs.declared.Point.{Point}
@@ -24,16 +24,18 @@ use Rattle.hpgl.specs.declared.Action.{Action}
 use Rattle.hpgl.specs.declared.Action.the-variants as action
 use Rattle.hpgl.specs.declared.Acted.{Acted}
 use Rattle.hpgl.specs.declared.Work.{Work}
-use Rattle.hpgl.specs.declared.Work.the-variants.{Nothing, Line, Chords, Edges}
+use Rattle.hpgl.specs.declared.Work.the-variants.{Nothing, Line, Chords, Edges, Answer}
+use Rattle.hpgl.specs.declared.Reply.{Reply}
 use Rattle.hpgl.specs.declared.State.{State}
 use Rattle.hpgl.specs.declared.Stroke.{Stroke}
 use Rattle.hpgl.specs.declared.Drawn.{Drawn}
 use Rattle.hpgl.specs.declared.Drawn.the-variants as drawn
 use Rattle.hpgl.specs.declared.Look.{Look}
-use Rattle.hpgl.specs.Numbers.{badLimits, busy, mostEdges}
+use Rattle.hpgl.specs.Numbers.{badLimits, busy, shortBuffer, mostEdges}
 use Rattle.hpgl.specs.Place.{point, location, limits}
 use Rattle.hpgl.specs.Change.{withWork}
-use Rattle.hpgl.specs.Rules.{origin, int16, freshCore, actOn}
+use Rattle.hpgl.specs.Replies.{noReply, replyText}
+use Rattle.hpgl.specs.Rules.{origin, int16, freshCore, actOn, noted}
 
 -- ---- Fresh
 
@@ -70,6 +72,22 @@ waiting Nothing = 0
 waiting (Line a b) = 1
 waiting (Chords o i n) = n
 waiting (Edges i n) = n
+waiting (Answer r) = 0
+
+-- the reply that waits, if one does; one of no numbers is none
+unfoldable pub replied : Work → Reply
+replied Nothing = noReply
+replied (Line a b) = noReply
+replied (Chords o i n) = noReply
+replied (Edges i n) = noReply
+replied (Answer r) = r
+
+unfoldable pub replying : Work → Bool
+replying w = not (eqb (replied w .count) 0)
+
+-- whether a byte has to wait: for a segment, or for a reply
+unfoldable pub occupied : Work → Bool
+occupied w = not (eqb (waiting w) 0) || replying w
 
 abbrev pub edge : Point → Point → Edge
 edge p q = record { from = p; to = q; down = true }
@@ -88,6 +106,7 @@ stored es k (action.Chords o) = es
 stored es k (action.Join e) = set es k e
 stored es k action.Outline = es
 stored es k (action.Rectangle p q shown) = rectangleEdges es p q
+stored es k (action.Answer r) = es
 
 -- what waits after an action, with the turn t, the edges es that are then stored, and the count k of those that the polygon has
 unfoldable pub queued : ℕ → List Edge → ℕ → Action → Work
@@ -97,6 +116,7 @@ queued t es k (action.Chords o) = Chords o 0 (partsOf (o .sweep) (o .angle))
 queued t es k (action.Join e) = Nothing
 queued t es k action.Outline = Edges 0 k
 queued t es k (action.Rectangle p q shown) = cond shown (Edges 0 k) Nothing
+queued t es k (action.Answer r) = Answer r
 
 -- "After a refusal the rest is passed over"
 unfoldable pub readerAfter : Reader → ℕ → Reader
@@ -112,16 +132,16 @@ applied m r t =
       work = queued (t .core .settings .turn) es (t .core .carriage .polygon .edges) (t .action);
     }
 
--- what a byte does to the core
+-- what a byte does to the core, its number remembered
 unfoldable pub acted : State → ℕ → Acted
-acted m b = actOn (m .core) (stepOf (m .reader) b .event)
+acted m b = noted (actOn (m .core) (stepOf (m .reader) b .event))
 
--- "take while a segment waits: 20, whole machine"
+-- "take while a segment waits: 20, whole machine"; "While a reply waits a byte is refused with 20"
 unfoldable pub takeState : State → ℕ → State
-takeState m b = cond (eqb (waiting (m .work)) 0) (applied m (stepOf (m .reader) b .reader) (acted m b)) m
+takeState m b = cond (occupied (m .work)) m (applied m (stepOf (m .reader) b .reader) (acted m b))
 
 unfoldable pub takeNumber : State → ℕ → ℕ
-takeNumber m b = cond (eqb (waiting (m .work)) 0) (acted m b .number) busy
+takeNumber m b = cond (occupied (m .work)) busy (acted m b .number)
 
 -- ---- Draw: "works off one waiting segment and answers a stroke (pen, x0, y0, x1, y1), hidden, or idle if none waits"
 
@@ -148,7 +168,7 @@ chordShown c o i = shown c (vertex (c .settings) o i) (vertex (c .settings) o (i
 unfoldable pub edgeShown : Core → Edge → Drawn
 edgeShown c e = cond (e .down) (shown c (turnedOf (e .from) (c .settings .turn)) (turnedOf (e .to) (c .settings .turn))) drawn.Hidden
 
--- the work without its first segment, and what is drawn of that. A count of 0 is EP's, of a polygon without edges; a circle has chords
+-- the work without its first segment, and what is drawn of that. A count of 0 is EP's, of a polygon without edges; a circle has chords. A reply is no segment
 unfoldable pub workAfter : Work → Work
 workAfter Nothing = Nothing
 workAfter (Line a b) = Nothing
@@ -156,6 +176,7 @@ workAfter (Chords o i zero) = Nothing
 workAfter (Chords o i (suc n)) = cond (eqb n 0) Nothing (Chords o (i + 1) n)
 workAfter (Edges i zero) = Nothing
 workAfter (Edges i (suc n)) = cond (eqb n 0) Nothing (Edges (i + 1) n)
+workAfter (Answer r) = Answer r
 
 unfoldable pub drawWork : State → Work → Drawn
 drawWork m Nothing = drawn.Idle
@@ -164,6 +185,7 @@ drawWork m (Chords o i zero) = drawn.Idle
 drawWork m (Chords o i (suc n)) = chordShown (m .core) o i
 drawWork m (Edges i zero) = drawn.Idle
 drawWork m (Edges i (suc n)) = edgeShown (m .core) (getD (m .store .edges) i noEdge)
+drawWork m (Answer r) = drawn.Idle
 
 unfoldable pub drawState : State → State
 drawState m = withWork m (workAfter (m .work))
@@ -180,3 +202,23 @@ lookAt m = record {
   down = m .core .carriage .pen .down;
   bytes = m .core .carriage .polygon .bytes;
 }
+
+-- ---- Fetch: "its reply is fetched by a call with a lent buffer", of so many bytes (document 02, CR 5)
+
+-- "31: buffer shorter than the reply; nothing written, the reply still waits"; "With no reply waiting that call writes nothing and answers length 0"
+unfoldable pub fetchNumber : State → ℕ → ℕ
+fetchNumber m room = cond (replying (m .work)) (cond (leb (length (replyText (replied (m .work)))) room) 0 shortBuffer) 0
+
+unfoldable pub fetchState : State → ℕ → State
+fetchState m room = cond (replying (m .work)) (cond (leb (length (replyText (replied (m .work)))) room) (withWork m Nothing) m) m
+
+-- what is written of a reply into so many bytes
+unfoldable pub fetchedOf : Reply → ℕ → List ℕ
+fetchedOf r room = cond (leb (length (replyText r)) room) (replyText r) []
+
+unfoldable pub fetchText : State → ℕ → List ℕ
+fetchText m room = fetchedOf (replied (m .work)) room
+
+-- "Buffer bytes past a reply keep their content": the buffer after the call
+unfoldable pub fetchOut : State → List ℕ → List ℕ
+fetchOut m out = fetchText m (length out) ++ drop (length (fetchText m (length out))) out

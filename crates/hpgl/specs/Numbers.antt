@@ -18,9 +18,13 @@ polygonFull = 7
 abbrev pub badLimits : ℕ
 badLimits = 10
 
--- take while a segment waits
+-- take while a segment waits, and "While a reply waits a byte is refused with 20" (document 02, CR 5)
 abbrev pub busy : ℕ
 busy = 20
+
+-- fetch: "buffer shorter than the reply" (document 02, CR 5)
+abbrev pub shortBuffer : ℕ
+shortBuffer = 31
 
 -- ---- "Bytes, at most 1024: 2 for PM0 and PM1, 9 for each point, 2 when the point is the first of a PU or PD that itself changed the pen"; "49 bytes by definition"
 

@@ -38,8 +38,9 @@ use Rattle.hpgl.specs.Ends as ends
 use Rattle.hpgl.specs.Ends.{Works, by-end}
 use Rattle.hpgl.specs.ArcCases.{by-arc}
 use Rattle.hpgl.specs.Change.{withWork}
-use Rattle.hpgl.specs.Rules.{done, refuse, nameRule, inRule, dfRule, goodCorners, setCorners, ipRule, scRule, setTurn, turnTo, roRule, setWindow, iwRule, setPen, spRule, moveTo, pointCost, storePoint, aimed, goTo, pairRule, pm0, closes, ended, pm1In, pm1, leave, pm2In, pm2, pmRule, epRule, rectangleTo, firstTwo, eaRule, erRule, circleFits, circleWith, chordAngle, ciRule, follow, arcAbout, aaRule, arRule, endRule, actOn}
-use Rattle.hpgl.specs.Machine.{waiting, stored, queued, readerAfter, applied, acted, takeState, takeNumber}
+use Rattle.hpgl.specs.Rules.{done, refuse, nameRule, inRule, dfRule, goodCorners, setCorners, ipRule, scRule, setTurn, turnTo, roRule, setWindow, iwRule, setPen, spRule, moveTo, pointCost, storePoint, aimed, goTo, pairRule, pm0, closes, ended, pm1In, pm1, leave, pm2In, pm2, pmRule, epRule, rectangleTo, firstTwo, eaRule, erRule, circleFits, circleWith, chordAngle, ciRule, follow, arcAbout, aaRule, arRule, oaRule, opRule, owRule, ohRule, oeRule, noting, noted, endRule, actOn}
+use Rattle.hpgl.specs.Replies.{remembered, remembering}
+use Rattle.hpgl.specs.Machine.{waiting, replied, replying, occupied, stored, queued, readerAfter, applied, acted, takeState, takeNumber}
 
 -- ---- what is claimed of an event
 
@@ -212,7 +213,7 @@ module _ (c : Core) (e : Event) where
     pin-arc q = by-arc c q n (Pinned c e) (λ p. carries _ _ refl) (refuses far) (refuses range)
 
   pin-each : (n : Numbers) {op : ℕ} → Works op → e ≡ Ended op n → Pinned c e (endRule c op n)
-  unfolding endRule changesSettings cellOf epRule eaRule erRule aaRule arRule
+  unfolding endRule changesSettings cellOf epRule eaRule erRule aaRule arRule oaRule opRule owRule ohRule oeRule
   pin-each n ends.IN is = pin-in IN n is refl
   pin-each n ends.DF is = pin-df DF n is refl
   pin-each n ends.EP is = pin-ep EP n is
@@ -227,6 +228,11 @@ module _ (c : Core) (e : Event) where
   pin-each n ends.ER is = pin-rectangle ER n is (relativePosition (c .carriage .position) (firstTwo n))
   pin-each n ends.AA is = pin-arc AA n is (absolutePosition (c .settings) (firstTwo n))
   pin-each n ends.AR is = pin-arc AR n is (relativePosition (c .carriage .position) (firstTwo n))
+  pin-each n ends.OA is = carries _ _ refl
+  pin-each n ends.OP is = carries _ _ refl
+  pin-each n ends.OW is = carries _ _ refl
+  pin-each n ends.OH is = carries _ _ refl
+  pin-each n ends.OE is = carries _ _ refl
 
   pin-end : (op : ℕ) (n : Numbers) → e ≡ Ended op n → Pinned c e (endRule c op n)
   pin-end op n = by-end c n (λ (op : ℕ) (t : Acted). e ≡ Ended op n → Pinned c e t) (λ o i. pin-each n i) (λ op r is. carries c Keep refl) op
@@ -248,27 +254,26 @@ label-step r b l n =
     ∙ ap (λ (t : Bool). cond t (quietOf r Idle) (quietOf r Label)) (ne-eqb b labelEnd n)
     ∙ (λ i. record { reader = record { mode = sym l i; op = r .op; numbers = r .numbers; number = r .number }; event = Nothing })
 
--- "its text up to byte 3 is passed over": where no segment waits, a byte of it changes nothing
-pub label-passes : (m : State) (b : ℕ) → m .reader .mode ≡ Label → waiting (m .work) ≡ 0 → (b ≡ labelEnd → ⊥) →
+-- "its text up to byte 3 is passed over": where nothing waits, a byte of it changes nothing
+pub label-passes : (m : State) (b : ℕ) → m .reader .mode ≡ Label → occupied (m .work) ≡ false → (b ≡ labelEnd → ⊥) →
     (takeState m b ≡ withWork m work.Nothing) × (takeNumber m b ≡ 0)
-unfolding takeState takeNumber acted actOn done applied readerAfter stored queued
+unfolding takeState takeNumber acted noted noting remembering remembered actOn done applied readerAfter stored queued
 label-passes m b l w n =
-    let s : stepOf (m .reader) b ≡ record { reader = m .reader; event = Nothing } = label-step (m .reader) b l n in
-    let idle : eqb (waiting (m .work)) 0 ≡ true = ap (λ (k : ℕ). eqb k 0) w in (
-      ap (λ (t : Bool). cond t (applied m (stepOf (m .reader) b .reader) (acted m b)) m) idle
-          ∙ ap (λ (x : Step). applied m (x .reader) (actOn (m .core) (x .event))) s,
-      ap (λ (t : Bool). cond t (acted m b .number) busy) idle ∙ ap (λ (x : Step). actOn (m .core) (x .event) .number) s,
+    let s : stepOf (m .reader) b ≡ record { reader = m .reader; event = Nothing } = label-step (m .reader) b l n in (
+      ap (λ (t : Bool). cond t m (applied m (stepOf (m .reader) b .reader) (acted m b))) w
+          ∙ ap (λ (x : Step). applied m (x .reader) (noted (actOn (m .core) (x .event)))) s,
+      ap (λ (t : Bool). cond t busy (acted m b .number)) w ∙ ap (λ (x : Step). actOn (m .core) (x .event) .number) s,
     )
 
 pub label-stays : (m : State) (b : ℕ) → m .reader .mode ≡ Label → m .work ≡ work.Nothing → (b ≡ labelEnd → ⊥) → (takeState m b ≡ m) × (takeNumber m b ≡ 0)
-unfolding waiting
+unfolding occupied waiting replying replied
 label-stays m b l w n =
-    let p = label-passes m b l (ap waiting w) n in
+    let p = label-passes m b l (ap occupied w) n in
     (p .0 ∙ (λ i. withWork m (sym w i)), p .1)
 
 -- ---- a take
 
--- "20 | take while a segment waits", and the reader's 1, 2 and 3
+-- "20 | take while a segment waits", or a reply, and the reader's 1, 2 and 3
 pub data TakeNumber : ℕ → Type 0 where
   none : TakeNumber 0
   one : TakeNumber 1
@@ -278,6 +283,10 @@ pub data TakeNumber : ℕ → Type 0 where
   seven : TakeNumber 7
   twenty : TakeNumber 20
 
+second : (x y : Bool) → T (x && y) → T y
+second true y t = t
+second false y t = absurd t
+
 reader-number : (n : ℕ) → T (isCause n) → TakeNumber n
 reader-number zero h = absurd h
 reader-number (suc zero) h = one
@@ -285,10 +294,6 @@ reader-number (suc (suc zero)) h = two
 reader-number (suc (suc (suc zero))) h = three
 reader-number (suc (suc (suc (suc n)))) h = absurd (omega (arith, most (suc (suc (suc (suc n)))) h))
   where
-    second : (x y : Bool) → T (x && y) → T y
-    second true y t = t
-    second false y t = absurd t
-
     most : (k : ℕ) → T (isCause k) → k ≤ 3
     most k t = leb→le k 3 (second (leb 1 k) (leb k 3) t)
 
@@ -300,8 +305,23 @@ event-number e n h far = six
 event-number e n h full = seven
 event-number e n h (of-reader q) = reader-number n (rw q at h)
 
+-- none of a rule is 20: a take gives it while something waits, and then alone
+event-free : (e : Event) (n : ℕ) → Caused e → Cause e n → n ≡ busy → ⊥
+event-free e n h none z = omega (arith, z)
+event-free e n h not-known z = omega (arith, z)
+event-free e n h range z = omega (arith, z)
+event-free e n h far z = omega (arith, z)
+event-free e n h full z = omega (arith, z)
+event-free e n h (of-reader q) z = omega (arith, z, leb→le n 3 (second (leb 1 n) (leb n 3) (rw q at h)))
+
+pub take-free : (m : State) (b : ℕ) → occupied (m .work) ≡ false → takeNumber m b ≡ busy → ⊥
+unfolding takeNumber acted noted
+take-free m b w z =
+    event-free (stepOf (m .reader) b .event) _ (step-caused (m .reader) b) (pinned (m .core) (stepOf (m .reader) b .event) .cause)
+    (ap (λ (t : Bool). cond t busy (acted m b .number)) (sym w) ∙ z)
+
 pub take-number : (m : State) (b : ℕ) → TakeNumber (takeNumber m b)
-unfolding takeNumber acted
+unfolding takeNumber acted noted
 take-number m b =
-    pick TakeNumber (eqb (waiting (m .work)) 0)
-    (event-number (stepOf (m .reader) b .event) _ (step-caused (m .reader) b) (pinned (m .core) (stepOf (m .reader) b .event) .cause)) twenty
+    pick TakeNumber (occupied (m .work)) twenty
+    (event-number (stepOf (m .reader) b .event) _ (step-caused (m .reader) b) (pinned (m .core) (stepOf (m .reader) b .event) .cause))

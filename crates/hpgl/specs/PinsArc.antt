@@ -34,9 +34,10 @@ use Rattle.hpgl.specs.declared.Core.{Core}
 use Rattle.hpgl.specs.declared.State.{State}
 use Rattle.hpgl.specs.declared.Acted.{Acted}
 use Rattle.hpgl.specs.Place.{point, axisX, axisY, exactPosition, relativePosition, restAt}
-use Rattle.hpgl.specs.Rules.{done, refuse, sweptAngle, arcAngle, wayFrom, arc, lastVertex, follow, arcAbout, aaRule, arRule, endRule, actOn}
+use Rattle.hpgl.specs.Rules.{done, refuse, sweptAngle, arcAngle, wayFrom, arc, lastVertex, follow, arcAbout, aaRule, arRule, endRule, actOn, noted}
 use Rattle.hpgl.specs.ArcCases.{Passed, arcOf, by-arc}
-use Rattle.hpgl.specs.Machine.{waiting, applied, acted, takeState, takeNumber}
+use Rattle.hpgl.specs.Machine.{occupied, applied, acted, takeState, takeNumber}
+use Rattle.hpgl.specs.Noted.{noted-none}
 use Rattle.hpgl.specs.ExactModel.{ExactPolygon, ExactSegment, arcVertex, path, inkedOnly, arcMoves, instructed, added}
 use Rattle.hpgl.specs.Made.{Made}
 use Rattle.hpgl.specs.Valid.{Usable}
@@ -230,11 +231,11 @@ module _ (c : Core) (q : Position) (n : Numbers) (w : Sound (c .settings)) where
 
 took : (m : State) (b : ℕ) → takeNumber m b ≡ 0 → (acted m b .number ≡ 0) × (acted m b .core ≡ takeState m b .core)
 unfolding takeNumber takeState applied
-took m b = go (eqb (waiting (m .work)) 0)
+took m b = go (occupied (m .work))
   where
-    go : (t : Bool) → cond t (acted m b .number) 20 ≡ 0 → (acted m b .number ≡ 0) × (acted m b .core ≡ cond t (applied m (stepOf (m .reader) b .reader) (acted m b)) m .core)
-    go true e = (e, refl)
-    go false e = absurd (omega arith)
+    go : (t : Bool) → cond t 20 (acted m b .number) ≡ 0 → (acted m b .number ≡ 0) × (acted m b .core ≡ cond t m (applied m (stepOf (m .reader) b .reader) (acted m b)) .core)
+    go true e = absurd (omega arith)
+    go false e = (e, refl)
 
 abbrev pub Follows : State → ℕ → Position → Numbers → ℕ → Type 0
 Follows m b q n op =
@@ -248,11 +249,11 @@ module _ (m : State) (made : Made m) (b : ℕ) (n : Numbers) (e : takeNumber m b
   -- op is AA or AR
   follows : (q : Position) (op : ℕ) → actOn (m .core) (Ended op n) ≡ arcAbout (m .core) q n → ((d : Core) (g : ExactPolygon) → added (m .core) d (Ended op n) g ≡ arcMoves (m .core) d q n) →
       stepOf (m .reader) b .event ≡ Ended op n → Follows m b q n op
-  unfolding acted
+  unfolding acted noted
   follows q op rule adds is s hs a ha w hw g =
       let c : Core = m .core in
       let valid = usable .valid .core .settings in
-      let t : acted m b ≡ arcAbout c q n = ap (actOn c) is ∙ rule in
+      let t : acted m b ≡ arcAbout c q n = noted-none (actOn c (stepOf (m .reader) b .event)) (took m b e .0) ∙ ap (actOn c) is ∙ rule in
       let k : arcAbout c q n .number ≡ 0 = sym (ap (λ (t : Acted). t .number) t) ∙ took m b e .0 in
       let d : arcAbout c q n .core ≡ takeState m b .core = sym (ap (λ (t : Acted). t .core) t) ∙ took m b e .1 in
       let x = sweep-one n s hs in

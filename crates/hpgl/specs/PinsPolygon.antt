@@ -33,7 +33,7 @@ use Rattle.hpgl.specs.Numbers.{outOfRange, polygonFull, polygonBytes, mo
 use Rattle.hpgl.specs.Place.{rounded, location, inRange}
 use Rattle.hpgl.specs.Ends as ends
 use Rattle.hpgl.specs.Ends.{Works, Rests, other, by-end}
-use Rattle.hpgl.specs.Rules.{done, refuse, noPolygon, freshCarriage, freshCore, letters, nameRule, rebased, inRule, dfRule, goodCorners, setCorners, ipRule, scRule, setTurn, turnTo, roRule, setWindow, iwRule, setPen, spRule, moveTo, pointCost, longer, storePoint, aimed, goTo, pairRule, begun, pm0, closes, endedWith, ended, pm1In, pm1, leave, pm2In, pm2, pmRule, epRule, rectangular, rectangleTo, eaRule, erRule, circleFits, circleWith, chordAngle, ciRule, follow, arcAbout, aaRule, arRule, endRule, actOn}
+use Rattle.hpgl.specs.Rules.{done, refuse, noPolygon, freshCarriage, freshCore, letters, nameRule, rebased, inRule, dfRule, goodCorners, setCorners, ipRule, scRule, setTurn, turnTo, roRule, setWindow, iwRule, setPen, spRule, moveTo, pointCost, longer, storePoint, aimed, goTo, pairRule, begun, pm0, closes, endedWith, ended, pm1In, pm1, leave, pm2In, pm2, pmRule, epRule, rectangular, rectangleTo, eaRule, erRule, circleFits, circleWith, chordAngle, ciRule, follow, arcAbout, aaRule, arRule, oaRule, opRule, owRule, ohRule, oeRule, endRule, actOn}
 use Rattle.hpgl.specs.PinsPosition.{after}
 
 abbrev pub bytesOf : Core → ℕ
@@ -309,7 +309,7 @@ module _ (c : Core) (h : List Stored) (is : bytesOf c ≡ costs h) (fits : bytes
   counts-arc q n = by-arc c q n (Counts h) (λ p. keeps _ _ refl) (refuses h _ _ refl) (refuses h _ _ refl)
 
   counts-each : (n : Numbers) {op : ℕ} → Works op → Counts (storedBy c (Ended op n) h) (endRule c op n)
-  unfolding endRule storedBy dfRule rebased epRule eaRule erRule aaRule arRule
+  unfolding endRule storedBy dfRule rebased epRule eaRule erRule aaRule arRule oaRule opRule owRule ohRule oeRule
   counts-each n ends.IN = counts-in
   counts-each n ends.DF = keeps _ _ refl
   counts-each n ends.EP = keeps _ _ refl
@@ -324,6 +324,11 @@ module _ (c : Core) (h : List Stored) (is : bytesOf c ≡ costs h) (fits : bytes
   counts-each n ends.ER = counts-rectangle _
   counts-each n ends.AA = counts-arc _ n
   counts-each n ends.AR = counts-arc _ n
+  counts-each n ends.OA = keeps _ _ refl
+  counts-each n ends.OP = keeps _ _ refl
+  counts-each n ends.OW = keeps _ _ refl
+  counts-each n ends.OH = keeps _ _ refl
+  counts-each n ends.OE = keeps _ _ refl
 
   counts-rest : (n : Numbers) (op : ℕ) → Rests op → Counts (storedBy c (Ended op n) h) (done c Keep)
   unfolding storedBy

@@ -37,7 +37,7 @@ valid-pm0 {c} w =
       saved = λ h. w .position;
       first-kept = placed-kept (w .settings) (w .position);
       saved-kept = placed-kept (w .settings) (w .position);
-    })))
+    }) (w .memory)))
 
 -- in polygon mode
 module _ {c : Core} (w : ValidCore c) (o : c .carriage .polygon .mode ≡ true) where
@@ -56,7 +56,7 @@ module _ {c : Core} (w : ValidCore c) (o : c .carriage .polygon .mode ≡ true) 
     saved = λ q. w .polygon .saved o;
     first-kept = w .polygon .first-kept;
     saved-kept = w .polygon .saved-kept;
-  })
+  }) (w .memory)
 
   edge-quiet : (d : Core) → Inks d (edgeTo c (c .carriage .polygon .first))
   unfolding edgeTo
@@ -78,7 +78,7 @@ module _ {c : Core} (w : ValidCore c) (o : c .carriage .polygon .mode ≡ true) 
 
   leave-valid : (n k : ℕ) → c .carriage .polygon .bytes + n ≤ polygonBytes → c .carriage .polygon .edges + k ≤ mostEdges → ValidCore (leave c n k)
   unfolding leave endedWith
-  leave-valid n k h l = valid-core (w .settings) (w .polygon .saved o) (w .pen) (closed-polygon refl h l (w .polygon .first-kept) (w .polygon .saved-kept))
+  leave-valid n k h l = valid-core (w .settings) (w .polygon .saved o) (w .pen) (closed-polygon refl h l (w .polygon .first-kept) (w .polygon .saved-kept)) (w .memory)
 
   valid-pm2-in : ValidActed c (pm2In c)
   unfolding pm2In
@@ -123,7 +123,7 @@ pub valid-rectangle : {c : Core} {p : Position} → ValidCore c → LocatablePos
 unfolding rectangleTo inked
 valid-rectangle {c} {p} w h =
     whether (ValidActed c) (inRange (location (c .settings) p))
-    (λ e. acts c _ _ (w .position .near, located-placed h e .near) (valid-core (w .settings) (w .position) (w .pen) (rectangular-valid (w .polygon))) (rectangle-with-ink _ _ _))
+    (λ e. acts c _ _ (w .position .near, located-placed h e .near) (valid-core (w .settings) (w .position) (w .pen) (rectangular-valid (w .polygon)) (w .memory)) (rectangle-with-ink _ _ _))
     (λ e. refuses c c tooFar (omega arith) w)
 
 pub valid-ea : {c : Core} {n : Numbers} → ValidCore c → Small n → ValidActed c (eaRule c n)

@@ -23,7 +23,7 @@ unfolding moveTo inked
 valid-move {c} {p} w h =
     acts c _ _
     (pick (ValidAction (c .carriage .polygon .edges)) (c .carriage .pen .down && inked c) (page-small (w .settings) (w .position), page-small (w .settings) h) tt)
-    (valid-core (w .settings) h (w .pen) (w .polygon))
+    (valid-core (w .settings) h (w .pen) (w .polygon) (w .memory))
     (down-with-ink _ (c .carriage .pen .down) _)
 
 -- ---- the polygon with one point more
@@ -65,7 +65,7 @@ valid-store {c} {p} w o h =
       saved = w .polygon .saved;
       first-kept = pick KeptPosition (g .empty) (placed-kept (w .settings) h) (w .polygon .first-kept);
       saved-kept = w .polygon .saved-kept;
-    })) (joins-next c _ p (g .empty)))
+    }) (w .memory)) (joins-next c _ p (g .empty)))
     (λ e. refuses c c polygonFull (omega arith) w)
 
 -- ---- pairs

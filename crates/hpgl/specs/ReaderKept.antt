@@ -17,6 +17,7 @@ use Rattle.hpgl.specs.declared.Core.{Core}
 use Rattle.hpgl.specs.declared.State.{State}
 use Rattle.hpgl.specs.Machine.{readerAfter, acted}
 use Rattle.hpgl.specs.Valid.{ValidEvent, Knows, Valid}
+use Rattle.hpgl.specs.Rules.{noting, noted}
 use Rattle.hpgl.specs.Cases.{pick}
 use Rattle.hpgl.specs.OpenInstruction.{knows-after, ends-known}
 
@@ -47,5 +48,5 @@ readable-after {m} b w =
     pick Readable (eqb (acted m b .number) 0) h (passed-over-law (stepOf (m .reader) b .reader) h)
 
 pub known-after : {m : State} (b : ℕ) → Valid m → Knows (acted m b .core) (readerAfter (stepOf (m .reader) b .reader) (acted m b .number))
-unfolding acted
+unfolding acted noted noting Knows
 known-after {m} b w = knows-after (m .core) (m .reader) (stepOf (m .reader) b .reader) (stepOf (m .reader) b .event) (step-tells (m .reader) b) (w .known)

@@ -18,8 +18,8 @@ use Rattle.plane.specs.TurnsSaid.{Said}
 use Rattle.hpgl.specs.declared.Position.{Position}
 use Rattle.hpgl.specs.declared.Core.{Core}
 use Rattle.hpgl.specs.Place.{axisX, axisY, location, absolutePosition, relativePosition}
-use Rattle.hpgl.specs.Instruction.{Instruction, IN, DF, EP, IP, SC, IW, RO, SP, PM, CI, EA, ER, AA, AR, PU, PD, PA, PR}
-use Rattle.hpgl.specs.Effects.{target, newP1, newP2, firstCorner, secondCorner, centreAA, centreAR, pairBytes, closingBytes, bytes, Happens, nothing, name, pair, end, refusal}
+use Rattle.hpgl.specs.Instruction.{Instruction, IN, DF, EP, IP, SC, IW, RO, SP, PM, CI, EA, ER, AA, AR, OA, OP, OW, OH, OE, PU, PD, PA, PR}
+use Rattle.hpgl.specs.Effects.{target, newP1, newP2, firstCorner, secondCorner, centreAA, centreAR, pairBytes, closingBytes, bytes, Happens, nothing, name, pair, end, refused}
 
 -- where P is met, what follows is so; where it is not, the number t is k
 pub record Needs (P : Type 0) (k t : ℕ) (rest : Type 0) : Type 0 where
@@ -58,7 +58,7 @@ pub record Angle (n : Numbers) (k : ℕ) (z a : ℤ) : Type 0 where
 
 -- ---- what instructions need
 
--- "There only PU, PD, PA, PR, PM, IN are known"
+-- "There only PU, PD, PA, PR, PM, IN are known"; of OA, OP, OW, OH and OE each "works in polygon mode too"
 pub data Known : ℕ → Type 0 where
   up : Known code.PU
   down : Known code.PD
@@ -66,6 +66,11 @@ pub data Known : ℕ → Type 0 where
   relative : Known code.PR
   polygon : Known code.PM
   initialize : Known code.IN
+  place : Known code.OA
+  corners : Known code.OP
+  window : Known code.OW
+  limits : Known code.OH
+  refusal : Known code.OE
 
 abbrev pub PolygonMode : Core → Type 0
 PolygonMode c = c .carriage .polygon .mode ≡ true
@@ -140,6 +145,11 @@ Judged EA c n t = Needs (InRange (location (c .settings) (absolutePosition (c .s
 Judged ER c n t = Needs (InRange (location (c .settings) (relativePosition (c .carriage .position) (record { x = n .first; y = n .second })))) 6 t (t ≡ 0)
 Judged AA c n t = Arc c (centreAA c n) n t
 Judged AR c n t = Arc c (centreAR c n) n t
+Judged OA c n t = t ≡ 0
+Judged OP c n t = t ≡ 0
+Judged OW c n t = t ≡ 0
+Judged OH c n t = t ≡ 0
+Judged OE c n t = t ≡ 0
 Judged PU c n t = t ≡ 0
 Judged PD c n t = t ≡ 0
 Judged PA c n t = t ≡ 0
@@ -152,7 +162,7 @@ Numbered nothing c t = t ≡ 0
 Numbered (name {op} i) c t = Needs (PolygonMode c → Known op) 1 t (t ≡ 0)
 Numbered (pair n) c t = Needs (InRange (location (c .settings) (target c n))) 6 t (Needs (PolygonMode c → bytes c + pairBytes c ≤ 1024) 7 t (t ≡ 0))
 Numbered (end i n) c t = Judged i c n t
-Numbered (refusal k) c t = t ≡ k
+Numbered (refused k) c t = t ≡ k
 
 -- ---- fresh
 

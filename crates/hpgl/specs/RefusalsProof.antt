@@ -40,11 +40,11 @@ use Rattle.hpgl.specs.declared.Acted.{Acted}
 use Rattle.hpgl.specs.Numbers.{badLimits, outOfRange, polygonFull}
 use Rattle.hpgl.specs.Place.{point, rounded, axisX, axisY, location, inRange, relativePosition}
 use Rattle.hpgl.specs.Change.{withPolygon, withCarriage}
-use Rattle.hpgl.specs.Rules.{done, refuse, freshSettings, carried, nameRule, inRule, dfRule, int16, goodCorners, setCorners, ipRule, scRule, setTurn, turnTo, roRule, setWindow, iwRule, setPen, spRule, chordAngle, moveTo, pointCost, storePoint, aimed, goTo, pairRule, begun, edgeTo, pm0, differ, closes, ended, leave, pm1In, pm1, pm2In, pm2, pmRule, epRule, rectangleTo, eaRule, erRule, circleFits, goodAngle, angleOr, circleWith, ciRule, goodSweep, sweptAngle, arcAngle, wayFrom, arc, follow, arcBy, arcAbout, aaRule, arRule, endRule, actOn}
+use Rattle.hpgl.specs.Rules.{done, refuse, freshSettings, carried, nameRule, inRule, dfRule, int16, goodCorners, setCorners, ipRule, scRule, setTurn, turnTo, roRule, setWindow, iwRule, setPen, spRule, chordAngle, moveTo, pointCost, storePoint, aimed, goTo, pairRule, begun, edgeTo, pm0, differ, closes, ended, leave, pm1In, pm1, pm2In, pm2, pmRule, epRule, rectangleTo, eaRule, erRule, circleFits, goodAngle, angleOr, circleWith, ciRule, goodSweep, sweptAngle, arcAngle, wayFrom, arc, follow, arcBy, arcAbout, aaRule, arRule, oaRule, opRule, owRule, ohRule, oeRule, endRule, actOn}
 use Rattle.hpgl.specs.Machine.{rect, goodLimits, hardLimits, freshNumber}
 use Rattle.hpgl.specs.Related.{Sound, Spanned}
-use Rattle.hpgl.specs.Instruction.{Instruction, IN, DF, EP, IP, SC, IW, RO, SP, PM, CI, EA, ER, AA, AR, PU, PD, PA, PR}
-use Rattle.hpgl.specs.Effects.{asked, newP1, newP2, firstCorner, secondCorner, target, pairBytes, closingBytes, bytes, Happens, nothing, name, pair, end, refusal}
+use Rattle.hpgl.specs.Instruction.{Instruction, IN, DF, EP, IP, SC, IW, RO, SP, PM, CI, EA, ER, AA, AR, OA, OP, OW, OH, OE, PU, PD, PA, PR}
+use Rattle.hpgl.specs.Effects.{asked, newP1, newP2, firstCorner, secondCorner, target, pairBytes, closingBytes, bytes, Happens, nothing, name, pair, end, refused}
 use Rattle.hpgl.specs.Refusals as asked-of
 use Rattle.hpgl.specs.Refusals.{Needs, Between, InRange, IsNearest, Asked, Angle, Known, PolygonMode, GoodCorners, Allows, begins, ends, leaves, Closing, Fits, pointAt, FourPoints, WayFrom, Near, Vertices, Arc, Judged, Numbered, GoodLimits}
 
@@ -213,7 +213,7 @@ apart i j f e = f (ap natAbs e)
 -- ---- names and pairs
 
 known : (op : ℕ) → Tells (knownInPolygon op) (Known op)
-known op = rw (known-said op) (record { yes = listed Known said.known (asked-of.up ⨾ asked-of.down ⨾ asked-of.absolute ⨾ asked-of.relative ⨾ asked-of.polygon ⨾ asked-of.initialize ⨾ none) op; no = λ e k. true≢false (sym (on k) ∙ e) })
+known op = rw (known-said op) (record { yes = listed Known said.known (asked-of.up ⨾ asked-of.down ⨾ asked-of.absolute ⨾ asked-of.relative ⨾ asked-of.polygon ⨾ asked-of.initialize ⨾ asked-of.place ⨾ asked-of.corners ⨾ asked-of.window ⨾ asked-of.limits ⨾ asked-of.refusal ⨾ none) op; no = λ e k. true≢false (sym (on k) ∙ e) })
   where
     on : {k : ℕ} → Known k → among k said.known ≡ true
     on asked-of.up = refl
@@ -222,6 +222,11 @@ known op = rw (known-said op) (record { yes = listed Known said.known (asked-of.
     on asked-of.relative = refl
     on asked-of.polygon = refl
     on asked-of.initialize = refl
+    on asked-of.place = refl
+    on asked-of.corners = refl
+    on asked-of.window = refl
+    on asked-of.limits = refl
+    on asked-of.refusal = refl
 
 -- a need that is asked for in polygon mode alone
 in-mode : {m b : Bool} {P : Type 0} → Tells b P → Tells (not (m && not b)) (m ≡ true → P)
@@ -581,7 +586,7 @@ module _ (c : Core) where
         (λ e. needs (circleFits c (n .first)) 6 _ _ (λ (t : ℕ). t ≡ 0) (four-tell (n .first)) refl (λ e. refl)))
 
     judged-end : {op : ℕ} (i : Instruction op) (n : Numbers) → Judged i c n (endRule c op n .number)
-    unfolding endRule inRule dfRule epRule eaRule erRule aaRule arRule done
+    unfolding endRule inRule dfRule epRule eaRule erRule aaRule arRule oaRule opRule owRule ohRule oeRule done
     judged-end IN n = refl
     judged-end DF n = refl
     judged-end EP n = refl
@@ -596,6 +601,11 @@ module _ (c : Core) where
     judged-end ER n = judged-rectangle _
     judged-end AA n = judged-arc w spans _ n
     judged-end AR n = judged-arc w spans _ n
+    judged-end OA n = refl
+    judged-end OP n = refl
+    judged-end OW n = refl
+    judged-end OH n = refl
+    judged-end OE n = refl
     judged-end PU n = refl
     judged-end PD n = refl
     judged-end PA n = refl
@@ -608,7 +618,7 @@ judged c nothing w v = refl
 judged c (name i) w v = judged-name c i
 judged c (pair n) w v = judged-pair c n
 judged c (end i n) w v = judged-end c w v i n
-judged c (refusal k) w v = refl
+judged c (refused k) w v = refl
 
 -- the number of fresh
 limits-tell : (r : Rect) → Tells (goodLimits r) (GoodLimits r)

@@ -1,4 +1,4 @@
--- The relation between a machine and the exact model that was fed with the same calls. Reader and core are the same; the stored edges are the polygon's, one by one;
+-- The relation between a machine and the exact model that was fed with the same calls. Reader, core and the reply that waits are the same; the stored edges are the polygon's, one by one;
 -- the work, written out as segments on the page, is the queue. Definitions alone.
 use mathlib.Core.Path.{_≡_}
 use mathlib.Core.Bool.{Bool, true, false}
@@ -19,7 +19,7 @@ use Rattle.hpgl.specs.declared.Core.{Core}
 use Rattle.hpgl.specs.declared.Edge.{Edge}
 use Rattle.hpgl.specs.declared.Circle.{Circle}
 use Rattle.hpgl.specs.declared.Work.{Work}
-use Rattle.hpgl.specs.declared.Work.the-variants.{Nothing, Line, Chords, Edges}
+use Rattle.hpgl.specs.declared.Work.the-variants.{Nothing, Line, Chords, Edges, Answer}
 use Rattle.hpgl.specs.declared.State.{State}
 use Rattle.hpgl.specs.Numbers.{modeBytes, pointBytes, mostEdges}
 use Rattle.hpgl.specs.Place.{axisX, axisY, exactPosition}
@@ -103,6 +103,7 @@ view s es Nothing = []
 view s es (Line a b) = record { start = a; end = b; shown = true } ∷ []
 view s es (Chords o i n) = chordsFrom s o i n
 view s es (Edges i n) = turnedEdges (s .turn) (edgesFrom es i n)
+view s es (Answer r) = []
 
 -- ---- the queue
 
@@ -123,7 +124,7 @@ pub data AllLocated (pen : ℕ) : List ExactSegment → Type 0 where
 
 -- ---- the whole
 
--- a machine, and the polygon and queue of the model with the same reader and core
+-- a machine, and the polygon and queue of the model with the same reader, core and reply
 pub record Related (m : State) (g : ExactPolygon) (q : List ExactSegment) : Type 0 where
   pub fit : Fit (m .core .settings) (m .core .carriage .polygon)
   pub linked : Linked (m .core .settings) (m .core .carriage .position) (m .core .carriage .polygon) (m .store .edges) g

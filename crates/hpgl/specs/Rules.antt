@@ -1,5 +1,6 @@
 -- What each instruction does: the new core, the action, 01's number. One definition for each rule of document 01, in its order, and then of document 02.
--- Nothing here looks at the store or at the waiting work, and a refusal leaves the core as it is. Pages are those of the DraftPro manual (source document 001).
+-- Nothing here looks at the store or at the waiting work, and a refusal leaves the core as it is; what is remembered of it comes after the rule (`noted`). Pages are those
+-- of the DraftPro manual (source document 001).
 use Prim.Native.Nat.{ℕ, _+_}
 use mathlib.Core.Bool.{Bool, true, false, cond, not, _&&_, _||_}
 use lib.Dec.{leb, ltb, eqb}
@@ -13,7 +14,7 @@ use Rattle.reader.specs.declared.Coordinates.{Coordinates}
 use Rattle.reader.specs.declared.Numbers.{Numbers}
 use Rattle.reader.specs.declared.Event.{Event}
 use Rattle.reader.specs.declared.Event.the-variants.{Nothing, Named, Pair, Ended, Refused}
-use Rattle.mnemonics.specs.Table.{IN, DF, EP, IP, SC, IW, RO, SP, PM, CI, EA, ER, PU, PD, PA, PR, AA, AR, knownInPolygon}
+use Rattle.mnemonics.specs.Table.{IN, DF, EP, IP, SC, IW, RO, SP, PM, CI, EA, ER, PU, PD, PA, PR, AA, AR, OA, OP, OW, OH, OE, knownInPolygon}
 use Rattle.plane.specs.declared.position.ExactPosition.{ExactPosition}
 use Rattle.plane.specs.Turn.{turnCount, upright, findTurn, turnedBackOf, orderedOf}
 use Rattle.plane.specs.Bounds.{mostAngle}
@@ -32,11 +33,12 @@ use Rattle.hpgl.specs.declared.Carriage.{Carriage}
 use Rattle.hpgl.specs.declared.Core.{Core}
 use Rattle.hpgl.specs.declared.Circle.{Circle}
 use Rattle.hpgl.specs.declared.Action.{Action}
-use Rattle.hpgl.specs.declared.Action.the-variants.{Keep, Line, Chords, Join, Outline, Rectangle}
+use Rattle.hpgl.specs.declared.Action.the-variants.{Keep, Line, Chords, Join, Outline, Rectangle, Answer}
 use Rattle.hpgl.specs.declared.Acted.{Acted}
 use Rattle.hpgl.specs.Numbers.{unknown, outOfRange, tooFar, polygonFull, polygonBytes, modeBytes, pointBytes, penBytes, rectangleBytes, mostPen, leastAngle, defaultAngle, tenth, wholeTurn}
 use Rattle.hpgl.specs.Place.{point, rounded, axisX, axisY, location, inRange, absolutePosition, relativePosition, restAt, pagePoint}
-use Rattle.hpgl.specs.Change.{withPosition, withPen, withRelative, withPolygon, withSettings, withCarriage, withCorners, withScale, withTurn, withWindow}
+use Rattle.hpgl.specs.Replies.{placeTold, cornersTold, windowTold, limitsTold, refusalTold, noMemory, remembering}
+use Rattle.hpgl.specs.Change.{withPosition, withPen, withRelative, withPolygon, withMemory, withSettings, withCarriage, withCorners, withScale, withTurn, withWindow}
 
 -- carried out
 unfoldable pub done : Core → Action → Acted
@@ -79,13 +81,14 @@ noPolygon = record {
   saved = record { position = restAt origin; relative = false; down = false };
 }
 
--- "pen up, absolute mode, polygon empty", at a page point (turn 0) and with a pen
+-- "pen up, absolute mode, polygon empty", at a page point (turn 0) and with a pen; for OE no refusal "since fresh, IN"
 unfoldable pub freshCarriage : Point → ℕ → Carriage
 freshCarriage p n = record {
   position = restAt p;
   pen = record { number = n; down = false; changed = false };
   relative = false;
   polygon = noPolygon;
+  memory = noMemory;
 }
 
 -- "page point (0,0), pen 0"
@@ -103,7 +106,7 @@ letters k op =
     (cond (eqb op PR) (withRelative (withPen k (record { number = k .pen .number; down = k .pen .down; changed = false })) true)
     k)))
 
--- "There only PU, PD, PA, PR, PM, IN are known"
+-- "There only PU, PD, PA, PR, PM, IN are known"; of document 02's, CR 5, each "works in polygon mode too"
 unfoldable pub nameRule : Core → ℕ → Acted
 nameRule c op =
     cond (c .carriage .polygon .mode && not (knownInPolygon op)) (refuse c unknown) (done (withCarriage c (letters (c .carriage) op)) Keep)
@@ -318,6 +321,7 @@ leave c n k =
       pen = record { number = c .carriage .pen .number; down = c .carriage .polygon .saved .down; changed = false };
       relative = c .carriage .polygon .saved .relative;
       polygon = endedWith (c .carriage .polygon) false n k;
+      memory = c .carriage .memory;
     })
 
 -- "polygon bytes 7: same, but PM2 still ends, open"
@@ -470,6 +474,32 @@ aaRule c n = arcAbout c (absolutePosition (c .settings) (firstTwo n)) n
 unfoldable pub arRule : Core → Numbers → Acted
 arRule c n = arcAbout c (relativePosition (c .carriage .position) (firstTwo n)) n
 
+-- ---- Replies: document 02, "Replies for the designers' packages"
+
+-- "The reply is made when its instruction is carried out"; nothing else changes
+unfoldable pub oaRule : Core → Acted
+oaRule c = done c (Answer (placeTold c))
+
+unfoldable pub opRule : Core → Acted
+opRule c = done c (Answer (cornersTold c))
+
+unfoldable pub owRule : Core → Acted
+owRule c = done c (Answer (windowTold c))
+
+unfoldable pub ohRule : Core → Acted
+ohRule c = done c (Answer (limitsTold c))
+
+-- "0 if none since fresh, IN or OE": what it tells is forgotten
+unfoldable pub oeRule : Core → Acted
+oeRule c = done (withCarriage c (withMemory (c .carriage) noMemory)) (Answer (refusalTold c))
+
+-- "the latest 1, 2, 3, 6 or 7 that take gave": after every rule, its number is remembered
+unfoldable pub noting : ℕ → Core → Core
+noting k c = withCarriage c (withMemory (c .carriage) (remembering k (c .carriage .memory)))
+
+unfoldable pub noted : Acted → Acted
+noted t = record { core = noting (t .number) (t .core); action = t .action; number = t .number }
+
 -- ---- every event
 
 -- an instruction ends: "the others on the byte that ends the instruction". PU, PD, PA, PR have done their work
@@ -489,7 +519,12 @@ endRule c op n =
     (cond (eqb op ER) (erRule c n)
     (cond (eqb op AA) (aaRule c n)
     (cond (eqb op AR) (arRule c n)
-    (done c Keep))))))))))))))
+    (cond (eqb op OA) (oaRule c)
+    (cond (eqb op OP) (opRule c)
+    (cond (eqb op OW) (owRule c)
+    (cond (eqb op OH) (ohRule c)
+    (cond (eqb op OE) (oeRule c)
+    (done c Keep)))))))))))))))))))
 
 unfoldable pub actOn : Core → Event → Acted
 actOn c Nothing = done c Keep

@@ -42,6 +42,7 @@ workSegment m (work.Chords o i zero) = Nothing
 workSegment m (work.Chords o i (suc n)) = chordSegment (m .core .settings) o i
 workSegment m (work.Edges i zero) = Nothing
 workSegment m (work.Edges i (suc n)) = edgeSegment (m .core .settings) (getD (m .store .edges) i noEdge)
+workSegment m (work.Answer r) = Nothing
 
 unfoldable pub segmentOf : State → Segment
 segmentOf m = workSegment m (m .work)
@@ -85,6 +86,7 @@ work-drawn m (work.Edges i (suc n)) = go (getD (m .store .edges) i noEdge .down)
         cond down (shown (m .core) a b) drawn.Hidden ≡ drawnOf (limits s) (m .core .carriage .pen .number) (cond down (Line a b) PenUp)
     go true = refl
     go false = refl
+work-drawn m (work.Answer r) = refl
 
 pub segment-drawn : (m : State) → drawAnswer m ≡ drawnOf (limits (m .core .settings)) (m .core .carriage .pen .number) (segmentOf m)
 unfolding drawAnswer segmentOf
@@ -133,6 +135,7 @@ work-small v (work.Chords o i zero) h = tt
 work-small v (work.Chords o i (suc n)) h = chord-small (v .core .settings) (h .0)
 work-small v (work.Edges i zero) h = tt
 work-small v (work.Edges i (suc n)) h = page-small (v .core .settings) (edge-small (v .edges) i)
+work-small v (work.Answer r) h = tt
 
 -- that of a machine that the calls make may be
 pub segment-small : {m : State} → Valid m → SmallSegment (segmentOf m)

@@ -29,7 +29,7 @@ use Rattle.hpgl.specs.Numbers.{unknown, outOfRange, mostPen}
 use Rattle.hpgl.specs.Place.{rounded, axisX, axisY, location, inRange, restAt}
 use Rattle.hpgl.specs.Change.{withSettings, withCarriage, withCorners, withScale, withTurn, withWindow, withRelative}
 use Rattle.hpgl.specs.Rules.{origin, unscaled, noWindow, freshSettings, noPolygon, freshCarriage, letters, nameRule, rebased, inRule, dfRule, int16, goodCorners, setCorners, ipRule, scRule, setTurn, turnTo, roRule, setWindow, iwRule, setPen, spRule}
-use Rattle.hpgl.specs.Valid.{ShortPoint, ShortRect, ValidRange, ValidSettings, Placed, KeptPosition, ValidPolygon, ValidCore, ValidActed}
+use Rattle.hpgl.specs.Valid.{ShortPoint, ShortRect, ValidRange, ValidSettings, Placed, KeptPosition, ValidPolygon, ValidCore, ValidActed, clear}
 use Rattle.hpgl.specs.ValidFacts.{and-both, from-to, in-range-small, rest-placed, page-small, back-small, relative-valid}
 use Rattle.hpgl.specs.Cases.{never, pick, whether}
 use Rattle.hpgl.specs.KeptCases.{valid-core, closed-polygon, refuses, keeps}
@@ -42,10 +42,10 @@ valid-name {c} op w =
     let P : Carriage → Type 0 = λ k. ValidCore (withCarriage c k) in
     pick (ValidActed c) (c .carriage .polygon .mode && not (knownInPolygon op)) (refuses c c unknown (omega arith) w)
     (keeps c (withCarriage c (letters (c .carriage) op))
-    (pick P (eqb op PU) (valid-core (w .settings) (w .position) (w .pen) (w .polygon))
-    (pick P (eqb op PD) (valid-core (w .settings) (w .position) (w .pen) (w .polygon))
-    (pick P (eqb op PA) (valid-core (w .settings) (w .position) (w .pen) (w .polygon))
-    (pick P (eqb op PR) (valid-core (w .settings) (w .position) (w .pen) (w .polygon))
+    (pick P (eqb op PU) (valid-core (w .settings) (w .position) (w .pen) (w .polygon) (w .memory))
+    (pick P (eqb op PD) (valid-core (w .settings) (w .position) (w .pen) (w .polygon) (w .memory))
+    (pick P (eqb op PA) (valid-core (w .settings) (w .position) (w .pen) (w .polygon) (w .memory))
+    (pick P (eqb op PR) (valid-core (w .settings) (w .position) (w .pen) (w .polygon) (w .memory))
     w)))))
 
 -- ---- settings, by their parts
@@ -151,7 +151,7 @@ good-corners p q e =
 
 rebased-valid : (c : Core) {s : Settings} → ValidCore c → c .carriage .polygon .mode ≡ false → ValidSettings s → ValidCore (rebased c s)
 unfolding rebased
-rebased-valid c w o h = valid-core h (rest-placed h (back-small (w .settings) (w .position) (h .turn))) (w .pen) (closed-polygon o (w .polygon .bytes) (w .polygon .edges) (w .polygon .first-kept) (w .polygon .saved-kept))
+rebased-valid c w o h = valid-core h (rest-placed h (back-small (w .settings) (w .position) (h .turn))) (w .pen) (closed-polygon o (w .polygon .bytes) (w .polygon .edges) (w .polygon .first-kept) (w .polygon .saved-kept)) (w .memory)
 
 -- the window moves no location
 placed-under : {s : Settings} {k : Window} {p : Position} → Placed s p → Placed (withWindow s k) p
@@ -159,7 +159,7 @@ unfolding axisX axisY location
 placed-under h = record { x = h .x; y = h .y; near = h .near }
 
 window-valid : (c : Core) {k : Window} → ValidCore c → c .carriage .polygon .mode ≡ false → SmallRect (k .area) → ValidCore (withSettings c (withWindow (c .settings) k))
-window-valid c w o h = valid-core (with-window (w .settings) h) (placed-under (w .position)) (w .pen) (closed-polygon o (w .polygon .bytes) (w .polygon .edges) (w .polygon .first-kept) (w .polygon .saved-kept))
+window-valid c w o h = valid-core (with-window (w .settings) h) (placed-under (w .position)) (w .pen) (closed-polygon o (w .polygon .bytes) (w .polygon .edges) (w .polygon .first-kept) (w .polygon .saved-kept)) (w .memory)
 
 at-origin : KeptPosition (restAt origin)
 unfolding restAt
@@ -175,7 +175,7 @@ pub valid-in : {c : Core} → ValidCore c → ValidActed c (inRule c)
 unfolding inRule freshCarriage
 valid-in {c} w =
     let h = fresh-settings (w .settings .hard) (w .settings .hard-x) (w .settings .hard-y) in
-    keeps c _ (valid-core h (rest-placed h (page-small (w .settings) (w .position))) (w .pen) no-polygon)
+    keeps c _ (valid-core h (rest-placed h (page-small (w .settings) (w .position))) (w .pen) no-polygon clear)
 
 module _ {c : Core} (w : ValidCore c) (o : c .carriage .polygon .mode ≡ false) where
   pub valid-df : ValidActed c (dfRule c)
@@ -237,7 +237,7 @@ module _ {c : Core} (w : ValidCore c) (o : c .carriage .polygon .mode ≡ false)
 
 pub valid-pen : {c : Core} (k : ℕ) → ValidCore c → k ≤ mostPen → ValidActed c (setPen c k)
 unfolding setPen
-valid-pen {c} k w h = keeps c _ (valid-core (w .settings) (w .position) h (w .polygon))
+valid-pen {c} k w h = keeps c _ (valid-core (w .settings) (w .position) h (w .polygon) (w .memory))
 
 pub valid-sp : {c : Core} (n : Numbers) → ValidCore c → ValidActed c (spRule c n)
 unfolding spRule

@@ -16,7 +16,7 @@ use Rattle.reader.specs.declared.Coordinates.{Coordinates}
 use Rattle.reader.specs.declared.Numbers.{Numbers}
 use Rattle.reader.specs.declared.Event.{Event}
 use Rattle.reader.specs.declared.Event.the-variants.{Nothing, Named, Pair, Ended, Refused}
-use Rattle.mnemonics.specs.Table.{IN, DF, EP, IP, SC, IW, RO, SP, PM, CI, EA, ER, PU, PD, PA, PR, AA, AR, cellOf, knownInPolygon}
+use Rattle.mnemonics.specs.Table.{IN, DF, EP, IP, SC, IW, RO, SP, PM, CI, EA, ER, PU, PD, PA, PR, AA, AR, OA, OP, OW, OH, OE, cellOf, knownInPolygon}
 use Rattle.plane.specs.Bounds.{mostAngle}
 use Rattle.plane.specs.Position.{axisOf, exactOf, relativeOf, locationOf}
 use Rattle.plane.specs.Turn.{turnCount, findTurn, turnedOf, orderedOf}
@@ -36,7 +36,8 @@ use Rattle.hpgl.specs.declared.Carriage.{Carriage}
 use Rattle.hpgl.specs.declared.Core.{Core}
 use Rattle.hpgl.specs.declared.Edge.{Edge}
 use Rattle.hpgl.specs.declared.Action.{Action}
-use Rattle.hpgl.specs.declared.Action.the-variants.{Keep, Line, Chords, Outline}
+use Rattle.hpgl.specs.declared.Action.the-variants.{Keep, Line, Chords, Outline, Answer}
+use Rattle.hpgl.specs.declared.Reply.{Reply}
 use Rattle.hpgl.specs.declared.Acted.{Acted}
 use Rattle.hpgl.specs.declared.Work.the-variants as work
 use Rattle.hpgl.specs.Numbers.{polygonBytes, modeBytes, pointBytes, mostPen, leastAngle, wholeTurn}
@@ -44,7 +45,8 @@ use Rattle.hpgl.specs.Place.{point, rounded, axisX, axisY, exactPosition
 use Rattle.hpgl.specs.Change.{withPosition, withPen, withPolygon, withSettings, withCarriage, withCorners, withScale, withTurn, withWindow}
 use Rattle.hpgl.specs.Ends as ends
 use Rattle.hpgl.specs.Ends.{Works, Rests, other, by-end}
-use Rattle.hpgl.specs.Rules.{done, refuse, unscaled, noWindow, freshSettings, noPolygon, freshCarriage, letters, nameRule, rebased, inRule, dfRule, goodCorners, setCorners, ipRule, scRule, setTurn, turnTo, roRule, setWindow, iwRule, setPen, spRule, inked, spent, moveTo, pointCost, longer, edgeTo, storePoint, aimed, goTo, pairRule, begun, pm0, differ, closes, endedWith, ended, pm1In, pm1, leave, pm2In, pm2, pmRule, epRule, rectangular, rectangleTo, firstTwo, eaRule, erRule, circleFits, circle, circleWith, chordAngle, ciRule, sweptAngle, arcAngle, wayFrom, arc, follow, arcAbout, aaRule, arRule, endRule, actOn}
+use Rattle.hpgl.specs.Rules.{done, refuse, unscaled, noWindow, freshSettings, noPolygon, freshCarriage, letters, nameRule, rebased, inRule, dfRule, goodCorners, setCorners, ipRule, scRule, setTurn, turnTo, roRule, setWindow, iwRule, setPen, spRule, inked, spent, moveTo, pointCost, longer, edgeTo, storePoint, aimed, goTo, pairRule, begun, pm0, differ, closes, endedWith, ended, pm1In, pm1, leave, pm2In, pm2, pmRule, epRule, rectangular, rectangleTo, firstTwo, eaRule, erRule, circleFits, circle, circleWith, chordAngle, ciRule, sweptAngle, arcAngle, wayFrom, arc, follow, arcAbout, aaRule, arRule, oaRule, opRule, owRule, ohRule, oeRule, noting, noted, endRule, actOn}
+use Rattle.hpgl.specs.Replies.{remembered, remembering}
 use Rattle.hpgl.specs.Machine.{vertexIn, vertex, rectangleEdges, stored, queued}
 use Rattle.hpgl.specs.ExactModel.{ExactPolygon, ExactSegment, exactSegment, outline, vertexAt, arcVertex, path, lastOf, rectangle, polygonMode, afterEnd, polygonAfter, inkedOnly, move, arcMoves, instructed, added}
 use Rattle.hpgl.specs.Related.{Sound, Fit, edgesFrom, edgesOf, edgesAfter, allEdges, polygonEdges, some, Linked, turnedEdges, chordsFrom, view, onPage}
@@ -174,6 +176,18 @@ module _ (c : Core) (es : List Edge) (g : ExactPolygon) (f : Fit (c .settings) (
       Linked (d .settings) (d .carriage .position) (d .carriage .polygon) es g → Keeps c es g e (done d Keep)
   unfolding done polygonBy addedBy stored queued view onPage
   calm e d p q h k = record {
+    kept = record {
+      fit = h;
+      linked = subst (λ (x : ExactPolygon). Linked (d .settings) (d .carriage .position) (d .carriage .polygon) es x) (sym p) k;
+      queue = ap onPage (sym q);
+    };
+  }
+
+  -- the same with a reply, which is no segment
+  tells : (e : Event) (d : Core) (r : Reply) → polygonAfter c d e g ≡ g → added c d e (polygonAfter c d e g) ≡ [] → Fit (d .settings) (d .carriage .polygon) →
+      Linked (d .settings) (d .carriage .position) (d .carriage .polygon) es g → Keeps c es g e (done d (Answer r))
+  unfolding done polygonBy addedBy stored queued view onPage
+  tells e d r p q h k = record {
     kept = record {
       fit = h;
       linked = subst (λ (x : ExactPolygon). Linked (d .settings) (d .carriage .position) (d .carriage .polygon) es x) (sym p) k;
@@ -559,7 +573,7 @@ module _ (c : Core) (es : List Edge) (g : ExactPolygon) (f : Fit (c .settings) (
   Ends n op t = (c .carriage .polygon .mode ≡ true → knownInPolygon op ≡ true) → Keeps c es g (Ended op n) t
 
   keeps-each : (n : Numbers) {op : ℕ} → Works op → Ends n op (endRule c op n)
-  unfolding Ends endRule aaRule arRule knownInPolygon cellOf polygonAfter afterEnd added instructed
+  unfolding Ends endRule aaRule arRule oaRule opRule owRule ohRule oeRule knownInPolygon cellOf polygonAfter afterEnd added instructed
   keeps-each n ends.IN known = keeps-in n
   keeps-each n ends.DF known = keeps-df n (outside known)
   keeps-each n ends.EP known = keeps-ep n
@@ -574,6 +588,11 @@ module _ (c : Core) (es : List Edge) (g : ExactPolygon) (f : Fit (c .settings) (
   keeps-each n ends.ER known = keeps-er n
   keeps-each n ends.AA known = keeps-arc (Ended AA n) _ n (outside known) (λ d. refl) (λ d x. refl)
   keeps-each n ends.AR known = keeps-arc (Ended AR n) _ n (outside known) (λ d. refl) (λ d x. refl)
+  keeps-each n ends.OA known = tells (Ended OA n) _ _ refl refl f l
+  keeps-each n ends.OP known = tells (Ended OP n) _ _ refl refl f l
+  keeps-each n ends.OW known = tells (Ended OW n) _ _ refl refl f l
+  keeps-each n ends.OH known = tells (Ended OH n) _ _ refl refl f l
+  keeps-each n ends.OE known = tells (Ended OE n) _ _ refl refl f l
 
   keeps-rest : (n : Numbers) (op : ℕ) → Rests op → Ends n op (done c Keep)
   unfolding Ends polygonAfter afterEnd added instructed
@@ -589,3 +608,13 @@ module _ (c : Core) (es : List Edge) (g : ExactPolygon) (f : Fit (c .settings) (
   keeps (Ended op n) known = by-end c n (Ends n) (λ o i. keeps-each n i) (keeps-rest n) op (known op n refl)
   keeps (Refused zero) known = calm (Refused 0) c refl refl f l
   keeps (Refused (suc k)) known = refused (Refused (suc k)) k
+
+-- what is remembered of it changes neither polygon nor queue
+pub keeps-noted : {c : Core} {es : List Edge} {g : ExactPolygon} {e : Event} {t : Acted} → Keeps c es g e t → Keeps c es g e (noted t)
+unfolding noted noting remembering remembered polygonBy addedBy
+keeps-noted {c} {es} {g} {e} {t} h = record { kept = go (t .number) (h .kept) }
+  where
+    go : (k : ℕ) → Matched c (t .core) (t .action) es (polygonBy c (t .core) e k g) (addedBy c (t .core) e k g) →
+        Matched c (noting k (t .core)) (t .action) es (polygonBy c (noting k (t .core)) e k g) (addedBy c (noting k (t .core)) e k g)
+    go zero m = m
+    go (suc k) m = record { fit = m .fit; linked = m .linked; queue = m .queue }

@@ -1,12 +1,13 @@
--- What a run of bytes answers: each byte is taken, then all that waits is drawn. For figures and examples.
+-- What a run of bytes answers: each byte is taken, then a reply that waits is fetched, and all that waits is drawn. For figures and examples.
 use Prim.Native.Nat.{ℕ, zero, suc, _+_}
 use Prim.Native.Char.{code}
 use Prim.Native.String.{String, len, charAt}
+use mathlib.Core.Bool.{cond}
 use mathlib.Core.List.{List, [], _∷_, _++_}
 use Rattle.clip.specs.declared.Rect.{Rect}
 use Rattle.hpgl.specs.declared.State.{State}
-use Rattle.hpgl.specs.Machine.{freshState, waiting, takeState, takeNumber, drawState, drawAnswer, lookAt}
-pub use Rattle.hpgl.specs.Values.{Out, refused, stroke, hidden, idle, seen}
+use Rattle.hpgl.specs.Machine.{freshState, waiting, replying, takeState, takeNumber, drawState, drawAnswer, lookAt, fetchState, fetchText}
+pub use Rattle.hpgl.specs.Values.{Out, refused, stroke, hidden, idle, seen, reply}
 unfoldable pub use Rattle.hpgl.specs.Values.{drawnValues, lookValues}
 
 -- a text's bytes
@@ -30,12 +31,20 @@ unfoldable pub refusal : ℕ → ℕ → List Out
 refusal zero k = []
 refusal (suc n) k = refused (suc n) k ∷ []
 
+-- a buffer that every reply fits into
+abbrev pub buffer : ℕ
+buffer = 64
+
+unfoldable pub fetched : State → List Out
+fetched m = cond (replying (m .work)) (reply (fetchText m buffer) ∷ []) []
+
 -- the bytes after the first k
 unfoldable pub traceFrom : ℕ → State → List ℕ → List Out
 traceFrom k m [] = lookValues (lookAt m) ∷ []
 traceFrom k m (b ∷ bs) =
     let t : State = takeState m b in
-    refusal (takeNumber m b) (k + 1) ++ (draws (waiting (t .work)) t ++ traceFrom (k + 1) (drawnOff (waiting (t .work)) t) bs)
+    let u : State = fetchState t buffer in
+    refusal (takeNumber m b) (k + 1) ++ (fetched t ++ (draws (waiting (u .work)) u ++ traceFrom (k + 1) (drawnOff (waiting (u .work)) u) bs))
 
 unfoldable pub trace : Rect → String → List Out
 trace r s = traceFrom 0 (freshState r) (bytes s)

@@ -31,11 +31,13 @@ use Rattle.hpgl.specs.declared.Circle.{Circle}
 use Rattle.hpgl.specs.declared.Action.{Action}
 use Rattle.hpgl.specs.declared.Action.the-variants as action
 use Rattle.hpgl.specs.declared.Acted.{Acted}
+use Rattle.hpgl.specs.declared.Reply.{Reply}
 use Rattle.hpgl.specs.declared.Work.{Work}
 use Rattle.hpgl.specs.declared.Work.the-variants as work
 use Rattle.hpgl.specs.declared.State.{State}
 use Rattle.hpgl.specs.Numbers.{polygonBytes, modeBytes, pointBytes, mostEdges, mostPen, leastAngle}
 use Rattle.hpgl.specs.Place.{axisX, axisY, location}
+use Rattle.hpgl.specs.Replies.{remembered}
 use Rattle.hpgl.specs.Machine.{waiting, queued, vertexIn}
 
 -- the chord angle is at least 5 tenths of a degree: so a circle has at most 3600 / 5 chords
@@ -108,11 +110,17 @@ pub record ValidPolygon (s : Settings) (g : Polygon) : Type 0 where
   pub first-kept : KeptPosition (g .first)
   pub saved-kept : KeptPosition (g .saved .position)
 
+-- what OE may tell: "1, 2, 3, 6 or 7 .., 0 if none"
+pub data Recalled : ℕ → Type 0 where
+  clear : Recalled 0
+  given : {k : ℕ} → remembered k ≡ true → Recalled k
+
 pub record ValidCore (c : Core) : Type 0 where
   pub settings : ValidSettings (c .settings)
   pub position : Placed (c .settings) (c .carriage .position)
   pub pen : c .carriage .pen .number ≤ mostPen
   pub polygon : ValidPolygon (c .settings) (c .carriage .polygon)
+  pub memory : Recalled (c .carriage .memory .refusal)
 
 -- an event that a core may be handed: in polygon mode an instruction that ends was known there
 abbrev pub ValidEvent : Core → Event → Type 0
@@ -144,6 +152,19 @@ pub record ValidCircle (o : Circle) (i n : ℕ) : Type 0 where
 abbrev pub WholeCircle : Circle → Type 0
 WholeCircle o = ValidCircle o 0 (partsOf (o .sweep) (o .angle))
 
+-- a reply of one, three or four numbers, none larger than a location
+pub data ReplyCount : ℕ → Type 0 where
+  one : ReplyCount 1
+  three : ReplyCount 3
+  four : ReplyCount 4
+
+pub record ValidReply (r : Reply) : Type 0 where
+  pub count : ReplyCount (r .count)
+  pub first : Bd (r .first) reach
+  pub second : Bd (r .second) reach
+  pub third : Bd (r .third) reach
+  pub fourth : Bd (r .fourth) reach
+
 -- an action that a core may hand on; k is how many edges its polygon had, and an edge that joins them finds a place in the store
 abbrev pub ValidAction : ℕ → Action → Type 0
 ValidAction k action.Keep = Unit {0}
@@ -152,6 +173,7 @@ ValidAction k (action.Chords o) = WholeCircle o
 ValidAction k (action.Join e) = SmallEdge e × (k < mostEdges)
 ValidAction k action.Outline = Unit {0}
 ValidAction k (action.Rectangle p q shown) = SmallPoint p × SmallPoint q
+ValidAction k (action.Answer r) = ValidReply r
 
 -- where a segment waits, the pen is not 0
 pub record Inked (c : Core) (w : Work) : Type 0 where
@@ -170,6 +192,7 @@ ValidWork work.Nothing = Unit {0}
 ValidWork (work.Line a b) = SmallPoint a × SmallPoint b
 ValidWork (work.Chords o i n) = ValidCircle o i n × (i + n ≤ mostChords)
 ValidWork (work.Edges i n) = i + n ≤ mostEdges
+ValidWork (work.Answer r) = ValidReply r
 
 pub data Every {A : Type 0} (P : A → Type 0) : List A → Type 0 where
   none : Every P []

@@ -184,7 +184,7 @@ back-small w h l = rebased-small (h .near) (w .turn) l
 
 -- DF settles a core whose mode is absolute already
 pub relative-valid : {c : Core} (on : Bool) → ValidCore c → ValidCore (withCarriage c (withRelative (c .carriage) on))
-relative-valid on w = record { settings = w .settings; position = w .position; pen = w .pen; polygon = w .polygon }
+relative-valid on w = record { settings = w .settings; position = w .position; pen = w .pen; polygon = w .polygon; memory = w .memory }
 
 -- an instruction that is not known in polygon mode ends outside it
 pub unknown-outside : {mode known : Bool} → known ≡ false → (mode ≡ true → known ≡ true) → mode ≡ false

@@ -1,11 +1,11 @@
--- Every machine that the calls make is usable: fresh, take and draw keep it. Why: each rule keeps the core valid and its action valid (the other files ..Kept.antt),
+-- Every machine that the calls make is usable: fresh, take, draw and fetch keep it. Why: each rule keeps the core valid and its action valid (the other files ..Kept.antt),
 -- the reader keeps its numbers small, and an action puts into store and work what it holds.
 use mathlib.Core.Path.{_≡_, refl, ap, _∙_}
 use mathlib.Core.Bool.{Bool, true, false}
 use mathlib.Core.List.{List}
 use Prim.Native.Nat.{ℕ, zero, suc, _+_, _≤_, _<_}
 use native.Mathlib.Omega.{arith}
-use lib.Dec.{eqb}
+use lib.Dec.{eqb, leb}
 use lib.ListN.{length, set, replicate, length-set, length-replicate}
 use Rattle.exact.specs.Whole.{_<?_, <?-true, ord}
 use Rattle.exact.specs.Fit.{bd-lit}
@@ -14,7 +14,7 @@ use Rattle.clip.specs.Reach.{SmallPoint}
 use Rattle.reader.specs.declared.Numbers.{Numbers}
 use Rattle.reader.specs.declared.Event.{Event}
 use Rattle.reader.specs.declared.Event.the-variants.{Nothing, Named, Pair, Ended, Refused}
-use Rattle.mnemonics.specs.Table.{IN, DF, EP, IP, SC, IW, RO, SP, PM, CI, EA, ER, AA, AR, cellOf, knownInPolygon}
+use Rattle.mnemonics.specs.Table.{IN, DF, EP, IP, SC, IW, RO, SP, PM, CI, EA, ER, AA, AR, OA, OP, OW, OH, OE, cellOf, knownInPolygon}
 use Rattle.reader.specs.Step.{stepOf}
 use Rattle.reader.specs.Laws.{fresh-law}
 use Rattle.hpgl.specs.declared.Core.{Core}
@@ -29,9 +29,10 @@ use Rattle.hpgl.specs.declared.Acted.{Acted}
 use Rattle.hpgl.specs.Ends as ends
 use Rattle.hpgl.specs.Ends.{Works, by-end}
 use Rattle.hpgl.specs.Rules.{freshSettings, noPolygon, freshCarriage, freshCore, int16, endRule, actOn}
-use Rattle.hpgl.specs.Machine.{goodLimits, hardLimits, noEdge, freshState, waiting, rectangleEdges, stored, queued, applied, acted, takeState, workAfter, drawState}
+use Rattle.hpgl.specs.Machine.{goodLimits, hardLimits, noEdge, freshState, waiting, replied, replying, occupied, fetchState, rectangleEdges, stored, queued, applied, acted, takeState, workAfter, drawState}
 use Rattle.hpgl.specs.Numbers.{mostEdges}
-use Rattle.hpgl.specs.Valid.{ValidSettings, ValidCore, ValidEvent, SmallEdge, ValidAction, ValidActed, ValidWork, Every, none, more, Inked, Knows, Valid, Usable}
+use Rattle.hpgl.specs.Valid.{ValidSettings, ValidCore, ValidEvent, SmallEdge, ValidAction, ValidActed, ValidWork, Every, none, more, Inked, Knows, Valid, Usable, clear}
+use Rattle.hpgl.specs.Replies.{replyText}
 use Rattle.hpgl.specs.Made as made
 use Rattle.hpgl.specs.ValidFacts.{and-both, rest-placed, origin-small, unknown-outside, fewer, chords-most}
 use Rattle.hpgl.specs.Cases.{never, pick, whether}
@@ -40,6 +41,7 @@ use Rattle.hpgl.specs.SettingsKept.{valid-name, int16-short, fresh-setti
 use Rattle.hpgl.specs.PositionKept.{valid-pair}
 use Rattle.hpgl.specs.PolygonKept.{valid-pm, valid-ep, valid-ea, valid-er}
 use Rattle.hpgl.specs.VerticesKept.{valid-ci, valid-aa, valid-ar}
+use Rattle.hpgl.specs.RepliesKept.{valid-oa, valid-op, valid-ow, valid-oh, valid-oe, valid-noted}
 use Rattle.hpgl.specs.ReaderKept.{step-event, known-after, readable-after}
 
 -- ---- every event
@@ -64,6 +66,11 @@ valid-each {c} {n} w ends.EA h = valid-ea w (h .0 .numbers)
 valid-each {c} {n} w ends.ER h = valid-er w (h .0 .numbers)
 valid-each {c} {n} w ends.AA h = valid-aa w (h .0 .numbers)
 valid-each {c} {n} w ends.AR h = valid-ar w (h .0 .numbers)
+valid-each {c} {n} w ends.OA h = valid-oa w
+valid-each {c} {n} w ends.OP h = valid-op w
+valid-each {c} {n} w ends.OW h = valid-ow w
+valid-each {c} {n} w ends.OH h = valid-oh w
+valid-each {c} {n} w ends.OE h = valid-oe w
 
 pub valid-end : {c : Core} {op : ℕ} {n : Numbers} → ValidCore c → ValidEvent c (Ended op n) → ValidActed c (endRule c op n)
 valid-end {c} {op} {n} w h = by-end c n (λ (op : ℕ) (t : Acted). ValidEvent c (Ended op n) → ValidActed c t) (λ o i. valid-each w i) (λ o r h. keeps c c w) op h
@@ -78,7 +85,7 @@ valid-event {c} (Refused k) w h = refuses c c k h w
 
 pub valid-acted : {m : State} (b : ℕ) → Valid m → ValidActed (m .core) (acted m b)
 unfolding acted
-valid-acted {m} b w = valid-event (stepOf (m .reader) b .event) (w .core) (step-event b w)
+valid-acted {m} b w = valid-noted (valid-event (stepOf (m .reader) b .event) (w .core) (step-event b w))
 
 -- ---- store and work
 
@@ -101,6 +108,7 @@ stored-valid k (action.Line a b) h w = w
 stored-valid k (action.Chords o) h w = w
 stored-valid k (action.Join e) h w = put k (h .0) w
 stored-valid k action.Outline h w = w
+stored-valid k (action.Answer r) h w = w
 stored-valid k (action.Rectangle p q shown) h w =
     let second : SmallPoint (point (q .x) (p .y)) = record { x = h .1 .x; y = h .0 .y } in
     let fourth : SmallPoint (point (p .x) (q .y)) = record { x = h .0 .x; y = h .1 .y } in
@@ -118,6 +126,7 @@ queued-valid t es j k (action.Chords o) h l = (h, omega (arith, chords-most h))
 queued-valid t es j k (action.Join e) h l = tt
 queued-valid t es j k action.Outline h l = omega arith
 queued-valid t es j k (action.Rectangle p q shown) h l = pick ValidWork shown (omega arith) tt
+queued-valid t es j k (action.Answer r) h l = h
 
 -- ---- fresh
 
@@ -151,7 +160,7 @@ unfolding freshState freshCore freshCarriage noPolygon Knows
 valid-fresh r = record {
   reader = fresh-law;
   known = λ o. never refl o;
-  core = valid-core (hard-valid r) (rest-placed (hard-valid r) origin-small) (omega arith) no-polygon;
+  core = valid-core (hard-valid r) (rest-placed (hard-valid r) origin-small) (omega arith) no-polygon clear;
   edges = all mostEdges;
   length = length-replicate mostEdges noEdge;
   work = tt;
@@ -179,7 +188,7 @@ applied-valid {m} b w =
 
 pub valid-take : {m : State} (b : ℕ) → Valid m → Valid (takeState m b)
 unfolding takeState
-valid-take {m} b w = pick Valid (eqb (waiting (m .work)) 0) (applied-valid b w) w
+valid-take {m} b w = pick Valid (occupied (m .work)) w (applied-valid b w)
 
 work-after : (x : Work) → ValidWork x → ValidWork (workAfter x)
 unfolding workAfter
@@ -189,6 +198,7 @@ work-after (work.Chords o i zero) h = tt
 work-after (work.Chords o i (suc n)) h = pick ValidWork (eqb n 0) tt (fewer (h .0) (i + 1) n (omega arith) (omega arith), omega (arith, h .1))
 work-after (work.Edges i zero) h = tt
 work-after (work.Edges i (suc n)) h = pick ValidWork (eqb n 0) tt (omega arith)
+work-after (work.Answer r) h = h
 
 pub valid-draw : {m : State} → Valid m → Valid (drawState m)
 unfolding drawState
@@ -201,6 +211,13 @@ valid-draw {m} w = record {
   work = work-after (m .work) (w .work);
 }
 
+pub valid-fetch : {m : State} (room : ℕ) → Valid m → Valid (fetchState m room)
+unfolding fetchState
+valid-fetch {m} room w =
+    pick Valid (replying (m .work))
+    (pick Valid (leb (length (replyText (replied (m .work)))) room)
+    (record { reader = w .reader; known = w .known; core = w .core; edges = w .edges; length = w .length; work = tt }) w) w
+
 -- ---- usable: each call keeps it
 
 pub usable-fresh : (r : Rect) → Usable (freshState r)
@@ -211,7 +228,7 @@ pub usable-take : {m : State} (b : ℕ) → Usable m → Usable (takeState m b)
 unfolding takeState applied
 usable-take {m} b w = record {
   valid = valid-take b (w .valid);
-  inked = pick (λ (n : State). Inked (n .core) (n .work)) (eqb (waiting (m .work)) 0) (valid-acted b (w .valid) .inked _ _ _) (w .inked);
+  inked = pick (λ (n : State). Inked (n .core) (n .work)) (occupied (m .work)) (w .inked) (valid-acted b (w .valid) .inked _ _ _);
 }
 
 waited : (x : Work) → 0 < waiting (workAfter x) → 0 < waiting x
@@ -222,13 +239,26 @@ waited (work.Chords o i zero) h = h
 waited (work.Chords o i (suc n)) h = omega arith
 waited (work.Edges i zero) h = h
 waited (work.Edges i (suc n)) h = omega arith
+waited (work.Answer r) h = h
 
 pub usable-draw : {m : State} → Usable m → Usable (drawState m)
 unfolding drawState
 usable-draw {m} w = record { valid = valid-draw (w .valid); inked = record { pen = λ h e. w .inked .pen (waited (m .work) h) e } }
+
+pub usable-fetch : {m : State} (room : ℕ) → Usable m → Usable (fetchState m room)
+unfolding fetchState waiting
+usable-fetch {m} room w = record {
+  valid = valid-fetch room (w .valid);
+  inked = pick Penned (replying (m .work))
+      (pick Penned (leb (length (replyText (replied (m .work)))) room) (record { pen = λ h e. omega (arith, h) }) (w .inked)) (w .inked);
+}
+  where
+    Penned : State → Type 0
+    Penned n = Inked (n .core) (n .work)
 
 -- THE THEOREM: what the calls ask of a machine holds of each that they make
 pub made-usable : {m : State} → made.Made m → Usable m
 made-usable (made.fresh r) = usable-fresh r
 made-usable (made.take h b l) = usable-take b (made-usable h)
 made-usable (made.draw h) = usable-draw (made-usable h)
+made-usable (made.fetch h room) = usable-fetch room (made-usable h)

@@ -2,6 +2,7 @@
 -- promises use that definition". Segment.antt has what draw answers in them.
 use Prim.Native.Nat.{ℕ}
 use mathlib.Core.Bool.{Bool}
+use mathlib.Core.List.{List}
 use lib.IntN.{ℤ}
 use Rattle.hpgl.specs.declared.Stroke.{Stroke}
 use Rattle.hpgl.specs.declared.Drawn.{Drawn}
@@ -9,13 +10,14 @@ use Rattle.hpgl.specs.declared.Drawn.the-variants as drawn
 use Rattle.hpgl.specs.declared.Look.{Look}
 
 -- take: a byte was refused (number, place counted from 1). Draw: "a stroke (pen, x0, y0, x1, y1), hidden, or idle". Look: "location, pen, pen up or down,
--- polygon bytes" (x, y, pen, down, bytes)
+-- polygon bytes" (x, y, pen, down, bytes). Fetch: the bytes of a reply
 pub data Out : Type 0 where
   refused : ℕ → ℕ → Out
   stroke : ℕ → ℤ → ℤ → ℤ → ℤ → Out
   hidden : Out
   idle : Out
   seen : ℤ → ℤ → ℕ → Bool → ℕ → Out
+  reply : List ℕ → Out
 
 -- every answer of draw
 unfoldable pub drawnValues : Drawn → Out

@@ -43,7 +43,7 @@ unfolding follow done inked
 valid-follow {c} {o} w h =
     let d : Core = follow c o .core in
     acts c d _ (pick (ValidAction (c .carriage .polygon .edges)) (c .carriage .pen .down && inked c) h tt)
-    (valid-core {d = d} (w .settings) (rest-placed (w .settings) (last-small h)) (w .pen) (w .polygon)) (down-with-ink d (c .carriage .pen .down) (Chords o))
+    (valid-core {d = d} (w .settings) (rest-placed (w .settings) (last-small h)) (w .pen) (w .polygon) (w .memory)) (down-with-ink d (c .carriage .pen .down) (Chords o))
 
 valid-arc : {c : Core} {q : Position} (n : Numbers) → ValidCore c → LocatablePosition (c .settings) q → ValidActed c (arcAbout c q n)
 valid-arc {c} {q} n w k =

@@ -67,12 +67,18 @@ pub struct Polygon {
     pub saved: Saved,
 }
 
-// What belongs to the carriage: position, pen, relative or absolute mode, polygon.
+// What a carriage remembers beside them: the number that OE tells, 0 for none.
+pub struct Memory {
+    pub refusal: u8,
+}
+
+// What belongs to the carriage: position, pen, relative or absolute mode, polygon, memory.
 pub struct Carriage {
     pub position: Position,
     pub pen: Pen,
     pub relative: bool,
     pub polygon: Polygon,
+    pub memory: Memory,
 }
 
 // Everything that decides anything.
@@ -99,6 +105,15 @@ pub struct Circle {
     pub sweep: i64,
 }
 
+// What OA, OP, OW, OH or OE answers: so many numbers, of these four, as they were when it was carried out. Of no numbers it is no reply.
+pub struct Reply {
+    pub count: u8,
+    pub first: i64,
+    pub second: i64,
+    pub third: i64,
+    pub fourth: i64,
+}
+
 // What an instruction hands to the store and to the waiting work.
 pub enum Action {
     Keep,
@@ -112,6 +127,8 @@ pub enum Action {
     Outline,
     // the store gets the edges of the rectangle between two opposite corners, and they are drawn or not
     Rectangle(Point, Point, bool),
+    // a reply waits
+    Answer(Reply),
 }
 
 // What an event does: the new core, the action, and 01's number (0 for none).
@@ -130,12 +147,13 @@ pub struct Store {
 }
 
 // The segments that wait, all from one byte: none; one move, between two page points; the chords of a circle, or the stored edges, from one
-// on, with how many are left.
+// on, with how many are left. Or a reply waits: never both, for no byte is taken while anything does.
 pub enum Work {
     Nothing,
     Line(Point, Point),
     Chords(Circle, u16, u16),
     Edges(u8, u8),
+    Answer(Reply),
 }
 
 // The whole machine.

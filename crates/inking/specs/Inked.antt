@@ -22,7 +22,7 @@ unfolding savedOf inkedState penRow
 pen-set m = refl
 
 inked-core : (c : Core) → ValidCore c → ValidCore (penNumber 1 c)
-inked-core c v = record { settings = v .settings; position = v .position; pen = omega arith; polygon = v .polygon }
+inked-core c v = record { settings = v .settings; position = v .position; pen = omega arith; polygon = v .polygon; memory = v .memory }
 
 -- where nothing waits, it may be used
 pub inked-usable : (m : State) → Usable m → waiting (m .work) ≡ 0 → Usable (inkedState m)

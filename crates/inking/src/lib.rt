@@ -8,7 +8,7 @@ ghost use Rattle.inking.specs.Inked.{inkedState};
 use machine::Machine;
 
 // A saved machine has so many numbers, and at this place the pen's.
-const NUMBERS: usize = 640;
+const NUMBERS: usize = 645;
 
 const PEN: usize = 40;
 

@@ -16,11 +16,21 @@ use mnemonics::ER;
 use mnemonics::IN;
 use mnemonics::IP;
 use mnemonics::IW;
+use mnemonics::OA;
+use mnemonics::OE;
+use mnemonics::OH;
+use mnemonics::OP;
+use mnemonics::OW;
 use mnemonics::PM;
 use mnemonics::RO;
 use mnemonics::SC;
 use mnemonics::SP;
 use reader::Numbers;
+use replies::telling::oa_rule;
+use replies::telling::oe_rule;
+use replies::telling::oh_rule;
+use replies::telling::op_rule;
+use replies::telling::ow_rule;
 use rulekit::acts::done;
 use settings::df_rule;
 use settings::in_rule;
@@ -57,6 +67,11 @@ pub fn end_rule(c: Core, op: usize, n: Numbers) -> Acted
         ER => er_rule(c, n),
         AA => aa_rule(c, n),
         AR => ar_rule(c, n),
+        OA => oa_rule(c),
+        OP => op_rule(c),
+        OW => ow_rule(c),
+        OH => oh_rule(c),
+        OE => oe_rule(c),
         _ => done(c, Action::Keep),
     }
 }

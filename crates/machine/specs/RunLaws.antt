@@ -9,10 +9,12 @@ use borrow.Author.Tests.{eq-eqb, ne-eqb, eqb-true, eqb-false}
 use lib.Dec.{eqb}
 use lib.ListN.{length, getD}
 use Rattle.hpgl.specs.declared.State.{State}
-use Rattle.hpgl.specs.Machine.{waiting, takeState, takeNumber}
+use Rattle.hpgl.specs.Machine.{waiting, occupied, takeState, takeNumber}
 use Rattle.feeding.specs.DrawOff.{listFull}
-use Rattle.feeding.specs.Feed.{Feed, feedFrom}
-use Rattle.feeding.specs.FeedLaws.{at-end, at-byte, at-refused, at-full, feed-usable, feed-made}
+use Rattle.feeding.specs.Feed.{Feed, counted, feedFrom}
+use Rattle.feeding.specs.FeedLaws.{at-end, at-byte, at-refused, at-full, counted-next, feed-usable, feed-made}
+use Rattle.feeding.specs.DrawOffLaws.{free-taken}
+use Rattle.gathering.specs.GatherLaws.{free-idle}
 use Rattle.feeding.specs.PartsOfFeed.{take-not-full}
 use Rattle.hpgl.specs.Made.{Made}
 use Rattle.hpgl.specs.Valid.{Usable}
@@ -26,17 +28,18 @@ run-place m [] at = (omega arith, omega arith)
 run-place m (b ∷ bs) at = go (eqb (waiting (m .work)) 0) (eqb (takeNumber m b) 0) (run-place (takeState m b) bs (at + 1))
   where
     go : (s t : Bool) → (at + 1 ≤ runOf (takeState m b) bs (at + 1) .at) × (runOf (takeState m b) bs (at + 1) .at ≤ at + 1 + length bs) →
-        let r = cond s (cond t (runOf (takeState m b) bs (at + 1)) (ranOf (takeState m b) (at + 1) (takeNumber m b))) (ranOf m at 0) in
+        let r = cond s (cond t (runOf (takeState m b) bs (at + 1)) (ranOf (takeState m b) (counted (takeNumber m b) at) (takeNumber m b))) (ranOf m at 0) in
         (at ≤ r .at) × (r .at ≤ at + suc (length bs))
     go true true h = (omega (arith, h .0), omega (arith, h .1))
-    go true false h = (omega arith, omega arith)
+    go true false h = let k = counted-next (takeNumber m b) at in (omega (arith, k .0), omega (arith, k .1))
     go false t h = (omega arith, omega arith)
 
--- where no segment waits, a run takes a byte
-pub run-takes : (m : State) (bs : List ℕ) (at : ℕ) → waiting (m .work) ≡ 0 → 0 < length bs → at < runOf m bs at .at
-unfolding runOf
+-- where neither a segment nor a reply waits, a run takes a byte
+pub run-takes : (m : State) (bs : List ℕ) (at : ℕ) → occupied (m .work) ≡ false → 0 < length bs → at < runOf m bs at .at
+unfolding runOf counted
 run-takes m [] at h k = absurd (omega arith)
-run-takes m (b ∷ bs) at h k = rw (eq-eqb (waiting (m .work)) 0 h) (go (eqb (takeNumber m b) 0) (run-place (takeState m b) bs (at + 1) .0))
+run-takes m (b ∷ bs) at h k =
+    rw (eq-eqb (waiting (m .work)) 0 (free-idle (m .work) h)) (rw (free-taken m b h) (go (eqb (takeNumber m b) 0) (run-place (takeState m b) bs (at + 1) .0)))
   where
     go : (t : Bool) → at + 1 ≤ runOf (takeState m b) bs (at + 1) .at → at < cond t (runOf (takeState m b) bs (at + 1)) (ranOf (takeState m b) (at + 1) (takeNumber m b)) .at
     go true h = omega (arith, h)
@@ -50,7 +53,7 @@ run-rest m (b ∷ bs) at = go (eqb (waiting (m .work)) 0) (eqb (takeNumber m b) 
   where
     go : (s t : Bool) → eqb (waiting (m .work)) 0 ≡ s → eqb (takeNumber m b) 0 ≡ t →
         (let r = runOf (takeState m b) bs (at + 1) in r .at < at + 1 + length bs → r .number ≡ 0 → waiting (r .machine .state .work) ≡ 0 → ⊥) →
-        let r = cond s (cond t (runOf (takeState m b) bs (at + 1)) (ranOf (takeState m b) (at + 1) (takeNumber m b))) (ranOf m at 0) in
+        let r = cond s (cond t (runOf (takeState m b) bs (at + 1)) (ranOf (takeState m b) (counted (takeNumber m b) at) (takeNumber m b))) (ranOf m at 0) in
         r .at < at + suc (length bs) → r .number ≡ 0 → waiting (r .machine .state .work) ≡ 0 → ⊥
     go true true e f g h k l = g (omega (arith, h)) k l
     go true false e f g h k l = eqb-false (takeNumber m b) 0 f k
@@ -77,7 +80,7 @@ run-feeds m [] at = by (waiting (m .work)) refl
 run-feeds m (b ∷ bs) at = by (waiting (m .work)) refl (run-feeds (takeState m b) bs (at + 1))
   where
     taken : (t : Bool) → eqb (takeNumber m b) 0 ≡ t → waiting (m .work) ≡ 0 → runOf (takeState m b) bs (at + 1) ≡ ranBy (feedFrom (takeState m b) bs (at + 1) 0) →
-        cond t (runOf (takeState m b) bs (at + 1)) (ranOf (takeState m b) (at + 1) (takeNumber m b)) ≡ ranBy (feedFrom m (b ∷ bs) at 0)
+        cond t (runOf (takeState m b) bs (at + 1)) (ranOf (takeState m b) (counted (takeNumber m b) at) (takeNumber m b)) ≡ ranBy (feedFrom m (b ∷ bs) at 0)
     taken true e z h = h ∙ ap ranBy (sym (at-byte m at 0 z b bs (eqb-true (takeNumber m b) 0 e)))
     taken false e z h =
         let f = ne-eqb (takeNumber m b) listFull (take-not-full m b) in
@@ -98,10 +101,11 @@ run-made m bs at h w = rw (run-feeds m bs at) (feed-made m bs at 0 h w)
 
 -- ---- a byte is a run of one
 
-pub run-one : (m : State) (b : ℕ) → waiting (m .work) ≡ 0 → runOf m (b ∷ []) 0 ≡ ranOf (takeState m b) 1 (takeNumber m b)
+pub run-one : (m : State) (b : ℕ) → waiting (m .work) ≡ 0 → let r = runOf m (b ∷ []) 0 in (r .machine .state ≡ takeState m b) × (r .number ≡ takeNumber m b)
 unfolding runOf
 run-one m b h = rw (eq-eqb (waiting (m .work)) 0 h) (go (eqb (takeNumber m b) 0) refl)
   where
-    go : (t : Bool) → eqb (takeNumber m b) 0 ≡ t → cond t (ranOf (takeState m b) 1 0) (ranOf (takeState m b) 1 (takeNumber m b)) ≡ ranOf (takeState m b) 1 (takeNumber m b)
-    go true e = ap (ranOf (takeState m b) 1) (sym (eqb-true (takeNumber m b) 0 e))
-    go false e = refl
+    go : (t : Bool) → eqb (takeNumber m b) 0 ≡ t → let r = cond t (ranOf (takeState m b) 1 0) (ranOf (takeState m b) (counted (takeNumber m b) 0) (takeNumber m b)) in
+        (r .machine .state ≡ takeState m b) × (r .number ≡ takeNumber m b)
+    go true e = (refl, sym (eqb-true (takeNumber m b) 0 e))
+    go false e = (refl, refl)

@@ -9,7 +9,7 @@ ghost use Rattle.feeding.specs.Feed.{feedFrom, laidNumbers};
 ghost use Rattle.feeding.specs.Plot.{plotFrom, laidMarks};
 ghost use Rattle.hpgl.specs.Valid.{Usable};
 ghost use Rattle.saved.specs.Saved.{stateNumbers, savedOf, loadedOf};
-ghost use Rattle.machine.specs.Calls.{startedOf, takenOf, workedOf};
+ghost use Rattle.machine.specs.Calls.{startedOf, takenOf, workedOf, fetchedFrom};
 ghost use Rattle.machine.specs.Loadable.{Loadable};
 ghost use Rattle.machine.specs.Run.{runOf};
 ghost use Rattle.machine.specs.Gather.{gatheredOf, plottedOf, gatheredBy};
@@ -21,11 +21,13 @@ pub use hpgl::Look;
 pub use hpgl::Segment;
 use hpgl::State;
 pub use hpgl::Stroke;
+use hpgl::Work;
 use queue::drawing::draw_first;
 use queue::drawing::edge_place;
 use queue::drawing::first_segment;
 use queue::drawing::work_after;
 use queue::storing::waiting;
+use replies::writing::fetch;
 use rulekit::numbers::BAD_LIMITS;
 use rulekit::numbers::BUSY;
 use rulekit::numbers::LIST_FULL;
@@ -55,6 +57,13 @@ pub struct Taken {
 pub struct Worked {
     pub machine: Machine,
     pub drawn: Drawn,
+}
+
+// The machine after a fetch, how many bytes were written, and 02's number.
+pub struct Fetched {
+    pub machine: Machine,
+    pub length: usize,
+    pub number: u8,
 }
 
 // How far a run of bytes went: the place of the next byte, and the last one's number.
@@ -190,6 +199,39 @@ impl Machine {
             pen: pen.number,
             down: pen.down,
             bytes: polygon.bytes,
+        }
+    }
+
+    // Writes the reply that waits, if one does, into a lent buffer from its start on; 31 if the buffer is shorter.
+    pub fn fetch(self, out: &mut [u8]) -> Fetched
+        requires { ⌜ Usable (self .state) ⌝ }
+        ensures { λ r. ⌜ r ≡ fetchedFrom (self .state) (length (now (out .entry))) ⌝ }
+        ensures { λ r. ⌜ now (out .exit) ≡ M.fetchOut (self .state) (now (out .entry)) ⌝ }
+    {
+        let m = self.state;
+        let work = m.work;
+        let w = fetch(work, out);
+        if w.length == 0 {
+            return Fetched {
+                machine: self,
+                length: 0,
+                number: w.number,
+            };
+        }
+        let reader = m.reader;
+        let core = m.core;
+        let store = m.store;
+        Fetched {
+            machine: Machine {
+                state: State {
+                    reader: reader,
+                    core: core,
+                    store: store,
+                    work: Work::Nothing,
+                },
+            },
+            length: w.length,
+            number: w.number,
         }
     }
 

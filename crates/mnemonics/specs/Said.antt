@@ -9,17 +9,18 @@ use Prim.Native.String.{String, charAt}
 use lib.Dec.{T, ltb, eqb}
 use Rattle.mnemonics.specs.declared.Found.{Found}
 use Rattle.mnemonics.specs.declared.Found.the-variants.{At, Nowhere}
-use Rattle.mnemonics.specs.Table.{IN, DF, EP, IP, SC, IW, RO, SP, PM, CI, EA, ER, PU, PD, PA, PR, AA, AR, rows, most, polygon, settings, any, cellOf, namedOf, findFrom, findOf, isLabel, countFits, hasRoom, takesPairs, knownInPolygon, changesSettings}
+use Rattle.mnemonics.specs.Table.{IN, DF, EP, IP, SC, IW, RO, SP, PM, CI, EA, ER, PU, PD, PA, PR, AA, AR, OA, OP, OW, OH, OE, rows, most, polygon, settings, any, cellOf, namedOf, findFrom, findOf, isLabel, countFits, hasRoom, takesPairs, knownInPolygon, changesSettings}
 use borrow.Author.Tests.{ltb-true, ltb-false}
 use Rattle.mnemonics.specs.Every.{every, every-at, same, same-equal}
 use Rattle.mnemonics.specs.Among.{among, below, beyond}
 
 -- ---- what 01 says, and 02
 
--- "IN, DF, EP 0; IP 0, 2 or 4; SC, IW 0 or 4; RO, SP, PM 0 or 1; CI 1 or 2; EA, ER 2; PU, PD, PA, PR any even count"; AA and AR "three or four numbers"
+-- "IN, DF, EP 0; IP 0, 2 or 4; SC, IW 0 or 4; RO, SP, PM 0 or 1; CI 1 or 2; EA, ER 2; PU, PD, PA, PR any even count"; AA and AR "three or four numbers";
+-- OA, OP, OW, OH and OE: "takes no numbers"
 abbrev pub allowed : ℕ → ℕ → Bool
 allowed op n =
-    among op (IN ∷ DF ∷ EP ∷ []) && eqb n 0
+    among op (IN ∷ DF ∷ EP ∷ OA ∷ OP ∷ OW ∷ OH ∷ OE ∷ []) && eqb n 0
     || eqb op IP && among n (0 ∷ 2 ∷ 4 ∷ [])
     || among op (SC ∷ IW ∷ []) && among n (0 ∷ 4 ∷ [])
     || among op (RO ∷ SP ∷ PM ∷ []) && among n (0 ∷ 1 ∷ [])
@@ -40,9 +41,9 @@ room op n =
 abbrev pub pairs : List ℕ
 pairs = PU ∷ PD ∷ PA ∷ PR ∷ []
 
--- "There only PU, PD, PA, PR, PM, IN are known"
+-- "There only PU, PD, PA, PR, PM, IN are known"; OA, OP, OW, OH and OE: "works in polygon mode too"
 abbrev pub known : List ℕ
-known = PU ∷ PD ∷ PA ∷ PR ∷ PM ∷ IN ∷ []
+known = PU ∷ PD ∷ PA ∷ PR ∷ PM ∷ IN ∷ OA ∷ OP ∷ OW ∷ OH ∷ OE ∷ []
 
 -- the instructions that "Position" has under the settings of the sheet
 abbrev pub sets : List ℕ
@@ -87,7 +88,7 @@ pub sets-said : (op : ℕ) → changesSettings op ≡ among op sets
 unfolding same changesSettings cellOf
 sets-said = agree-one (λ op. eqb (cellOf op settings) 1) sets tt tt
 
--- ---- names: each is found at its code, and of all pairs of capitals no more than eighteen name an instruction; LB alone is a label
+-- ---- names: each is found at its code, and of all pairs of capitals no more than twenty-three name an instruction; LB alone is a label
 
 abbrev find : String → Found
 find s = findOf (code (charAt s 0)) (code (charAt s 1))
@@ -110,9 +111,9 @@ all f = sum (λ a. sum (f a) 26) 26
 
 pub record Names : Type 0 where
   pub found :
-      find "IN" ∷ find "DF" ∷ find "EP" ∷ find "IP" ∷ find "SC" ∷ find "IW" ∷ find "RO" ∷ find "SP" ∷ find "PM" ∷ find "CI" ∷ find "EA" ∷ find "ER" ∷ find "PU" ∷ find "PD" ∷ find "PA" ∷ find "PR" ∷ find "AA" ∷ find "AR" ∷ []
-      ≡ At IN ∷ At DF ∷ At EP ∷ At IP ∷ At SC ∷ At IW ∷ At RO ∷ At SP ∷ At PM ∷ At CI ∷ At EA ∷ At ER ∷ At PU ∷ At PD ∷ At PA ∷ At PR ∷ At AA ∷ At AR ∷ []
-  pub no-more : all (λ a b. one (findOf a b)) ≡ 18
+      find "IN" ∷ find "DF" ∷ find "EP" ∷ find "IP" ∷ find "SC" ∷ find "IW" ∷ find "RO" ∷ find "SP" ∷ find "PM" ∷ find "CI" ∷ find "EA" ∷ find "ER" ∷ find "PU" ∷ find "PD" ∷ find "PA" ∷ find "PR" ∷ find "AA" ∷ find "AR" ∷ find "OA" ∷ find "OP" ∷ find "OW" ∷ find "OH" ∷ find "OE" ∷ []
+      ≡ At IN ∷ At DF ∷ At EP ∷ At IP ∷ At SC ∷ At IW ∷ At RO ∷ At SP ∷ At PM ∷ At CI ∷ At EA ∷ At ER ∷ At PU ∷ At PD ∷ At PA ∷ At PR ∷ At AA ∷ At AR ∷ At OA ∷ At OP ∷ At OW ∷ At OH ∷ At OE ∷ []
+  pub no-more : all (λ a b. one (findOf a b)) ≡ 23
   pub label-found : isLabel (code "L") (code "B") ≡ true
   pub no-more-labels : all (λ a b. label (isLabel a b)) ≡ 1
 

@@ -63,8 +63,23 @@ AA = 16
 abbrev pub AR : ℕ
 AR = 17
 
+abbrev pub OA : ℕ
+OA = 18
+
+abbrev pub OP : ℕ
+OP = 19
+
+abbrev pub OW : ℕ
+OW = 20
+
+abbrev pub OH : ℕ
+OH = 21
+
+abbrev pub OE : ℕ
+OE = 22
+
 abbrev pub rows : ℕ
-rows = 18
+rows = 23
 
 -- The columns.
 abbrev pub firstLetter : ℕ
@@ -96,7 +111,7 @@ abbrev row : Char → Char → ℕ → ℕ → ℕ → ℕ → ℕ → List ℕ
 row a b l m s p c = code a ∷ code b ∷ l ∷ m ∷ s ∷ p ∷ c ∷ []
 
 -- Two letters; the least and the most numbers, and what their count goes up by between them; 1 if the instruction is known
--- in polygon mode ("only PU, PD, PA, PR, PM, IN"); 1 if it changes settings.
+-- in polygon mode ("only PU, PD, PA, PR, PM, IN", and the five of document 02, CR 5); 1 if it changes settings.
 abbrev pub table : List (List ℕ)
 table =
     row "P" "U" 0 any 2 1 0
@@ -117,6 +132,11 @@ table =
     ∷ row "E" "R" 2 2 1 0 0
     ∷ row "A" "A" 3 4 1 0 0
     ∷ row "A" "R" 3 4 1 0 0
+    ∷ row "O" "A" 0 0 1 1 0
+    ∷ row "O" "P" 0 0 1 1 0
+    ∷ row "O" "W" 0 0 1 1 0
+    ∷ row "O" "H" 0 0 1 1 0
+    ∷ row "O" "E" 0 0 1 1 0
     ∷ []
 
 -- The row of an instruction, and what stands in its column.

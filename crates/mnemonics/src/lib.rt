@@ -40,7 +40,17 @@ pub const AA: usize = 16;
 
 pub const AR: usize = 17;
 
-pub const ROWS: usize = 18;
+pub const OA: usize = 18;
+
+pub const OP: usize = 19;
+
+pub const OW: usize = 20;
+
+pub const OH: usize = 21;
+
+pub const OE: usize = 22;
+
+pub const ROWS: usize = 23;
 
 // The columns: two letters, least and most numbers, what the count goes up by, and whether the instruction is known in
 // polygon mode and changes settings.
@@ -82,6 +92,11 @@ const TABLE: [[u8; COLUMNS]; ROWS] = [
     [b'E', b'R', 2, 2, 1, 0, 0],
     [b'A', b'A', 3, 4, 1, 0, 0],
     [b'A', b'R', 3, 4, 1, 0, 0],
+    [b'O', b'A', 0, 0, 1, 1, 0],
+    [b'O', b'P', 0, 0, 1, 1, 0],
+    [b'O', b'W', 0, 0, 1, 1, 0],
+    [b'O', b'H', 0, 0, 1, 1, 0],
+    [b'O', b'E', 0, 0, 1, 1, 0],
 ];
 
 pub enum Found {
@@ -111,8 +126,8 @@ fn names(row: [u8; COLUMNS], first: u8, second: u8) -> bool
     both(row[FIRST], row[SECOND]) == both(first, second)
 }
 
-// The letters that names begin with, A, C, D, E, I, P, R and S, as bits from that of A on.
-const BEGINNINGS: u32 = 0x6811d;
+// The letters that names begin with, A, C, D, E, I, O, P, R and S, as bits from that of A on.
+const BEGINNINGS: u32 = 0x6c11d;
 
 // Whether an instruction's name begins with a letter. Most other names are told by it at once, without a search and without a branch for each letter.
 fn begins_name(first: u8) -> bool

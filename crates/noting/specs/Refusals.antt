@@ -5,7 +5,7 @@ use Prim.Native.Nat.{ℕ}
 use lib.Dec.{eqb, ltb}
 use lib.ListN.{set, replicate}
 use Rattle.console.specs.Sums.{added}
-use Rattle.feeding.specs.DrawOff.{listFull}
+use Rattle.feeding.specs.DrawOff.{listFull, untaken}
 use Rattle.noting.specs.declared.Refusals.{Refusals}
 
 abbrev pub shown : ℕ
@@ -20,6 +20,6 @@ keptOf r number place =
     cond (ltb (r .count) shown) (record { count = added (r .count) 1; numbers = set (r .numbers) (r .count) number; places = set (r .places) (r .count) place })
     (record { count = added (r .count) 1; numbers = r .numbers; places = r .places })
 
--- a feed ends with 0 where the bytes end, and with 21 where its list is full
+-- a feed ends with 0 where the bytes end, with 21 where its list is full, and with 20 before a byte that is not taken, since a reply waits
 unfoldable pub notedOf : Refusals → ℕ → ℕ → Refusals
-notedOf r number place = cond (eqb number 0) r (cond (eqb number listFull) r (keptOf r number place))
+notedOf r number place = cond (eqb number 0) r (cond (eqb number listFull) r (cond (untaken number) r (keptOf r number place)))

@@ -8,6 +8,7 @@ ghost use Rattle.noting.specs.Refusals.{noneOf, keptOf, notedOf};
 use console::sum;
 use drive::ends_equal;
 use hpgl::Stroke;
+use rulekit::numbers::BUSY;
 use rulekit::numbers::LIST_FULL;
 
 // One for a dot.
@@ -76,7 +77,7 @@ fn kept(r: Refusals, number: u8, place: u64) -> Refusals
     }
 }
 
-// What a feed's number adds: nothing where the bytes or the list ended.
+// What a feed's number adds: nothing where the bytes or the list ended, or a reply waits.
 pub fn noted(r: Refusals, number: u8, place: u64) -> Refusals
     ensures { λ q. ⌜ q ≡ notedOf r number place ⌝ }
 {
@@ -84,6 +85,9 @@ pub fn noted(r: Refusals, number: u8, place: u64) -> Refusals
         return r;
     }
     if number == LIST_FULL {
+        return r;
+    }
+    if number == BUSY {
         return r;
     }
     kept(r, number, place)

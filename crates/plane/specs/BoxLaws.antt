@@ -1,6 +1,6 @@
 -- The turn and boxes: an exact point is in a box, at a margin, exactly when the turned point is in the turned box; and what rounds an exact point, turned,
 -- rounds the turned one. Each is argued for one row of the table, which makes of an exact point one of its coordinates, or minus that.
-use mathlib.Core.Path.{_≡_, refl, sym, ap₂, _∙_, subst}
+use mathlib.Core.Path.{_≡_, refl, sym, ap, ap₂, _∙_, subst}
 use mathlib.Core.Logic.{_↔_, _⊎_, inl, inr}
 use Prim.Native.Nat.{ℕ, _*_, _<_}
 use native.Mathlib.Omega.{arith}
@@ -12,10 +12,10 @@ use Rattle.clip.specs.Reach.{SmallPoint, SmallRect}
 use Rattle.clip.specs.Line.{Frac, Exact, Inside, Within, Rounds, RoundsTo}
 use Rattle.clip.specs.declared.Point.{Point}
 use Rattle.clip.specs.declared.Rect.{Rect}
-use Rattle.plane.specs.Turn.{turnCount, alongOf, turnedOf, lesserOf, greaterOf, orderedOf, turnedBoxOf, alongF, turnedExact}
+use Rattle.plane.specs.Turn.{turnCount, alongOf, turnedOf, turnedBackOf, lesserOf, greaterOf, orderedOf, turnedBoxOf, turnedBackBoxOf, alongF, turnedExact}
 use Rattle.plane.specs.Fractions.{Same}
 use Rattle.plane.specs.FractionLaws.{back, inside-same, rounds-same, negF, inside-neg, inside-unneg, rounds-neg}
-use Rattle.plane.specs.TurnLaws.{Row, east, north, west, south, Units, units, coord, coord-is, turned-small}
+use Rattle.plane.specs.TurnLaws.{Row, east, north, west, south, Units, units, coord, coord-is, turned-small, back-small}
 
 -- ---- the lesser and the greater: one of the two, and which
 weak : {a b : ℤ} → a <ᶻ b → a ≤ᶻ b
@@ -101,6 +101,12 @@ box-small {r} {t} h l =
     ordered-small (turned-small {p = record { x = r .left; y = r .bottom }} {t = t} (record { x = h .left; y = h .bottom }) l)
     (turned-small {p = record { x = r .right; y = r .top }} {t = t} (record { x = h .right; y = h .top }) l)
 
+pub back-box-small : {r : Rect} {t : ℕ} → SmallRect r → t < turnCount → SmallRect (turnedBackBoxOf r t)
+unfolding turnedBackBoxOf
+back-box-small {r} {t} h l =
+    ordered-small (back-small {p = record { x = r .left; y = r .bottom }} {t = t} (record { x = h .left; y = h .bottom }) l)
+    (back-small {p = record { x = r .right; y = r .top }} {t = t} (record { x = h .right; y = h .top }) l)
+
 -- ---- what a row makes of an exact point, and of a box's edges
 abbrev coordF : {a b : ℤ} → Row a b → Exact → Frac
 coordF east e = e .x
@@ -153,6 +159,59 @@ edges w r o =
     let p = coord-is w (r .left) (r .bottom) in
     let q = coord-is w (r .right) (r .top) in
     record { least = ap₂ lesserOf p q ∙ h .least; most = ap₂ greaterOf p q ∙ h .most }
+
+-- ---- a box turned back, and turned again
+abbrev boxAlong : {a b c d : ℤ} → Row a b → Row c d → Rect → Rect
+boxAlong w v r = record { left = lowest w r; bottom = lowest v r; right = highest w r; top = highest v r }
+
+box-along : {a b c d : ℤ} (w : Row a b) (v : Row c d) (r : Rect) → Ordered r →
+    orderedOf (record { x = alongOf a b (r .left) (r .bottom); y = alongOf c d (r .left) (r .bottom) }) (record { x = alongOf a b (r .right) (r .top); y = alongOf c d (r .right) (r .top) }) ≡ boxAlong w v r
+unfolding orderedOf
+box-along w v r o =
+    let h = edges w r o in
+    let k = edges v r o in
+    λ i. record { left = h .least i; bottom = k .least i; right = h .most i; top = k .most i }
+
+neg-neg : (z : ℤ) → negℤ (negℤ z) ≡ z
+neg-neg z = rw (is z) (simp Z (omega arith))
+
+-- a row and a column of a turn tell which edge comes home
+left-home : {a b a' b' : ℤ} (x : Row a a') (y : Row b b') (w : Row a b) (r : Rect) → lowest w (boxAlong x y r) ≡ r .left
+left-home east y east r = refl
+left-home west y west r = neg-neg (r .left)
+left-home x east north r = refl
+left-home x west south r = neg-neg (r .left)
+
+right-home : {a b a' b' : ℤ} (x : Row a a') (y : Row b b') (w : Row a b) (r : Rect) → highest w (boxAlong x y r) ≡ r .right
+right-home east y east r = refl
+right-home west y west r = neg-neg (r .right)
+right-home x east north r = refl
+right-home x west south r = neg-neg (r .right)
+
+bottom-home : {a b a' b' : ℤ} (x : Row a a') (y : Row b b') (w : Row a' b') (r : Rect) → lowest w (boxAlong x y r) ≡ r .bottom
+bottom-home north y east r = refl
+bottom-home south y west r = neg-neg (r .bottom)
+bottom-home x north north r = refl
+bottom-home x south south r = neg-neg (r .bottom)
+
+top-home : {a b a' b' : ℤ} (x : Row a a') (y : Row b b') (w : Row a' b') (r : Rect) → highest w (boxAlong x y r) ≡ r .top
+top-home north y east r = refl
+top-home south y west r = neg-neg (r .top)
+top-home x north north r = refl
+top-home x south south r = neg-neg (r .top)
+
+-- "turned back": turned again it is the box itself, for every turn
+pub box-home : (r : Rect) (t : ℕ) → t < turnCount → Ordered r → turnedBoxOf (turnedBackBoxOf r t) t ≡ r
+unfolding turnedBoxOf turnedBackBoxOf turnedOf turnedBackOf
+box-home r t l o =
+    let u = units t l in
+    let x = u .column-x in
+    let y = u .column-y in
+    let b : Rect = boxAlong x y r in
+    let back : turnedBackBoxOf r t ≡ b = box-along x y r o in
+    let ordered : Ordered b = subst Ordered back (ordered-is _ _) in
+    ap (λ (q : Rect). turnedBoxOf q t) back ∙ box-along (u .row-x) (u .row-y) b ordered
+    ∙ (λ i. record { left = left-home x y (u .row-x) r i; bottom = bottom-home x y (u .row-y) r i; right = right-home x y (u .row-x) r i; top = top-home x y (u .row-y) r i })
 
 -- ---- a point in a box
 forth : {a b : ℤ} {r : Rect} {c : ℕ} {e : Exact} (w : Row a b) → Within r c e → Inside (lowest w r) (highest w r) c (coordF w e)

@@ -107,6 +107,10 @@ orderedOf p q = record {
 unfoldable pub turnedBoxOf : Rect → ℕ → Rect
 turnedBoxOf r t = orderedOf (turnedOf (record { x = r .left; y = r .bottom }) t) (turnedOf (record { x = r .right; y = r .top }) t)
 
+-- "the hard limits turned back" (document 02, CR 5): the box of locations whose page is the box r; its corners turned back, and put in order
+unfoldable pub turnedBackBoxOf : Rect → ℕ → Rect
+turnedBackBoxOf r t = orderedOf (turnedBackOf (record { x = r .left; y = r .bottom }) t) (turnedBackOf (record { x = r .right; y = r .top }) t)
+
 -- ---- exact points: "The exact line of a move joins the exact positions, turned."
 
 -- a row times an exact point

@@ -173,7 +173,7 @@ turned-size p t n h hx hy = let u = units t h in (along-size (u .row-x) (p .x) (
 pub turned-small : {p : Point} {t : ℕ} → SmallPoint p → t < turnCount → SmallPoint (turnedOf p t)
 turned-small {p} {t} h l = let k = turned-size p t reach l (h .x) (h .y) in record { x = k .0; y = k .1 }
 
-back-small : {p : Point} {t : ℕ} → SmallPoint p → t < turnCount → SmallPoint (turnedBackOf p t)
+pub back-small : {p : Point} {t : ℕ} → SmallPoint p → t < turnCount → SmallPoint (turnedBackOf p t)
 unfolding turnedBackOf
 back-small {p} {t} h l = let u = transposed (units t l) in record { x = along-size (u .row-x) (p .x) (p .y) (h .x) (h .y); y = along-size (u .row-y) (p .x) (p .y) (h .x) (h .y) }
 

@@ -3,7 +3,7 @@ ghost use mathlib.Core.Path.{_≡_};
 ghost use Prim.Native.Nat.{_<_};
 ghost use Rattle.exact.specs.Fit.{Bd};
 ghost use Rattle.clip.specs.Reach.{SmallPoint, SmallRect};
-ghost use Rattle.plane.specs.Turn.{turnCount, degreesOf, findTurn, tableOf, alongOf, rowsOf, turnedBy, turnedOf, turnedBackOf, rebasedOf, lesserOf, greaterOf, orderedOf, turnedBoxOf};
+ghost use Rattle.plane.specs.Turn.{turnCount, degreesOf, findTurn, tableOf, alongOf, rowsOf, turnedBy, turnedOf, turnedBackOf, rebasedOf, lesserOf, greaterOf, orderedOf, turnedBoxOf, turnedBackBoxOf};
 ghost use Rattle.plane.specs.Bounds.{UnitRows};
 use clip::Point;
 use clip::Rect;
@@ -163,6 +163,28 @@ pub fn turned_box(r: Rect, turn: usize) -> Rect
         turn,
     );
     let q = turned(
+        Point {
+            x: r.right,
+            y: r.top,
+        },
+        turn,
+    );
+    ordered(p, q)
+}
+
+// The box whose page is a box: two corners turned back, and put in order.
+pub fn turned_back_box(r: Rect, turn: usize) -> Rect
+    requires { ⌜ SmallRect r × (turn < turnCount) ⌝ }
+    ensures { λ s. ⌜ s ≡ turnedBackBoxOf r turn ⌝ }
+{
+    let p = turned_back(
+        Point {
+            x: r.left,
+            y: r.bottom,
+        },
+        turn,
+    );
+    let q = turned_back(
         Point {
             x: r.right,
             y: r.top,

@@ -6,11 +6,11 @@ use Prim.Native.Nat.{ℕ, _+_, _*_, _^_, _≤_, _<_}
 use lib.ListN.{length, drop}
 use Rattle.hpgl.specs.Valid.{Usable}
 use Rattle.machine.specs.declared.Machine.{Machine}
-use Rattle.machine.specs.declared.Gathered.{Gathered}
+use Rattle.machine.specs.declared.Fetched.{Fetched}
 use Rattle.textlines.specs.Text.{longest}
 use Rattle.decimals.specs.Puts.{Puts}
 use Rattle.plotting.specs.declared.Plot.{Plot}
-use Rattle.printed.specs.Printed.{printed}
+use Rattle.printed.specs.Printed.{mostReply, printed}
 
 -- what is still to be printed, where `later` are the bytes of the blocks to come
 abbrev pub due : Plot → List ℕ → List ℕ → List ℕ
@@ -22,9 +22,9 @@ begunOf m n = record { machine = m; before = n; at = 0; length = 0; more = true 
 abbrev pub emptiedOf : Plot → Plot
 emptiedOf p = record { machine = p .machine; before = p .before; at = p .at; length = 0; more = p .more }
 
--- after a plot
-abbrev pub movedOf : Plot → Gathered → ℕ → Bool → Plot
-movedOf p g n more = record { machine = g .machine; before = p .before; at = g .at; length = n; more = more }
+-- after a plot and a fetch
+abbrev pub movedOf : Plot → ℕ → Fetched → ℕ → Bool → Plot
+movedOf p at f end more = record { machine = f .machine; before = p .before; at = at; length = end + f .length; more = more }
 
 -- a plot that may go on with a block of bytes: its machine may be used, its place is in the block, no count of bytes leaves 64 bits, and
 -- where there is no more all of the block is printed
@@ -34,12 +34,12 @@ pub record Ready (p : Plot) (block : List ℕ) : Type 0 where
   pub count : p .before + length block < 2 ^ 64
   pub ends : p .more ≡ false → (p .at ≡ length block) × (due p block [] ≡ [])
 
--- one plot has at most so many marks, of five numbers each, and its lines so many bytes
+-- one plot has at most so many marks, of five numbers each, and its lines with a reply after them so many bytes
 abbrev pub mostMarks : ℕ
 mostMarks = 256
 
 abbrev pub most : ℕ
-most = mostMarks * longest
+most = mostMarks * longest + mostReply
 
 -- From p to q some text was printed: whatever comes later, what was due is that text and what is due now. It stands in the buffer, after what
 -- was there, and the rest of the buffer is as before.

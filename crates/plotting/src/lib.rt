@@ -1,12 +1,16 @@
-// What the program strokes prints: bytes in blocks, and their lines into a lent buffer. The crate printed has the lines, specs/Plotted.antt what
-// a part of the printing does.
+// What the program strokes prints: bytes in blocks, and their lines into a lent buffer, each reply among them as soon as it is made. The crate printed
+// has the lines, specs/Plotted.antt what a part of the printing does.
 ghost use mathlib.Core.Bool.{true};
 ghost use mathlib.Core.Path.{_≡_};
-ghost use Prim.Native.Nat.{_+_, _*_, _≤_, _<_};
+ghost use Prim.Native.Nat.{_+_, _*_, _^_, _≤_, _<_};
 ghost use lib.ListN.{length};
+ghost use Rattle.hpgl.specs.Machine.{fetchText};
 ghost use Rattle.hpgl.specs.Valid.{Usable};
+ghost use Rattle.decimals.specs.Puts.{Puts};
+ghost use Rattle.machine.specs.Calls.{fetchedFrom};
+ghost use Rattle.printed.specs.Printed.{mostReply};
 ghost use Rattle.plotting.specs.Plotted.{Ready, Plotted, begunOf, emptiedOf, movedOf, mostMarks, most};
-use machine::Gathered;
+use machine::Fetched;
 use machine::Machine;
 use textlines::LONGEST;
 use textlines::mark_lines;
@@ -16,8 +20,11 @@ const MARKS: usize = 256;
 
 const NUMBERS: usize = MARKS * 5;
 
-// The bytes of their lines.
-const MOST: usize = MARKS * LONGEST;
+// A reply has at most so many bytes.
+const REPLY: usize = 37;
+
+// The bytes of their lines, and of a reply after them.
+const MOST: usize = MARKS * LONGEST + REPLY;
 
 // How far the printing of a block is: the machine; the bytes of the blocks before; the place in this one; the bytes of text in the buffer; and
 // whether some of the block is still to be printed.
@@ -56,21 +63,34 @@ pub fn emptied(p: Plot) -> Plot
     }
 }
 
-// After a plot, with so many bytes of text.
-fn moved(p: Plot, g: Gathered, length: usize, more: bool) -> Plot
-    ensures { λ r. ⌜ r ≡ movedOf p g length more ⌝ }
+// After a plot that got to a place of the block and a fetch, with so many bytes of text before the reply.
+fn moved(p: Plot, at: usize, f: Fetched, end: usize, more: bool) -> Plot
+    requires { ⌜ end + f .length < 2 ^ 64 ⌝ }
+    ensures { λ r. ⌜ r ≡ movedOf p at f end more ⌝ }
 {
-    let machine = g.machine;
+    let machine = f.machine;
     Plot {
         machine: machine,
         before: p.before,
-        at: g.at,
-        length: length,
+        at: at,
+        length: end + f.length,
         more: more,
     }
 }
 
-// The lines of one plot.
+// The reply that waits, if one does, into a text from a place on.
+fn put_reply(machine: Machine, text: &mut [u8], at: usize) -> Fetched
+    requires { ⌜ Usable (machine .state) ⌝ }
+    requires { ⌜ at + mostReply ≤ length (now text) ⌝ }
+    ensures { λ r. ⌜ r ≡ fetchedFrom (machine .state) mostReply ⌝ }
+    ensures { λ r. ⌜ Puts (fetchText (machine .state) mostReply) (now (text .entry)) (now (text .exit)) at (at + r .length) ⌝ }
+    ensures { λ r. ⌜ at + r .length < 2 ^ 64 ⌝ }
+{
+    let end = at + REPLY;
+    machine.fetch(&mut text[at..end])
+}
+
+// The lines of one plot, and the reply that waits after it: a plot stops where one waits. There is more where the plot stopped before the end.
 fn step(p: Plot, block: &[u8], numbers: &mut [i64], text: &mut [u8]) -> Plot
     requires { ⌜ Ready p (now block) ⌝ }
     requires { ⌜ length (now numbers) ≡ mostMarks * 5 ⌝ }
@@ -81,7 +101,9 @@ fn step(p: Plot, block: &[u8], numbers: &mut [i64], text: &mut [u8]) -> Plot
     let machine = p.machine;
     let g = machine.plot(block, p.at, numbers);
     let end = mark_lines(text, p.length, numbers, g.stored, p.before);
-    moved(p, g, end, g.number != 0)
+    let plotted = g.machine;
+    let f = put_reply(plotted, text, end);
+    moved(p, g.at, f, end, g.number != 0)
 }
 
 // Room for the marks of one plot.

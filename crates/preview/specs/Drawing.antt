@@ -1,9 +1,12 @@
--- How far a drawing is, after a feed and at the start of a block.
+-- How far a drawing is, after a feed and at the start of a block. A reply is fetched and forgotten.
 use mathlib.Core.Bool.{true, not}
 use mathlib.Core.List.{List}
 use Prim.Native.Nat.{ℕ, _+_}
 use lib.Dec.{eqb}
 use lib.ListN.{take, drop}
+use Rattle.hpgl.specs.declared.State.{State}
+use Rattle.hpgl.specs.Machine.{fetchState}
+use Rattle.machine.specs.declared.Machine.{Machine}
 use Rattle.feeding.specs.Feed.{feedOf}
 use Rattle.feed.specs.declared.Listed.{Listed}
 use Rattle.feed.specs.Fed.{listedOf}
@@ -12,10 +15,17 @@ use Rattle.noting.specs.Dots.{dotsOf}
 use Rattle.noting.specs.Refusals.{notedOf}
 use Rattle.preview.specs.declared.strokes.Drawing.{Drawing}
 
+-- a buffer that takes every reply (`reply-short` in ReplyLaws.antt of hpgl)
+abbrev pub replyBytes : ℕ
+replyBytes = 37
+
+abbrev pub quietOf : State → Machine
+quietOf m = record { state = fetchState m replyBytes }
+
 -- feed counts the bytes from the place on; how much of the buffer is used then no contract can say
 abbrev pub afterOf : Drawing → Listed → ℕ → Drawing
 afterOf d l used = record {
-  machine = l .fed .machine;
+  machine = quietOf (l .fed .machine .state);
   before = d .before;
   at = d .at + l .fed .taken;
   strokes = added (d .strokes) (l .fed .stored);

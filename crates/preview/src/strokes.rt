@@ -4,7 +4,7 @@ ghost use lib.ListN.{length};
 ghost use mathlib.Core.Path.{_≡_};
 ghost use Rattle.console.specs.Sums.{largest};
 ghost use Rattle.hpgl.specs.Valid.{Usable};
-ghost use Rattle.preview.specs.Drawing.{afterOf, stepOf, begunOf, flushedOf};
+ghost use Rattle.preview.specs.Drawing.{quietOf, afterOf, stepOf, begunOf, flushedOf};
 use console::sum;
 use drive::ends_equal;
 use feed::Listed;
@@ -26,6 +26,9 @@ use streams::read;
 
 // A proved loop has to end: these go round so often at most, which no input uses up.
 const TURNS: u64 = 0x800000000000;
+
+// A buffer that takes every reply. Nobody reads it.
+const REPLY: usize = 37;
 
 // How far the drawing is: the machine, the bytes before the block, the place in it, the strokes painted, the dots among them, what was refused,
 // whether some of the block is left, and how much of the buffer is used.
@@ -104,9 +107,19 @@ fn elements(
     end
 }
 
+// A reply that waits is fetched and forgotten, so that the next feed goes on.
+fn quiet(machine: Machine) -> Machine
+    requires { ⌜ Usable (machine .state) ⌝ }
+    ensures { λ r. ⌜ r ≡ quietOf (machine .state) ⌝ }
+{
+    let mut buffer = [0; REPLY];
+    let f = machine.fetch(&mut buffer);
+    f.machine
+}
+
 // What a feed of the block from its place on leaves: its strokes are counted, and a byte that was refused is kept.
 fn after(d: Drawing, l: Listed, used: usize) -> Drawing
-    requires { ⌜ (l .fed .stored ≤ 64) × (d .at + l .fed .taken ≤ largest) ⌝ }
+    requires { ⌜ (l .fed .stored ≤ 64) × (d .at + l .fed .taken ≤ largest) × Usable (l .fed .machine .state) ⌝ }
     ensures { λ r. ⌜ r ≡ afterOf d l used ⌝ }
 {
     let fed = l.fed;
@@ -117,7 +130,7 @@ fn after(d: Drawing, l: Listed, used: usize) -> Drawing
     let at = d.at + fed.taken;
     let place = sum(d.before, at as u64);
     Drawing {
-        machine: machine,
+        machine: quiet(machine),
         before: d.before,
         at: at,
         strokes: sum(d.strokes, fed.stored as u64),

@@ -1,4 +1,5 @@
--- What the program strokes prints (document 01, at the end of "Checked figures"): a line for each stroke, and one for each byte that is refused.
+-- What the program strokes prints (document 01, at the end of "Checked figures"): a line for each stroke, and one for each byte that is refused; and each reply
+-- (document 02, CR 5).
 use Prim.Native.Nat.{ℕ, zero, suc, _+_}
 use mathlib.Core.List.{List, [], _∷_, _++_}
 use lib.IntN.{pos}
@@ -6,7 +7,7 @@ use Rattle.hpgl.specs.declared.State.{State}
 use Rattle.hpgl.specs.declared.Stroke.{Stroke}
 use Rattle.hpgl.specs.declared.Drawn.{Drawn}
 use Rattle.hpgl.specs.declared.Drawn.the-variants as drawn
-use Rattle.hpgl.specs.Machine.{waiting, takeState, takeNumber, drawState, drawAnswer}
+use Rattle.hpgl.specs.Machine.{waiting, takeState, takeNumber, drawState, drawAnswer, fetchState, fetchText}
 use Rattle.textlines.specs.Text.{strokeText, refusalText}
 
 abbrev pub strokeLine : Stroke → List ℕ
@@ -32,7 +33,15 @@ drawnLines (suc k) m idle = drawnLine (drawAnswer m) ++ drawnLines k (drawState 
 abbrev pub takenLine : ℕ → ℕ → State → (State → List ℕ) → List ℕ
 takenLine b n m next = byteLine (takeNumber m b) (n + 1) ++ next (takeState m b)
 
--- the lines of a machine that is given these bytes, with n bytes before them: each is taken once no segment waits
+-- a buffer that takes every reply (`reply-short` in ReplyLaws.antt of hpgl)
+abbrev pub mostReply : ℕ
+mostReply = 37
+
+-- "The program *strokes* fetches and prints each reply as soon as it is made": once no segment waits, and before another byte is taken; `next` goes on then
+abbrev pub replyLine : State → (State → List ℕ) → List ℕ
+replyLine m next = fetchText m mostReply ++ next (fetchState m mostReply)
+
+-- the lines of a machine that is given these bytes, with n bytes before them: each is taken once no segment and no reply waits
 unfoldable pub printed : State → List ℕ → ℕ → List ℕ
-printed m [] n = drawnLines (waiting (m .work)) m (λ i. [])
-printed m (b ∷ bs) n = drawnLines (waiting (m .work)) m (λ i. takenLine b n i (λ j. printed j bs (n + 1)))
+printed m [] n = drawnLines (waiting (m .work)) m (λ i. replyLine i (λ j. []))
+printed m (b ∷ bs) n = drawnLines (waiting (m .work)) m (λ i. replyLine i (λ j. takenLine b n j (λ k. printed k bs (n + 1))))

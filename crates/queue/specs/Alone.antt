@@ -2,7 +2,7 @@
 use Prim.Native.Nat.{ℕ}
 use lib.Dec.{lit<}
 use Rattle.hpgl.specs.declared.Action.{Action}
-use Rattle.hpgl.specs.declared.Action.the-variants.{Keep, Line, Chords, Join, Outline, Rectangle}
+use Rattle.hpgl.specs.declared.Action.the-variants.{Keep, Line, Chords, Join, Outline, Rectangle, Answer}
 use Rattle.hpgl.specs.Valid.{ValidAction}
 
 -- all but the place for an edge, which depends on the count
@@ -13,3 +13,4 @@ action-alone k (Chords o) h = h
 action-alone k (Join e) h = (h .0, lit< tt)
 action-alone k Outline h = h
 action-alone k (Rectangle p q shown) h = h
+action-alone k (Answer r) h = h

@@ -10,7 +10,7 @@ use Rattle.hpgl.specs.declared.Settings.{Settings}
 use Rattle.hpgl.specs.declared.Circle.{Circle}
 use Rattle.hpgl.specs.declared.Edge.{Edge}
 use Rattle.hpgl.specs.declared.Work.{Work}
-use Rattle.hpgl.specs.declared.Work.the-variants.{Nothing, Line, Chords, Edges}
+use Rattle.hpgl.specs.declared.Work.the-variants.{Nothing, Line, Chords, Edges, Answer}
 use Rattle.hpgl.specs.declared.State.{State}
 use Rattle.hpgl.specs.declared.Segment.{Segment}
 use Rattle.hpgl.specs.declared.Segment.the-variants as segment
@@ -30,6 +30,7 @@ cornerOf r Nothing = origin
 cornerOf r (Line a b) = origin
 cornerOf r (Chords o i n) = vertexAt r o i
 cornerOf r (Edges i n) = origin
+cornerOf r (Answer t) = origin
 
 -- where it ends; the origin also where none waits, since no vertex after i is asked to be in range then
 unfoldable pub nextCornerOf : Rows → Work → Point
@@ -38,6 +39,7 @@ nextCornerOf r (Line a b) = origin
 nextCornerOf r (Chords o i zero) = origin
 nextCornerOf r (Chords o i (suc n)) = vertexAt r o (i + 1)
 nextCornerOf r (Edges i n) = origin
+nextCornerOf r (Answer t) = origin
 
 -- an edge of the store
 unfoldable pub edgeIn : Rows → Edge → Segment
@@ -51,6 +53,7 @@ segmentIn r e (Chords o i zero) p q = segment.Nothing
 segmentIn r e (Chords o i (suc n)) p q = segment.Line p q
 segmentIn r e (Edges i zero) p q = segment.Nothing
 segmentIn r e (Edges i (suc n)) p q = edgeIn r e
+segmentIn r e (Answer t) p q = segment.Nothing
 
 -- with the table of the settings and its own corners
 unfoldable pub firstSegment : Settings → Edge → Work → Segment
@@ -67,6 +70,7 @@ first-segment m (Chords o i zero) = refl
 first-segment m (Chords o i (suc n)) = refl
 first-segment m (Edges i zero) = refl
 first-segment m (Edges i (suc n)) = refl
+first-segment m (Answer t) = refl
 
 -- it may be clipped
 pub first-small : {s : Settings} {e : Edge} → ValidSettings s → SmallEdge e → (w : Work) → ValidWork w → SmallSegment (firstSegment s e w)
@@ -77,6 +81,7 @@ first-small v h (Chords o i zero) k = tt
 first-small v h (Chords o i (suc n)) k = chord-small v (k .0)
 first-small v h (Edges i zero) k = tt
 first-small v h (Edges i (suc n)) k = page-small v h
+first-small v h (Answer t) k = tt
 
 -- ---- where p is the vertex at which the first waiting chord begins; of other work nothing is asked
 
@@ -85,6 +90,7 @@ BeginsAt r Nothing p = Unit {0}
 BeginsAt r (Line a b) p = Unit {0}
 BeginsAt r (Chords o i n) p = p ≡ vertexAt r o i
 BeginsAt r (Edges i n) p = Unit {0}
+BeginsAt r (Answer t) p = Unit {0}
 
 segment-begins : (r : Rows) (e : Edge) (w : Work) (p q : Point) → BeginsAt r w p → segmentIn r e w p q ≡ segmentIn r e w (cornerOf r w) q
 unfolding segmentIn cornerOf
@@ -94,6 +100,7 @@ segment-begins r e (Chords o i zero) p q h = refl
 segment-begins r e (Chords o i (suc n)) p q h = λ i. segment.Line (h i) q
 segment-begins r e (Edges i zero) p q h = refl
 segment-begins r e (Edges i (suc n)) p q h = refl
+segment-begins r e (Answer t) p q h = refl
 
 -- so the segment from there is the one that waits first
 pub segment-waits : (m : State) {r : Rows} (p : Point) → r ≡ rowsOf (m .core .settings .turn) → BeginsAt r (m .work) p →

@@ -57,7 +57,7 @@ pub fn vertex(rows: Rows, o: Circle, i: u16, sines: &[u32]) -> Point
     turned_by(rows, vertex_point(x, y, radius, sines, angle))
 }
 
-// The work without its first segment.
+// The work without its first segment; a reply that waits is none.
 pub fn work_after(w: Work) -> Work
     requires { ⌜ ValidWork w ⌝ }
     ensures { λ r. ⌜ r ≡ M.workAfter w ⌝ }
@@ -77,6 +77,7 @@ pub fn work_after(w: Work) -> Work
             }
             Work::Edges(i + 1, n - 1)
         }
+        Work::Answer(_) => w,
     }
 }
 
@@ -94,6 +95,7 @@ pub fn edge_place(w: Work) -> usize
             }
             i as usize
         }
+        Work::Answer(_) => 0,
     }
 }
 
@@ -107,6 +109,7 @@ pub fn corner(rows: Rows, w: Work, sines: &[u32]) -> Point
         Work::Line(_, _) => Point { x: 0, y: 0 },
         Work::Chords(o, i, _) => vertex(rows, o, i, sines),
         Work::Edges(_, _) => Point { x: 0, y: 0 },
+        Work::Answer(_) => Point { x: 0, y: 0 },
     }
 }
 
@@ -125,6 +128,7 @@ pub fn next_corner(rows: Rows, w: Work, sines: &[u32]) -> Point
             vertex(rows, o, i + 1, sines)
         }
         Work::Edges(_, _) => Point { x: 0, y: 0 },
+        Work::Answer(_) => Point { x: 0, y: 0 },
     }
 }
 
@@ -153,6 +157,7 @@ pub fn segment(rows: Rows, e: Edge, w: Work, from: Point, to: Point) -> Segment
             }
             Segment::PenUp
         }
+        Work::Answer(_) => Segment::Nothing,
     }
 }
 

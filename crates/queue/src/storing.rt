@@ -61,6 +61,7 @@ pub fn stored(s: Store, count: u8, a: Action) -> Store
         Action::Join(e) => joined(s, count, e),
         Action::Outline => s,
         Action::Rectangle(p, q, _) => rectangle_edges(s, p, q),
+        Action::Answer(_) => s,
     }
 }
 
@@ -81,6 +82,7 @@ pub fn queued(count: u8, a: Action) -> Work
             }
             Work::Nothing
         }
+        Action::Answer(r) => Work::Answer(r),
     }
 }
 
@@ -93,5 +95,19 @@ pub fn waiting(w: Work) -> u16
         Work::Line(_, _) => 1,
         Work::Chords(_, _, n) => n,
         Work::Edges(_, n) => n as u16,
+        Work::Answer(_) => 0,
+    }
+}
+
+// Whether a reply waits.
+pub fn replying(w: Work) -> bool
+    ensures { λ r. ⌜ r ≡ M.replying w ⌝ }
+{
+    match w {
+        Work::Nothing => false,
+        Work::Line(_, _) => false,
+        Work::Chords(_, _, _) => false,
+        Work::Edges(_, _) => false,
+        Work::Answer(r) => r.count != 0,
     }
 }

@@ -21,7 +21,7 @@ tooShort = 41
 
 -- the numbers of a machine's list: its header, and those that save writes
 abbrev pub listNumbers : ℕ
-listNumbers = 645
+listNumbers = 650
 
 -- a machine as a list, and the machine of a list
 unfoldable pub listOf : State → List ℤ

@@ -14,7 +14,7 @@ use Rattle.seal.specs.Seal.{sealedOf, headerSound, sumStands}
 use Rattle.seal.specs.SealLaws.{seal-header, seal-sum, seal-back}
 use Rattle.seal.specs.Light.{Light}
 use Rattle.hpgl.specs.declared.State.{State}
-use Rattle.hpgl.specs.Machine.{freshState, takeState, drawState}
+use Rattle.hpgl.specs.Machine.{freshState, takeState, drawState, fetchState}
 use Rattle.feeding.specs.Feed.{feedOf}
 use Rattle.feeding.specs.FeedLaws.{feed-usable}
 use Rattle.feeding.specs.Plot.{plotFrom}
@@ -22,7 +22,7 @@ use Rattle.feeding.specs.PlotLaws.{plot-usable}
 use Rattle.hpgl.specs.Made.{Made}
 use Rattle.hpgl.specs.Valid.{Usable}
 use Rattle.hpgl.specs.ValidFacts.{and-both}
-use Rattle.hpgl.specs.ValidKept.{usable-fresh, usable-take, usable-draw, made-usable}
+use Rattle.hpgl.specs.ValidKept.{usable-fresh, usable-take, usable-draw, usable-fetch, made-usable}
 use Rattle.saved.specs.Saved.{stateNumbers, savedOf, loadedOf}
 use Rattle.saved.specs.SavedLaws.{saved-back, saved-length}
 use Rattle.wellformed.specs.Sound.{soundOf}
@@ -129,6 +129,9 @@ module _ (zs : List ℤ) (needed lent : ℕ) (goes : readyOf zs needed lent ≡ 
 
   pub draw-ready : (n l : ℕ) → n ≤ l → readyOf (listOf (drawState (machineIn zs))) n l ≡ 0
   draw-ready = usable-ready (usable-draw used)
+
+  pub fetch-ready : (room n l : ℕ) → n ≤ l → readyOf (listOf (fetchState (machineIn zs) room)) n l ≡ 0
+  fetch-ready room = usable-ready (usable-fetch room used)
 
   pub feed-ready : (bytes : List ℕ) (room n l : ℕ) → n ≤ l → readyOf (listOf (feedOf (machineIn zs) bytes room .state)) n l ≡ 0
   feed-ready bytes room = usable-ready (feed-usable (machineIn zs) bytes 0 room used)

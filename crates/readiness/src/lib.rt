@@ -9,7 +9,7 @@ use seal::sum_stands;
 use soundness::sound;
 
 // The numbers in a machine's list, and in its header.
-pub const LIST: usize = 645;
+pub const LIST: usize = 650;
 
 pub const HEADER: usize = 5;
 

@@ -30,6 +30,7 @@ use Rattle.hpgl.specs.declared.Stroke.{Stroke}
 use Rattle.hpgl.specs.declared.Drawn.the-variants as drawn
 use Rattle.hpgl.specs.Numbers.{mostPen}
 use Rattle.hpgl.specs.Place.{point, axisX, axisY, location, inRange, absolutePosition, restAt, pagePoint, limits}
+use Rattle.hpgl.specs.Replies.{noMemory}
 use Rattle.hpgl.specs.Rules.{freshSettings, noPolygon, freshCarriage, letters, nameRule, inRule, setPen, spRule, inked, moveTo, aimed, goTo, pairRule, endRule, actOn, done}
 use Rattle.hpgl.specs.Machine.{strokeOf, shown}
 use Rattle.redrawn.specs.Numerals.{kept, rounded-kept}
@@ -37,11 +38,11 @@ use Rattle.redrawn.specs.Reading.{pair}
 use Rattle.redrawn.specs.FeedMeans.{does}
 
 module _ (h : Rect) where
-  -- after IN: a pen, at a position, up or down
+  -- after IN: a pen, at a position, up or down, and no refusal since
   abbrev pub drafting : ℕ → Position → Bool → Bool → Core
   drafting p at down changed = record {
     settings = freshSettings h;
-    carriage = record { position = at; pen = record { number = p; down = down; changed = changed }; relative = false; polygon = noPolygon };
+    carriage = record { position = at; pen = record { number = p; down = down; changed = changed }; relative = false; polygon = noPolygon; memory = noMemory };
   }
 
   -- where PU and PD go to

@@ -22,7 +22,8 @@ use Rattle.hpgl.specs.declared.Stroke.{Stroke}
 use Rattle.hpgl.specs.declared.Work.the-variants as work
 use Rattle.hpgl.specs.declared.Drawn.the-variants as drawn
 use Rattle.hpgl.specs.Rules as rules
-use Rattle.hpgl.specs.Machine.{waiting, stored, queued, readerAfter, applied, acted, takeState, takeNumber, shown, workAfter, drawWork, drawState, drawAnswer}
+use Rattle.hpgl.specs.Replies.{remembered, remembering}
+use Rattle.hpgl.specs.Machine.{waiting, replied, replying, occupied, stored, queued, readerAfter, applied, acted, takeState, takeNumber, shown, workAfter, drawWork, drawState, drawAnswer}
 use Rattle.feeding.specs.Feed.{Feed, feedFrom, store}
 use Rattle.feeding.specs.FeedLaws.{at-byte, at-stroke}
 use Rattle.feeding.specs.PartsOfFeed.{storeAll}
@@ -60,11 +61,11 @@ module _ (st : Store) where
     -- a byte whose event makes nothing wait
     module _ (act : rules.actOn c e ≡ does d Keep) where
       kept-number : takeNumber (resting r c) b ≡ 0
-      unfolding takeNumber waiting acted
+      unfolding takeNumber occupied waiting replying replied acted rules.noted
       kept-number = rw step (rw act refl)
 
       kept-state : takeState (resting r c) b ≡ resting q d
-      unfolding takeState waiting acted applied stored queued readerAfter
+      unfolding takeState occupied waiting replying replied acted rules.noted rules.noting remembering remembered applied stored queued readerAfter
       kept-state = rw step (rw act refl)
 
     -- a byte whose event makes a line wait
@@ -73,11 +74,11 @@ module _ (st : Store) where
       lined = record { reader = q; core = d; store = st; work = work.Line p t }
 
       line-number : takeNumber (resting r c) b ≡ 0
-      unfolding takeNumber waiting acted
+      unfolding takeNumber occupied waiting replying replied acted rules.noted
       line-number = rw step (rw act refl)
 
       line-state : takeState (resting r c) b ≡ lined
-      unfolding takeState waiting acted applied stored queued readerAfter
+      unfolding takeState occupied waiting replying replied acted rules.noted rules.noting remembering remembered applied stored queued readerAfter
       line-state = rw step (rw act refl)
 
       line-waits : 0 < waiting (lined .work)

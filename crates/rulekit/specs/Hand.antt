@@ -21,7 +21,8 @@ use Rattle.hpgl.specs.declared.Segment.{Segment}
 use Rattle.hpgl.specs.declared.Segment.the-variants as segment
 use Rattle.hpgl.specs.Numbers.{unknown}
 use Rattle.hpgl.specs.Place.{point, axisX, axisY, location, pagePoint, limits}
-use Rattle.hpgl.specs.Rules.{done, refuse, letters, spent, nameRule, longer}
+use Rattle.hpgl.specs.Replies.{remembering}
+use Rattle.hpgl.specs.Rules.{done, refuse, letters, spent, nameRule, longer, noting}
 use Rattle.hpgl.specs.Valid.{ValidCore}
 use Rattle.rulekit.specs.declared.places.Frame.{Frame}
 use Rattle.rulekit.specs.declared.hand.Hand.{Hand}
@@ -35,17 +36,21 @@ unfoldable pub frameOf : Settings → Frame
 frameOf s = record { x = axisX s; y = axisY s; rows = rowsOf (s .turn); limits = limits s }
 
 abbrev pub handOf : Carriage → Hand
-handOf k = record { position = k .position; pen = k .pen; relative = k .relative }
+handOf k = record { position = k .position; pen = k .pen; relative = k .relative; memory = k .memory }
 
 abbrev pub carriageOf : Hand → Polygon → Carriage
-carriageOf h g = record { position = h .position; pen = h .pen; relative = h .relative; polygon = g }
+carriageOf h g = record { position = h .position; pen = h .pen; relative = h .relative; polygon = g; memory = h .memory }
 
 abbrev pub coreOf : Settings → Hand → Polygon → Core
 coreOf s h g = record { settings = s; carriage = carriageOf h g }
 
 -- the hand after a pair: elsewhere, and the mark of its pen is spent
 abbrev pub movedTo : Hand → Position → Hand
-movedTo h p = record { position = p; pen = spent (h .pen); relative = h .relative }
+movedTo h p = record { position = p; pen = spent (h .pen); relative = h .relative; memory = h .memory }
+
+-- the hand that remembers the number k
+unfoldable pub notedHand : ℕ → Hand → Hand
+notedHand k h = record { position = h .position; pen = h .pen; relative = h .relative; memory = remembering k (h .memory) }
 
 -- a line to draw waits as one
 unfoldable pub lineOf : Segment → Action
@@ -81,6 +86,11 @@ pub record ValidHand (f : Frame) (h : Hand) : Type 0 where
 -- nothing is lost
 pub core-parts : (c : Core) → coreOf (c .settings) (handOf (c .carriage)) (c .carriage .polygon) ≡ c
 core-parts c = refl
+
+-- a number is remembered in the hand
+pub noted-parts : (s : Settings) (h : Hand) (g : Polygon) (k : ℕ) → coreOf s (notedHand k h) g ≡ noting k (coreOf s h g)
+unfolding notedHand noting
+noted-parts s h g k = refl
 
 -- ---- places
 

@@ -4,6 +4,7 @@ ghost use Rattle.hpgl.specs.Change as C;
 use clip::Point;
 use hpgl::Carriage;
 use hpgl::Core;
+use hpgl::Memory;
 use hpgl::Pen;
 use hpgl::Polygon;
 use hpgl::Position;
@@ -40,6 +41,14 @@ pub fn with_polygon(k: Carriage, g: Polygon) -> Carriage
 {
     let mut r = k;
     r.polygon = g;
+    r
+}
+
+pub fn with_memory(k: Carriage, n: Memory) -> Carriage
+    ensures { λ r. ⌜ r ≡ C.withMemory k n ⌝ }
+{
+    let mut r = k;
+    r.memory = n;
     r
 }
 

@@ -4,7 +4,7 @@
 pub use reader::OUT_OF_RANGE;
 pub use reader::UNKNOWN;
 
-// Location out of range, polygon bytes, bad hard limits, take while a segment waits, list full.
+// Location out of range, polygon bytes, bad hard limits, take while a segment or a reply waits, list full, a buffer shorter than a reply.
 pub const TOO_FAR: u8 = 6;
 
 pub const POLYGON_FULL: u8 = 7;
@@ -14,6 +14,8 @@ pub const BAD_LIMITS: u8 = 10;
 pub const BUSY: u8 = 20;
 
 pub const LIST_FULL: u8 = 21;
+
+pub const SHORT_BUFFER: u8 = 31;
 
 // The bytes of a polygon, at most; those of PM0 and PM1, of a point, of a changed pen, of a rectangle.
 pub const POLYGON_BYTES: u16 = 1024;

@@ -34,10 +34,15 @@ firstPlace = polygonPlace + 5
 abbrev pub savedPlace : ℕ
 savedPlace = firstPlace + 5
 
--- ---- the work, its circle on each axis, and where that starts and how far it goes
+-- what the carriage remembers
+
+abbrev pub memoryPlace : ℕ
+memoryPlace = savedPlace + 5
+
+-- ---- the work, its circle on each axis, and where that starts and how far it goes; a reply, and in the second row how many numbers it has
 
 abbrev pub workPlace : ℕ
-workPlace = savedPlace + 5
+workPlace = memoryPlace + 5
 
 abbrev pub acrossPlace : ℕ
 acrossPlace = workPlace + 5

@@ -10,7 +10,7 @@ use Rattle.clip.specs.declared.Point.{Point}
 use Rattle.clip.specs.declared.Rect.{Rect}
 use Rattle.plane.specs.declared.circle.Centre.{Centre}
 use Rattle.plane.specs.declared.circle.Way.{Way}
-use Rattle.saved.specs.Places.{limitsPlace, cornersPlace, scalePlace, windowPlace, positionPlace, penPlace, polygonPlace, firstPlace, savedPlace, workPlace, acrossPlace, alongPlace, startPlace, edgesPlace}
+use Rattle.saved.specs.Places.{limitsPlace, cornersPlace, scalePlace, windowPlace, positionPlace, penPlace, polygonPlace, firstPlace, savedPlace, memoryPlace, workPlace, acrossPlace, alongPlace, startPlace, edgesPlace}
 use Rattle.saved.specs.SavedReader.{readerThen, readerAt}
 use Rattle.hpgl.specs.declared.Position.{Position}
 use Rattle.hpgl.specs.declared.Range.{Range}
@@ -20,12 +20,14 @@ use Rattle.hpgl.specs.declared.Settings.{Settings}
 use Rattle.hpgl.specs.declared.Pen.{Pen}
 use Rattle.hpgl.specs.declared.Saved.{Saved}
 use Rattle.hpgl.specs.declared.Polygon.{Polygon}
+use Rattle.hpgl.specs.declared.Memory.{Memory}
 use Rattle.hpgl.specs.declared.Carriage.{Carriage}
 use Rattle.hpgl.specs.declared.Edge.{Edge}
 use Rattle.hpgl.specs.declared.Circle.{Circle}
+use Rattle.hpgl.specs.declared.Reply.{Reply}
 use Rattle.hpgl.specs.declared.Store.{Store}
 use Rattle.hpgl.specs.declared.Work.{Work}
-use Rattle.hpgl.specs.declared.Work.the-variants.{Nothing, Line, Chords, Edges}
+use Rattle.hpgl.specs.declared.Work.the-variants.{Nothing, Line, Chords, Edges, Answer}
 use Rattle.hpgl.specs.declared.State.{State}
 use Rattle.hpgl.specs.Numbers.{mostEdges}
 
@@ -100,6 +102,9 @@ penRow p = row (pos (p .number)) (flagNumber (p .down)) (flagNumber (p .changed)
 unfoldable pub polygonRow : Polygon → Row
 polygonRow g = row (flagNumber (g .mode)) (pos (g .bytes)) (pos (g .edges)) (flagNumber (g .saved .down)) (pos 0)
 
+unfoldable pub memoryRow : Memory → Row
+memoryRow n = row (pos (n .refusal)) (pos 0) (pos 0) (pos 0) (pos 0)
+
 unfoldable pub positionOf : Row → Position
 positionOf r = record { x = record { base = r .a; offset = r .b }; y = record { base = r .c; offset = r .d } }
 
@@ -119,6 +124,9 @@ polygonOf r first saved = record {
   saved = pm0Of r saved;
 }
 
+unfoldable pub memoryOf : Row → Memory
+memoryOf r = record { refusal = smallOf mostByte (r .a) }
+
 abbrev pub carriageThen : Carriage → List ℤ → List ℤ
 carriageThen c zs =
     lay (positionRow (c .position) (c .relative))
@@ -126,23 +134,25 @@ carriageThen c zs =
     (lay (polygonRow (c .polygon))
     (lay (positionRow (c .polygon .first) (c .polygon .empty))
     (lay (positionRow (c .polygon .saved .position) (c .polygon .saved .relative))
-    zs))))
+    (lay (memoryRow (c .memory))
+    zs)))))
 
 unfoldable pub carriageNumbers : Carriage → List ℤ
 carriageNumbers c = carriageThen c []
 
-unfoldable pub carriageOf : Row → Row → Row → Row → Row → Carriage
-carriageOf place pen polygon first saved = record {
+unfoldable pub carriageOf : Row → Row → Row → Row → Row → Row → Carriage
+carriageOf place pen polygon first saved memory = record {
   position = positionOf place;
   pen = penOf pen;
   relative = flagIn place;
   polygon = polygonOf polygon first saved;
+  memory = memoryOf memory;
 }
 
 unfoldable pub carriageAt : List ℤ → Carriage
-carriageAt zs = carriageOf (rowAt zs positionPlace) (rowAt zs penPlace) (rowAt zs polygonPlace) (rowAt zs firstPlace) (rowAt zs savedPlace)
+carriageAt zs = carriageOf (rowAt zs positionPlace) (rowAt zs penPlace) (rowAt zs polygonPlace) (rowAt zs firstPlace) (rowAt zs savedPlace) (rowAt zs memoryPlace)
 
--- ---- the work: a row that ends with what it is, the circle on each axis, and its start and sweep
+-- ---- the work: a row that ends with what it is, the circle on each axis, and its start and sweep; of a reply its numbers, and how many they are
 
 unfoldable pub blankRow : Row
 blankRow = row (pos 0) (pos 0) (pos 0) (pos 0) (pos 0)
@@ -155,6 +165,12 @@ chordsRow o i n = row (pos i) (pos n) (pos (o .angle)) (pos 0) (pos 2)
 
 unfoldable pub edgesRow : ℕ → ℕ → Row
 edgesRow i n = row (pos i) (pos n) (pos 0) (pos 0) (pos 3)
+
+unfoldable pub replyRow : Reply → Row
+replyRow r = row (r .first) (r .second) (r .third) (r .fourth) (pos 4)
+
+unfoldable pub countRow : Reply → Row
+countRow r = row (pos (r .count)) (pos 0) (pos 0) (pos 0) (pos 0)
 
 unfoldable pub acrossRow : Circle → Row
 acrossRow o = row (o .x .base) (o .x .part) (o .x .span) (o .x .width) (o .radius .u)
@@ -170,24 +186,28 @@ workRow Nothing = blankRow
 workRow (Line p q) = lineRow p q
 workRow (Chords o i n) = chordsRow o i n
 workRow (Edges i n) = edgesRow i n
+workRow (Answer r) = replyRow r
 
 unfoldable pub workAcross : Work → Row
 workAcross Nothing = blankRow
 workAcross (Line p q) = blankRow
 workAcross (Chords o i n) = acrossRow o
 workAcross (Edges i n) = blankRow
+workAcross (Answer r) = countRow r
 
 unfoldable pub workAlong : Work → Row
 workAlong Nothing = blankRow
 workAlong (Line p q) = blankRow
 workAlong (Chords o i n) = alongRow o
 workAlong (Edges i n) = blankRow
+workAlong (Answer r) = blankRow
 
 unfoldable pub workStart : Work → Row
 workStart Nothing = blankRow
 workStart (Line p q) = blankRow
 workStart (Chords o i n) = startRow o
 workStart (Edges i n) = blankRow
+workStart (Answer r) = blankRow
 
 abbrev pub workThen : Work → List ℤ → List ℤ
 workThen w zs = lay (workRow w) (lay (workAcross w) (lay (workAlong w) (lay (workStart w) zs)))
@@ -214,12 +234,16 @@ circleOf r across along start = record {
   sweep = start .c;
 }
 
+unfoldable pub replyOf : Row → Row → Reply
+replyOf r across = record { count = smallOf mostByte (across .a); first = r .a; second = r .b; third = r .c; fourth = r .d }
+
 unfoldable pub workOf : Row → Row → Row → Row → Work
 workOf r across along start =
     cond (eqb (smallIn r) 1) (Line (fromOf r) (toOf r))
     (cond (eqb (smallIn r) 2) (Chords (circleOf r across along start) (smallOf mostShort (r .a)) (smallOf mostShort (r .b)))
     (cond (eqb (smallIn r) 3) (Edges (smallOf mostByte (r .a)) (smallOf mostByte (r .b)))
-    Nothing))
+    (cond (eqb (smallIn r) 4) (Answer (replyOf r across))
+    Nothing)))
 
 unfoldable pub workAt : List ℤ → Work
 workAt zs = workOf (rowAt zs workPlace) (rowAt zs acrossPlace) (rowAt zs alongPlace) (rowAt zs startPlace)

@@ -17,11 +17,12 @@ use Rattle.saved.specs.Places.{edgesPlace}
 use Rattle.saved.specs.SavedReader.{readerAt, reader-back}
 use Rattle.hpgl.specs.declared.Edge.{Edge}
 use Rattle.hpgl.specs.declared.Work.{Work}
-use Rattle.hpgl.specs.declared.Work.the-variants.{Nothing, Line, Chords, Edges}
+use Rattle.hpgl.specs.declared.Work.the-variants.{Nothing, Line, Chords, Edges, Answer}
 use Rattle.hpgl.specs.declared.State.{State}
 use Rattle.hpgl.specs.Numbers.{mostEdges}
-use Rattle.hpgl.specs.Valid.{ValidSettings, ValidCore, ValidWork, Valid}
-use Rattle.saved.specs.Saved.{stateNumbers, flagIn, smallIn, limitsRow, cornersRow, scaleRow, windowRow, boxOf, fromOf, toOf, rangeX, rangeY, settingsOf, settingsAt, positionRow, penRow, polygonRow, positionOf, penOf, pm0Of, polygonOf, carriageOf, carriageAt, blankRow, lineRow, chordsRow, edgesRow, acrossRow, alongRow, startRow, workRow, workAcross, workAlong, workStart, centreOf, wayOf, angleIn, circleOf, workOf, workAt, edgeRow, edgesNumbers, edgeOf, edgesFrom, storeAt, savedOf, loadedOf}
+use Rattle.hpgl.specs.Valid.{ValidSettings, ValidCore, ReplyCount, one, three, four, ValidWork, Valid}
+use Rattle.hpgl.specs.RepliesKept.{recalled-least}
+use Rattle.saved.specs.Saved.{stateNumbers, flagIn, smallIn, limitsRow, cornersRow, scaleRow, windowRow, boxOf, fromOf, toOf, rangeX, rangeY, settingsOf, settingsAt, positionRow, penRow, polygonRow, memoryRow, positionOf, penOf, pm0Of, polygonOf, memoryOf, carriageOf, carriageAt, blankRow, lineRow, chordsRow, edgesRow, replyRow, countRow, acrossRow, alongRow, startRow, workRow, workAcross, workAlong, workStart, centreOf, wayOf, angleIn, circleOf, replyOf, workOf, workAt, edgeRow, edgesNumbers, edgeOf, edgesFrom, storeAt, savedOf, loadedOf}
 
 -- ---- the parts, each from its place on
 
@@ -43,7 +44,7 @@ settings-back m v =
     }
 
 carriage-back : (m : State) → ValidCore (m .core) → carriageAt (savedOf m) ≡ m .core .carriage
-unfolding savedOf carriageAt carriageOf rowAt positionOf penOf pm0Of polygonOf flagIn positionRow penRow polygonRow
+unfolding savedOf carriageAt carriageOf rowAt positionOf penOf pm0Of polygonOf memoryOf flagIn positionRow penRow polygonRow memoryRow
 carriage-back m v =
     let c = m .core .carriage in
     let g = c .polygon in
@@ -59,15 +60,23 @@ carriage-back m v =
         first = g .first;
         saved = record { position = g .saved .position; relative = flag-back (g .saved .relative) i; down = flag-back (g .saved .down) i };
       };
+      memory = record { refusal = small-back mostByte (c .memory .refusal) (omega (arith, recalled-least (v .memory))) i };
     }
 
+count-least : {k : ℕ} → ReplyCount k → k ≤ 4
+count-least one = omega arith
+count-least three = omega arith
+count-least four = omega arith
+
 work-read : (w : Work) → ValidWork w → workOf (workRow w) (workAcross w) (workAlong w) (workStart w) ≡ w
-unfolding workOf workRow workAcross workAlong workStart blankRow lineRow chordsRow edgesRow acrossRow alongRow startRow circleOf centreOf wayOf angleIn fromOf toOf smallIn smallOf _≤?_
+unfolding workOf workRow workAcross workAlong workStart blankRow lineRow chordsRow edgesRow replyRow countRow acrossRow alongRow startRow circleOf replyOf centreOf wayOf angleIn fromOf toOf smallIn smallOf _≤?_
 work-read Nothing v = refl
 work-read (Line p q) v = refl
 work-read (Chords o i n) v =
     λ j. Chords (record { x = o .x; y = o .y; radius = o .radius; angle = small-back mostShort (o .angle) (omega (arith, v .0 .most)) j; start = o .start; sweep = o .sweep }) (small-back mostShort i (omega (arith, v .1)) j) (small-back mostShort n (omega (arith, v .1)) j)
 work-read (Edges i n) v = λ j. Edges (small-back mostByte i (omega (arith, v)) j) (small-back mostByte n (omega (arith, v)) j)
+work-read (Answer r) v =
+    λ j. Answer (record { count = small-back mostByte (r .count) (omega (arith, count-least (v .count))) j; first = r .first; second = r .second; third = r .third; fourth = r .fourth })
 
 work-back : (m : State) → ValidWork (m .work) → workAt (savedOf m) ≡ m .work
 unfolding savedOf workAt rowAt

@@ -1,4 +1,4 @@
-// The carriage as five rows: position and mode, pen, polygon, its first point, what PM0 saved.
+// The carriage as six rows: position and mode, pen, polygon, its first point, what PM0 saved, memory.
 ghost use mathlib.Core.Path.{_≡_};
 ghost use Prim.Native.Nat.{_≤_};
 ghost use lib.ListN.{length};
@@ -6,12 +6,14 @@ ghost use Rattle.rows.specs.Rows.{over};
 ghost use Rattle.saved.specs.Places.{positionPlace, workPlace};
 ghost use Rattle.saved.specs.Saved as S;
 use super::places::FIRST;
+use super::places::MEMORY;
 use super::places::PEN;
 use super::places::POLYGON;
 use super::places::POSITION;
 use super::places::SAVED;
 use super::sheet::flag_in;
 use hpgl::Carriage;
+use hpgl::Memory;
 use hpgl::Pen;
 use hpgl::Polygon;
 use hpgl::Position;
@@ -63,6 +65,18 @@ fn polygon_row(g: Polygon) -> Row
         b: whole(g.bytes as u32),
         c: whole(g.edges as u32),
         d: flag_number(saved.down),
+        e: 0,
+    }
+}
+
+fn memory_row(n: Memory) -> Row
+    ensures { λ r. ⌜ r ≡ S.memoryRow n ⌝ }
+{
+    Row {
+        a: whole(n.refusal as u32),
+        b: 0,
+        c: 0,
+        d: 0,
         e: 0,
     }
 }
@@ -120,14 +134,23 @@ fn polygon_of(row: Row, first: Row, saved: Row) -> Polygon
     }
 }
 
-fn carriage_of(place: Row, pen: Row, polygon: Row, first: Row, saved: Row) -> Carriage
-    ensures { λ r. ⌜ r ≡ S.carriageOf place pen polygon first saved ⌝ }
+fn memory_of(row: Row) -> Memory
+    ensures { λ r. ⌜ r ≡ S.memoryOf row ⌝ }
+{
+    Memory {
+        refusal: byte_of(row.a),
+    }
+}
+
+fn carriage_of(place: Row, pen: Row, polygon: Row, first: Row, saved: Row, memory: Row) -> Carriage
+    ensures { λ r. ⌜ r ≡ S.carriageOf place pen polygon first saved memory ⌝ }
 {
     Carriage {
         position: position_of(place),
         pen: pen_of(pen),
         relative: flag_in(place),
         polygon: polygon_of(polygon, first, saved),
+        memory: memory_of(memory),
     }
 }
 
@@ -141,11 +164,13 @@ pub fn put_carriage(c: Carriage, numbers: &mut [i64])
     let first = polygon.first;
     let saved = polygon.saved;
     let before = saved.position;
+    let memory = c.memory;
     put_row(numbers, POSITION, position_row(position, c.relative));
     put_row(numbers, PEN, pen_row(pen));
     put_row(numbers, POLYGON, polygon_row(polygon));
     put_row(numbers, FIRST, position_row(first, polygon.empty));
     put_row(numbers, SAVED, position_row(before, saved.relative));
+    put_row(numbers, MEMORY, memory_row(memory));
 }
 
 pub fn carriage_at(numbers: &[i64]) -> Carriage
@@ -155,11 +180,13 @@ pub fn carriage_at(numbers: &[i64]) -> Carriage
     let polygon = row_at(numbers, POLYGON);
     let first = row_at(numbers, FIRST);
     let saved = row_at(numbers, SAVED);
+    let memory = row_at(numbers, MEMORY);
     carriage_of(
         row_at(numbers, POSITION),
         row_at(numbers, PEN),
         polygon,
         first,
         saved,
+        memory,
     )
 }

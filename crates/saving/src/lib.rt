@@ -1,4 +1,4 @@
-// The machine's state written out as numbers, and read back. A caller in another language keeps it between two calls as 127 rows of five.
+// The machine's state written out as numbers, and read back. A caller in another language keeps it between two calls as 129 rows of five.
 // The crate saved says which number stands where (Saved.antt), and proves that what is written is read back (SavedLaws.antt).
 ghost use mathlib.Core.Path.{_≡_};
 ghost use lib.ListN.{length};

@@ -17,7 +17,9 @@ pub const FIRST: usize = POLYGON + 5;
 
 pub const SAVED: usize = FIRST + 5;
 
-pub const WORK: usize = SAVED + 5;
+pub const MEMORY: usize = SAVED + 5;
+
+pub const WORK: usize = MEMORY + 5;
 
 pub const ACROSS: usize = WORK + 5;
 

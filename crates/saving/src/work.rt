@@ -1,4 +1,5 @@
-// The waiting work as four rows: what it is, with its numbers, a circle's centre and radius on each axis, and its start and sweep.
+// The waiting work as four rows: what it is, with its numbers, a circle's centre and radius on each axis, and its start and sweep. Of a reply
+// the second row says how many numbers it has.
 ghost use mathlib.Core.Path.{_≡_};
 ghost use Prim.Native.Nat.{_≤_};
 ghost use lib.ListN.{length};
@@ -13,6 +14,7 @@ use super::sheet::from_of;
 use super::sheet::to_of;
 use clip::Point;
 use hpgl::Circle;
+use hpgl::Reply;
 use hpgl::Work;
 use plane::circle::Centre;
 use plane::circle::Way;
@@ -71,6 +73,30 @@ fn edges_row(i: u8, n: u8) -> Row
     }
 }
 
+fn reply_row(r: Reply) -> Row
+    ensures { λ z. ⌜ z ≡ S.replyRow r ⌝ }
+{
+    Row {
+        a: r.first,
+        b: r.second,
+        c: r.third,
+        d: r.fourth,
+        e: 4,
+    }
+}
+
+fn count_row(r: Reply) -> Row
+    ensures { λ z. ⌜ z ≡ S.countRow r ⌝ }
+{
+    Row {
+        a: whole(r.count as u32),
+        b: 0,
+        c: 0,
+        d: 0,
+        e: 0,
+    }
+}
+
 fn across_row(o: Circle) -> Row
     ensures { λ r. ⌜ r ≡ S.acrossRow o ⌝ }
 {
@@ -121,10 +147,11 @@ fn work_row(w: Work) -> Row
         Work::Line(p, q) => line_row(p, q),
         Work::Chords(o, i, n) => chords_row(o, i, n),
         Work::Edges(i, n) => edges_row(i, n),
+        Work::Answer(r) => reply_row(r),
     }
 }
 
-// The circle of chords that wait, on each axis.
+// The circle of chords that wait, on each axis; of a reply its count.
 fn work_across(w: Work) -> Row
     ensures { λ r. ⌜ r ≡ S.workAcross w ⌝ }
 {
@@ -133,6 +160,7 @@ fn work_across(w: Work) -> Row
         Work::Line(_, _) => blank_row(),
         Work::Chords(o, _, _) => across_row(o),
         Work::Edges(_, _) => blank_row(),
+        Work::Answer(r) => count_row(r),
     }
 }
 
@@ -144,6 +172,7 @@ fn work_along(w: Work) -> Row
         Work::Line(_, _) => blank_row(),
         Work::Chords(o, _, _) => along_row(o),
         Work::Edges(_, _) => blank_row(),
+        Work::Answer(_) => blank_row(),
     }
 }
 
@@ -155,6 +184,7 @@ fn work_start(w: Work) -> Row
         Work::Line(_, _) => blank_row(),
         Work::Chords(o, _, _) => start_row(o),
         Work::Edges(_, _) => blank_row(),
+        Work::Answer(_) => blank_row(),
     }
 }
 
@@ -200,6 +230,18 @@ pub fn circle_of(chords: Row, across: Row, along: Row, start: Row) -> Circle
     }
 }
 
+pub fn reply_of(row: Row, across: Row) -> Reply
+    ensures { λ r. ⌜ r ≡ S.replyOf row across ⌝ }
+{
+    Reply {
+        count: byte_of(across.a),
+        first: row.a,
+        second: row.b,
+        third: row.c,
+        fourth: row.d,
+    }
+}
+
 fn work_of(row: Row, across: Row, along: Row, start: Row) -> Work
     ensures { λ r. ⌜ r ≡ S.workOf row across along start ⌝ }
 {
@@ -216,6 +258,9 @@ fn work_of(row: Row, across: Row, along: Row, start: Row) -> Work
     }
     if tag == 3 {
         return Work::Edges(byte_of(row.a), byte_of(row.b));
+    }
+    if tag == 4 {
+        return Work::Answer(reply_of(row, across));
     }
     Work::Nothing
 }

@@ -1,4 +1,4 @@
--- How large the numbers of a list may be, so that its sum fits an i64: those of its first fifteen rows as a centre of a circle, those of its other rows as a place on the page.
+-- How large the numbers of a list may be, so that its sum fits an i64: those of the rows before the edges as a centre of a circle, those of its other rows as a place on the page.
 use mathlib.Core.Path.{_≡_, refl, ap, _∙_, subst}
 use mathlib.Core.Bool.{Bool, true, false, cond}
 use mathlib.Core.List.{List, _∷_}
@@ -19,10 +19,10 @@ use Rattle.seal.specs.Seal.{weighed}
 
 -- how many rows, and how many of them before the edges
 abbrev pub rowCount : ℕ
-rowCount = 128
+rowCount = 129
 
 abbrev pub headCount : ℕ
-headCount = 16
+headCount = 17
 
 -- the largest number of row k
 unfoldable pub mostAt : ℕ → ℕ
@@ -87,12 +87,16 @@ unfolding heavy
 heavy-grows k zero = let e : k + 0 ≡ k = omega arith in rw e (omega arith)
 heavy-grows k (suc j) = let e : k + suc j ≡ suc (k + j) = omega arith in rw e (omega (arith, heavy-grows k j))
 
-pub heavy-most : (k : ℕ) → k ≤ rowCount → heavy k ≤ 7000000000000000000
+-- what the sum is at most: within an i64
+abbrev pub mostSum : ℕ
+mostSum = 8000000000000000000
+
+pub heavy-most : (k : ℕ) → k ≤ rowCount → heavy k ≤ mostSum
 unfolding heavy mostAt
 heavy-most k h =
     let all : k + (rowCount - k) ≡ rowCount = omega (arith, h) in
     let last : heavy (k + (rowCount - k)) ≡ heavy rowCount = ap heavy all in
-    let whole : heavy rowCount ≤ 7000000000000000000 = leb→le (heavy rowCount) 7000000000000000000 tt in
+    let whole : heavy rowCount ≤ mostSum = leb→le (heavy rowCount) mostSum tt in
     omega (arith, heavy-grows k (rowCount - k), last, whole)
 
 most-at : (k : ℕ) {t : Bool} → ltb k headCount ≡ t → mostAt k ≡ cond t 2000000001000001 1000000

@@ -19,7 +19,7 @@ checksumOf zs = weighed 1 zs
 
 -- the version of the form
 abbrev pub version : ℕ
-version = 4
+version = 5
 
 unfoldable pub headerOf : List ℤ → Row
 headerOf zs = row (pos version) (checksumOf zs) (pos 0) (pos 0) (pos 0)

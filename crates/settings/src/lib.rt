@@ -19,6 +19,7 @@ use hpgl::Carriage;
 use hpgl::Core;
 use hpgl::Edge;
 use hpgl::MOST_EDGES;
+use hpgl::Memory;
 use hpgl::Pen;
 use hpgl::Polygon;
 use hpgl::Range;
@@ -177,6 +178,7 @@ fn fresh_carriage(page: Point, pen: u8) -> Carriage
         },
         relative: false,
         polygon: polygon,
+        memory: Memory { refusal: 0 },
     }
 }
 

@@ -1,4 +1,4 @@
-// The carriage's five rows.
+// The carriage's six rows.
 ghost use mathlib.Core.Path.{_≡_};
 ghost use lib.IntN.{pos, _+ℤ_, _*ℤ_};
 ghost use Rattle.exact.specs.Whole.{_≤?_};
@@ -92,6 +92,33 @@ fn polygon_sound(r: Row) -> bool
     false
 }
 
+// What OE may tell: 0, 1, 2, 3, 6 or 7.
+fn memory_sound(r: Row) -> bool
+    ensures { λ t. ⌜ t ≡ S.memorySound r ⌝ }
+{
+    let low = Row {
+        a: 0,
+        b: 0,
+        c: 0,
+        d: 0,
+        e: 0,
+    };
+    let high = Row {
+        a: 7,
+        b: 0,
+        c: 0,
+        d: 0,
+        e: 0,
+    };
+    if between(low, r, high) {
+        if r.a <= 3 {
+            return true;
+        }
+        return 6 <= r.a;
+    }
+    false
+}
+
 // Whether the position of a row may be kept.
 fn placed_row(s: Settings, r: Row) -> bool
     requires { ⌜ ValidSettings s ⌝ }
@@ -137,12 +164,15 @@ fn positions_sound(place: Row, first: Row, saved: Row) -> bool
     false
 }
 
-fn parts_sound(place: Row, pen: Row, polygon: Row, first: Row, saved: Row) -> bool
-    ensures { λ t. ⌜ t ≡ S.partsSound place pen polygon first saved ⌝ }
+fn parts_sound(place: Row, pen: Row, polygon: Row, first: Row, saved: Row, memory: Row) -> bool
+    ensures { λ t. ⌜ t ≡ S.partsSound place pen polygon first saved memory ⌝ }
 {
     if positions_sound(place, first, saved) {
         if pen_sound(pen) {
-            return polygon_sound(polygon);
+            if polygon_sound(polygon) {
+                return memory_sound(memory);
+            }
+            return false;
         }
         return false;
     }
@@ -156,11 +186,12 @@ pub fn carriage_sound(
     polygon: Row,
     first: Row,
     saved: Row,
+    memory: Row,
 ) -> bool
     requires { ⌜ ValidSettings s ⌝ }
-    ensures { λ t. ⌜ t ≡ S.carriageSound s place pen polygon first saved ⌝ }
+    ensures { λ t. ⌜ t ≡ S.carriageSound s place pen polygon first saved memory ⌝ }
 {
-    if parts_sound(place, pen, polygon, first, saved) {
+    if parts_sound(place, pen, polygon, first, saved, memory) {
         if placed_row(s, place) {
             return kept_sound(s, polygon, first, saved);
         }

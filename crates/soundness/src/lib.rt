@@ -3,7 +3,7 @@
 ghost use mathlib.Core.Path.{_≡_};
 ghost use lib.ListN.{length};
 ghost use Rattle.hpgl.specs.Valid.{ValidSettings};
-ghost use Rattle.saved.specs.Places.{limitsPlace, cornersPlace, scalePlace, windowPlace, positionPlace, penPlace, polygonPlace, firstPlace, savedPlace, workPlace, acrossPlace, alongPlace, startPlace, edgesPlace};
+ghost use Rattle.saved.specs.Places.{limitsPlace, cornersPlace, scalePlace, windowPlace, positionPlace, penPlace, polygonPlace, firstPlace, savedPlace, memoryPlace, workPlace, acrossPlace, alongPlace, startPlace, edgesPlace};
 ghost use Rattle.saved.specs.Saved.{stateNumbers, settingsAt};
 ghost use Rattle.rows.specs.Rows.{rowAt};
 ghost use Rattle.wellformed.specs.Sound as S;
@@ -26,6 +26,7 @@ use saving::places::CORNERS;
 use saving::places::EDGES;
 use saving::places::FIRST;
 use saving::places::LIMITS;
+use saving::places::MEMORY;
 use saving::places::PEN;
 use saving::places::POLYGON;
 use saving::places::POSITION;
@@ -63,12 +64,13 @@ fn settings_here(numbers: &[i64]) -> bool
 
 fn carriage_here(numbers: &[i64]) -> bool
     requires { ⌜ (length (now numbers) ≡ stateNumbers) × ValidSettings (settingsAt (now numbers)) ⌝ }
-    ensures { λ r. ⌜ r ≡ S.carriageSound (settingsAt (now (numbers .entry))) (rowAt (now (numbers .entry)) positionPlace) (rowAt (now (numbers .entry)) penPlace) (rowAt (now (numbers .entry)) polygonPlace) (rowAt (now (numbers .entry)) firstPlace) (rowAt (now (numbers .entry)) savedPlace) ⌝ }
+    ensures { λ r. ⌜ r ≡ S.carriageSound (settingsAt (now (numbers .entry))) (rowAt (now (numbers .entry)) positionPlace) (rowAt (now (numbers .entry)) penPlace) (rowAt (now (numbers .entry)) polygonPlace) (rowAt (now (numbers .entry)) firstPlace) (rowAt (now (numbers .entry)) savedPlace) (rowAt (now (numbers .entry)) memoryPlace) ⌝ }
 {
     let s = settings_at(numbers);
     let polygon = row_at(numbers, POLYGON);
     let first = row_at(numbers, FIRST);
     let saved = row_at(numbers, SAVED);
+    let memory = row_at(numbers, MEMORY);
     carriage_sound(
         s,
         row_at(numbers, POSITION),
@@ -76,6 +78,7 @@ fn carriage_here(numbers: &[i64]) -> bool
         polygon,
         first,
         saved,
+        memory,
     )
 }
 

@@ -1,4 +1,4 @@
-// The work's four rows: a line, chords, the edges of the store, or nothing.
+// The work's four rows: a line, chords, the edges of the store, a reply, or nothing.
 ghost use mathlib.Core.Path.{_≡_};
 ghost use Prim.Native.Nat.{_≤_, _<_};
 ghost use Rattle.exact.specs.Fit.{Bd};
@@ -193,6 +193,62 @@ fn outline_sound(r: Row, across: Row, along: Row, start: Row) -> bool
     blanks(across, along, start)
 }
 
+// How many numbers a reply has: one, three or four.
+fn count_sound(r: Row) -> bool
+    ensures { λ t. ⌜ t ≡ S.countSound r ⌝ }
+{
+    let low = Row {
+        a: 1,
+        b: 0,
+        c: 0,
+        d: 0,
+        e: 0,
+    };
+    let high = Row {
+        a: 4,
+        b: 0,
+        c: 0,
+        d: 0,
+        e: 0,
+    };
+    if !between(low, r, high) {
+        return false;
+    }
+    if r.a == 2 {
+        return false;
+    }
+    true
+}
+
+fn reply_sound(r: Row, across: Row, along: Row, start: Row) -> bool
+    ensures { λ t. ⌜ t ≡ S.replySound r across along start ⌝ }
+{
+    let low = Row {
+        a: -1_000_000,
+        b: -1_000_000,
+        c: -1_000_000,
+        d: -1_000_000,
+        e: 4,
+    };
+    let high = Row {
+        a: 1_000_000,
+        b: 1_000_000,
+        c: 1_000_000,
+        d: 1_000_000,
+        e: 4,
+    };
+    if !between(low, r, high) {
+        return false;
+    }
+    if !count_sound(across) {
+        return false;
+    }
+    if blank(along) {
+        return blank(start);
+    }
+    false
+}
+
 pub fn work_sound(r: Row, across: Row, along: Row, start: Row) -> bool
     ensures { λ t. ⌜ t ≡ S.workSound r across along start ⌝ }
 {
@@ -205,13 +261,16 @@ pub fn work_sound(r: Row, across: Row, along: Row, start: Row) -> bool
     if r.e == 3 {
         return outline_sound(r, across, along, start);
     }
+    if r.e == 4 {
+        return reply_sound(r, across, along, start);
+    }
     if blank(r) {
         return blanks(across, along, start);
     }
     false
 }
 
-// Whether the pen is not 0, or no segment waits.
+// Whether the pen is not 0, or no segment waits: a reply is none.
 pub fn inked_sound(pen: Row, work: Row) -> bool
     ensures { λ t. ⌜ t ≡ S.inkedSound pen work ⌝ }
 {
@@ -219,6 +278,9 @@ pub fn inked_sound(pen: Row, work: Row) -> bool
         return true;
     }
     if work.e == 0 {
+        return true;
+    }
+    if work.e == 4 {
         return true;
     }
     if work.e == 1 {

@@ -8,7 +8,7 @@ use Rattle.numerals.specs.Bytes.{classOf}
 use Rattle.reader.specs.Inside.{inside}
 use Rattle.reader.specs.Reader.{unknown}
 use Rattle.hpgl.specs.declared.State.{State}
-use Rattle.hpgl.specs.Machine.{waiting}
+use Rattle.hpgl.specs.Machine.{waiting, replying}
 use Rattle.hpgl.specs.Valid.{Every}
 use Rattle.feeding.specs.Plot.{Mark, stroke, refusal, Plot}
 
@@ -24,9 +24,10 @@ isLetter Other = false
 abbrev pub NoLetter : ℕ → Type 0
 NoLetter b = isLetter (classOf b) ≡ false
 
--- nothing waits, and the reader is between instructions, after a first letter, passing over what a refusal left, or in a label's text
+-- neither a segment nor a reply waits, and the reader is between instructions, after a first letter, passing over what a refusal left, or in a label's text
 pub record Outside (m : State) : Type 0 where
   pub idle : waiting (m .work) ≡ 0
+  pub silent : replying (m .work) ≡ false
   pub out : inside (m .reader .mode) ≡ false
 
 -- "unknown byte or name, number with no instruction: 1"

@@ -23,10 +23,11 @@ use Rattle.reader.specs.Reader.{unknown, labelEnd, goOnOf, quietOf, refuseOf}
 use Rattle.reader.specs.Step.{idleOf, firstOf, passOverOf, labelOf, byMode, stepOf, passedOver}
 use Rattle.hpgl.specs.declared.Acted.{Acted}
 use Rattle.hpgl.specs.declared.State.{State}
-use Rattle.hpgl.specs.Rules.{done, refuse, actOn}
-use Rattle.hpgl.specs.Machine.{waiting, queued, readerAfter, applied, acted, takeState, takeNumber}
+use Rattle.hpgl.specs.Rules.{done, refuse, noted, actOn}
+use Rattle.hpgl.specs.Machine.{waiting, replied, replying, occupied, queued, readerAfter, applied, acted, takeState, takeNumber}
 use Rattle.hpgl.specs.Pins.{pinned}
 use Rattle.hpgl.specs.Valid.{Every, none, more}
+use Rattle.feeding.specs.DrawOffLaws.{free-taken}
 use Rattle.feeding.specs.Plot.{Plot, took, plotFrom}
 use Rattle.feeding.specs.PlotLaws.{at-end, at-stuck, at-byte}
 use Rattle.stretches.specs.Stretch.{isLetter, NoLetter, Outside, Unknown, Refuses}
@@ -121,22 +122,27 @@ record Idles (m : State) (r : Reader) (t : Acted) : Type 0 where
   number : (t .number ≡ 0) ⊎ (t .number ≡ unknown)
   outside : Outside (applied m r t)
 
-event-idles : (m : State) (r : Reader) (e : Event) → Quiet e → inside (r .mode) ≡ false → Idles m r (actOn (m .core) e)
-unfolding actOn done refuse applied queued waiting Quiet
-event-idles m r Nothing q o = record { number = inl refl; outside = record { idle = refl; out = after-out r 0 o } }
+event-idles : (m : State) (r : Reader) (e : Event) → Quiet e → inside (r .mode) ≡ false → Idles m r (noted (actOn (m .core) e))
+unfolding actOn done refuse noted applied queued waiting replying replied Quiet
+event-idles m r Nothing q o = record { number = inl refl; outside = record { idle = refl; silent = refl; out = after-out r 0 o } }
 event-idles m r (Named op) q o = absurd q
 event-idles m r (Pair p) q o = absurd q
 event-idles m r (Ended op n) q o = absurd q
-event-idles m r (Refused k) q o = record { number = inr q; outside = record { idle = refl; out = after-out r k o } }
+event-idles m r (Refused k) q o = record { number = inr q; outside = record { idle = refl; silent = refl; out = after-out r k o } }
+
+-- nothing waits, so that a byte is taken
+pub outside-free : {m : State} → Outside m → occupied (m .work) ≡ false
+unfolding occupied
+outside-free {m} h = rw (eq-eqb (waiting (m .work)) 0 (h .idle), h .silent) refl
 
 module _ (m : State) (b : ℕ) where
-  is-state : waiting (m .work) ≡ 0 → takeState m b ≡ applied m (stepOf (m .reader) b .reader) (acted m b)
+  is-state : occupied (m .work) ≡ false → takeState m b ≡ applied m (stepOf (m .reader) b .reader) (acted m b)
   unfolding takeState
-  is-state w = rw (eq-eqb (waiting (m .work)) 0 w) refl
+  is-state w = rw w refl
 
-  is-number : waiting (m .work) ≡ 0 → takeNumber m b ≡ acted m b .number
+  is-number : occupied (m .work) ≡ false → takeNumber m b ≡ acted m b .number
   unfolding takeNumber
-  is-number w = rw (eq-eqb (waiting (m .work)) 0 w) refl
+  is-number w = rw w refl
 
   module _ (h : Outside m) (l : NoLetter b) where
     idles : Idles m (stepOf (m .reader) b .reader) (acted m b)
@@ -144,21 +150,22 @@ module _ (m : State) (b : ℕ) where
     idles = let p = step-passes (m .reader) b (h .out) l in event-idles m (stepOf (m .reader) b .reader) (stepOf (m .reader) b .event) (p .told) (p .out)
 
     pub take-outside : Outside (takeState m b)
-    take-outside = rw (is-state (h .idle)) (idles .outside)
+    take-outside = rw (is-state (outside-free h)) (idles .outside)
 
     pub take-unknown : (takeNumber m b ≡ 0) ⊎ (takeNumber m b ≡ unknown)
-    take-unknown = rw (is-number (h .idle)) (idles .number)
+    take-unknown = rw (is-number (outside-free h)) (idles .number)
 
   -- what is carried out with a number that is not 0: nothing is queued, and the rest of the instruction is passed over
   refused-applied : (acted m b .number ≡ 0 → ⊥) → Outside (applied m (stepOf (m .reader) b .reader) (acted m b))
-  unfolding applied acted queued waiting
+  unfolding applied acted noted queued waiting replying replied
   refused-applied z = record {
     idle = rw (pinned (m .core) (stepOf (m .reader) b .event) .refused z .0) refl;
+    silent = rw (pinned (m .core) (stepOf (m .reader) b .event) .refused z .0) refl;
     out = passed-out (stepOf (m .reader) b .reader) (acted m b .number) z;
   }
 
   -- so any refusal leaves the machine outside
-  pub refused-outside : waiting (m .work) ≡ 0 → (takeNumber m b ≡ 0 → ⊥) → Outside (takeState m b)
+  pub refused-outside : occupied (m .work) ≡ false → (takeNumber m b ≡ 0 → ⊥) → Outside (takeState m b)
   refused-outside w n = rw (is-state w) (refused-applied (λ e. n (is-number w ∙ e)))
 
 -- ---- a stretch is plotted
@@ -171,8 +178,8 @@ took-refuses (suc n) t r next (inr e) h = record { marks = more e (h r .marks); 
 
 pub stretch-refuses : (m : State) (bs : List ℕ) (t r : ℕ) → Outside m → Every NoLetter bs → Refuses (plotFrom m bs t r)
 stretch-refuses m [] t r h l = rw (at-end m t (h .idle) r) (record { marks = none; outside = h })
-stretch-refuses m (b ∷ bs) t zero h l = rw (at-stuck m t (h .idle) b bs) (record { marks = none; outside = h })
+stretch-refuses m (b ∷ bs) t zero h l = rw (at-stuck m t (h .idle) b bs (free-taken m b (outside-free h))) (record { marks = none; outside = h })
 stretch-refuses m (b ∷ bs) t (suc r) h (more l ls) =
-    rw (at-byte m t (h .idle) b bs r)
+    rw (at-byte m t (h .idle) b bs r (free-taken m b (outside-free h)))
     (took-refuses (takeNumber m b) (t + 1) r (λ q. plotFrom (takeState m b) bs (t + 1) q) (take-unknown m b h l)
     (λ q. stretch-refuses (takeState m b) bs (t + 1) q (take-outside m b h l) ls))

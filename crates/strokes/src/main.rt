@@ -1,4 +1,5 @@
-// The program strokes of document 01: HP-GL on standard input, a line for each stroke and each refused byte on standard output.
+// The program strokes of document 01: HP-GL on standard input, a line for each stroke and each refused byte on standard output, and each reply
+// (document 02, CR 5) as soon as it is made: a package may send OA; and wait.
 //
 // With four arguments the hard limits are these: left, bottom, right, top.
 use console::limits;

@@ -7,13 +7,12 @@ use machine::Machine;
 use measure::SCALE;
 use textlines::word::Limits;
 
-mod drawing;
 mod page;
 
 use console::bad_arguments;
 use console::limits;
-use drawing::survey;
 use page::page;
+use surveying::survey;
 
 fn main() {
     let asked = limits();

@@ -1,5 +1,4 @@
 // The page, from its title to its verdict.
-use super::drawing::Surveyed;
 use clip::Rect;
 use counting::refusals::GROUPS;
 use counting::refusals::PLACES;
@@ -24,6 +23,7 @@ use output::put_bytes;
 use output::put_natural;
 use output::put_words;
 use output::whole_then;
+use surveying::Surveyed;
 use words::harmless;
 use words::of_kind;
 
@@ -259,6 +259,16 @@ fn groups(text: &mut [u8; 65536], used: usize, r: Refusals) -> usize {
     end
 }
 
+// How many replies were made, if any: they are harmless.
+fn replies(text: &mut [u8; 65536], used: usize, count: u64) -> usize {
+    if count == 0 {
+        return used;
+    }
+    let mut end = put_bytes(text, used, b"Replies:  ");
+    end = natural_then(text, end, count, b' ');
+    put_bytes(text, end, b"made (OA, OE, OH, OP, OW)\n\n")
+}
+
 fn refused(text: &mut [u8; 65536], used: usize, r: Refusals) -> usize {
     let counts = r.counts;
     if counts[0] == 0 {
@@ -351,6 +361,7 @@ pub fn page(hard: Rect, s: Surveyed, scale: u8) {
     let mut end = title(&mut text, 0, hard, scale);
     end = paint(&mut text, end, p, scale);
     end = boxes(&mut text, end, t, hard, scale);
+    end = replies(&mut text, end, s.replies);
     end = refused(&mut text, end, r);
     end = verdict(&mut text, end, s, hard);
     end = put_byte(&mut text, end, b'\n');

@@ -3,10 +3,14 @@ ghost use mathlib.Core.Path.{_≡_};
 ghost use Rattle.hpgl.specs.Valid.{Usable};
 ghost use Prim.Native.Nat.{_<_, _≤_};
 ghost use lib.ListN.{length};
+use crate::fetches::BUFFER;
+use crate::fetches::Told;
+use crate::fetches::fetch_into;
 use crate::outcome::put_number;
 use crate::outcome::put_refusal;
-use crate::sequence::MARKS;
+use crate::sequence::FED;
 use crate::sequence::ROOM;
+use machine::Gathered;
 use machine::Machine;
 use output::put_byte;
 use output::put_bytes;
@@ -27,6 +31,9 @@ const MARK: i64 = 7;
 // "feed: list full"
 const LIST_FULL: u8 = 21;
 
+// A reply waits.
+const BUSY: u8 = 20;
+
 // How far the bytes of a line are fed, and the bytes of text.
 struct Fed {
     machine: Machine,
@@ -35,24 +42,23 @@ struct Fed {
     more: bool,
 }
 
-// The bytes of a sequence. Those past the room that there is are left out, and the outcome tells.
-pub fn bytes_of(codes: &[u16; ROOM], count: usize, bytes: &mut [u8]) -> usize
+// The bytes that a sequence has from a place on, up to a code of another kind: plain ones, or those of a feed. Those past the room that there is are left out, and the outcome tells.
+pub fn bytes_of(codes: &[u16; ROOM], from: usize, kind: u16, bytes: &mut [u8]) -> usize
     ensures { λ r. ⌜ r ≤ length (now (bytes .exit)) ⌝ }
 {
-    for i in 0..count {
-        if bytes.len() <= i {
+    let mut at = from;
+    for i in 0..bytes.len() {
+        if codes.len() <= at {
             return i;
         }
-        if codes.len() <= i {
+        let code = codes[at];
+        if code / 256 != kind {
             return i;
         }
-        let code = codes[i];
-        if MARKS <= code {
-            return i;
-        }
-        bytes[i] = code as u8;
+        bytes[i] = (code % 256) as u8;
+        at += 1;
     }
-    count
+    bytes.len()
 }
 
 fn put_count(out: &mut [u8; 65536], used: usize, count: usize) -> usize {
@@ -121,21 +127,74 @@ pub fn feed_once(m: Machine, bytes: &[u8], room: u64, out: &mut [u8; 65536], use
     put_records(out, end, &numbers, records)
 }
 
-// One feed of what is left: its strokes, and a refusal.
+// What a feed answered.
+fn put_answer(out: &mut [u8; 65536], used: usize, at: usize, stored: usize, number: u8) -> usize {
+    let end = put_bytes(out, used, b" (");
+    let end = put_natural(out, end, at as u64);
+    let end = put_byte(out, end, b',');
+    let end = put_natural(out, end, stored as u64);
+    let end = put_byte(out, end, b',');
+    let end = put_natural(out, end, number as u64);
+    put_byte(out, end, b')')
+}
+
+fn gathered(m: Machine, bytes: &[u8], from: usize, numbers: &mut [i64]) -> Gathered
+    requires { ⌜ Usable (m .state) ⌝ }
+    ensures { λ r. ⌜ Usable (r .machine .state) ⌝ }
+{
+    m.gather(bytes, from, numbers)
+}
+
+// One feed within a sequence: its answer, and its strokes.
+pub fn feed_codes(
+    m: Machine,
+    codes: &[u16; ROOM],
+    from: usize,
+    room: u64,
+    out: &mut [u8; 65536],
+    used: usize,
+) -> Told
+    requires { ⌜ Usable (m .state) ⌝ }
+    ensures { λ r. ⌜ Usable (r .machine .state) ⌝ }
+{
+    let mut bytes = [0u8; BYTES];
+    let n = bytes_of(codes, from, FED / 256, &mut bytes);
+    let mut numbers = marked();
+    let size = fitting(room) * 5;
+    let g = gathered(m, &bytes[0..n], 0, &mut numbers[0..size]);
+    let next = g.machine;
+    let end = put_answer(out, used, g.at, g.stored, g.number);
+    Told {
+        machine: next,
+        used: put_records(out, end, &numbers, g.stored),
+    }
+}
+
+// The refusal of a byte: none where the list is full or a reply waits.
+fn refusal_of(number: u8) -> u8 {
+    if number == LIST_FULL || number == BUSY {
+        return 0;
+    }
+    number
+}
+
+// One feed of what is left: its strokes, a refusal, and the reply that waits.
 fn feed_part(f: Fed, bytes: &[u8], out: &mut [u8; 65536]) -> Fed
     requires { ⌜ Usable (f .machine .state) ⌝ }
     ensures { λ r. ⌜ Usable (r .machine .state) ⌝ }
 {
     let mut numbers = marked();
     let m = f.machine;
-    let g = m.gather(bytes, f.at, &mut numbers);
+    let g = gathered(m, bytes, f.at, &mut numbers);
     let next = g.machine;
     let end = put_records(out, f.used, &numbers, g.stored);
-    let refused = if g.number == LIST_FULL { 0 } else { g.number };
+    let end = put_refusal(out, end, refusal_of(g.number), g.at as u64);
+    let told = fetch_into(next, BUFFER, b"", out, end);
+    let last = told.machine;
     Fed {
-        machine: next,
+        machine: last,
         at: g.at,
-        used: put_refusal(out, end, refused, g.at as u64),
+        used: told.used,
         more: g.number != 0,
     }
 }

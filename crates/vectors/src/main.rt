@@ -5,6 +5,7 @@ ghost use Rattle.hpgl.specs.Valid.{Usable};
 mod calls;
 mod drives;
 mod feeds;
+mod fetches;
 mod fields;
 mod outcome;
 mod sequence;
@@ -28,6 +29,7 @@ use machine::Stroke;
 use outcome::put_number;
 use output::put_byte;
 use output::put_bytes;
+use sequence::PLAIN;
 use sequence::ROOM;
 use sequence::write_out;
 
@@ -135,18 +137,18 @@ fn run_feed(line: &[u8], limits: Limits, out: &mut [u8; 65536], used: usize) -> 
         used: used,
     };
     let course = run(start, &codes, before, out);
-    let count = codes_of(line, 3, &mut codes);
+    codes_of(line, 3, &mut codes);
     let mut bytes = [0u8; BYTES];
-    let n = bytes_of(&codes, count, &mut bytes);
+    let n = bytes_of(&codes, 0, PLAIN, &mut bytes);
     let m = course.machine;
     feed_once(m, &bytes[0..n], number_of(line, 2), out, course.used)
 }
 
 fn run_strokes(line: &[u8], limits: Limits, out: &mut [u8; 65536], used: usize) -> usize {
     let mut codes = [0u16; ROOM];
-    let count = codes_of(line, 1, &mut codes);
+    codes_of(line, 1, &mut codes);
     let mut bytes = [0u8; BYTES];
-    let n = bytes_of(&codes, count, &mut bytes);
+    let n = bytes_of(&codes, 0, PLAIN, &mut bytes);
     feed_all(fresh_machine(limits), &bytes[0..n], out, used)
 }
 

@@ -9,11 +9,29 @@ pub const ROOM: usize = 160000;
 // The codes below this one are bytes.
 pub const MARKS: u16 = 256;
 
-// A mark: from here on no draws follow a byte.
+// The kind of these codes: a code divided by 256.
+pub const PLAIN: u16 = 0;
+
+// A mark: from here on neither a fetch nor draws follow a byte.
 pub const HOLD: u16 = 256;
 
 // A mark: one draw.
 pub const DRAW: u16 = 257;
+
+// A mark: one look.
+pub const LOOK: u16 = 258;
+
+// A mark: the end of a sequence.
+const END: u16 = 259;
+
+// A mark and the 64 after it: one fetch, with a buffer of none to 64 bytes.
+pub const FETCH: u16 = 300;
+
+// A mark and the 16 after it: one feed into a list of none to 16 records. Its bytes come after it.
+pub const FEED: u16 = 400;
+
+// The codes from this one on are the bytes of a feed, which no take gets; they are of kind 2.
+pub const FED: u16 = 512;
 
 // How far a sequence is written out: the codes so far, and the place of what follows.
 struct Written {
@@ -36,12 +54,28 @@ fn wide(byte: u8) -> u16
     byte as u16
 }
 
-fn put_text(codes: &mut [u16; ROOM], count: usize, text: &[u8]) -> usize {
+// What a byte's code begins at: a plain one's, or that of one of a feed.
+fn base_of(fed: bool) -> u16
+    ensures { λ r. ⌜ r ≤ 512 ⌝ }
+{
+    if fed {
+        return FED;
+    }
+    0
+}
+
+// The bytes of a text, plain or of a feed.
+fn put_bytes_as(codes: &mut [u16; ROOM], count: usize, text: &[u8], fed: bool) -> usize {
+    let base = base_of(fed);
     let mut end = count;
     for i in 0..text.len() {
-        end = put_code(codes, end, wide(text[i]));
+        end = put_code(codes, end, base + wide(text[i]));
     }
     end
+}
+
+fn put_text(codes: &mut [u16; ROOM], count: usize, text: &[u8]) -> usize {
+    put_bytes_as(codes, count, text, false)
 }
 
 // A text so many times.
@@ -131,36 +165,72 @@ fn put_rep(codes: &mut [u16; ROOM], count: usize, text: &[u8], at: usize, end: u
     count
 }
 
-// What stands in braces: {hold}, {draw}, {fill k} or {rep k text}.
+// A mark that tells a number: the number after the mark, or the last that there is one for.
+fn counted(mark: u16, number: u64, most: u16) -> u16
+    requires { ⌜ (mark ≤ 400) × (most ≤ 64) ⌝ }
+{
+    if number < most as u64 {
+        return mark + number as u16;
+    }
+    mark + most
+}
+
+// {feed k text}: a feed of the text into k records.
+fn put_feed(codes: &mut [u16; ROOM], count: usize, text: &[u8], at: usize, end: usize) -> usize
+    requires { ⌜ (at < length (now text)) × (end ≤ length (now text)) ⌝ }
+{
+    let room = natural_at(text, at + 6);
+    let written = put_code(codes, count, counted(FEED, room.value, 16));
+    let blank = room.next;
+    if blank < end {
+        let from = blank + 1;
+        return put_bytes_as(codes, written, &text[from..end], true);
+    }
+    written
+}
+
+// {fill k}, {fetch k} or {feed k text}.
+fn put_f(codes: &mut [u16; ROOM], count: usize, text: &[u8], at: usize, end: usize) -> usize
+    requires { ⌜ (at < length (now text)) × (end ≤ length (now text)) ⌝ }
+{
+    if byte_at(text, at + 2) == b'i' {
+        let last = natural_at(text, at + 6);
+        return put_points(codes, count, last.value);
+    }
+    if byte_at(text, at + 3) == b't' {
+        let room = natural_at(text, at + 7);
+        return put_code(codes, count, counted(FETCH, room.value, 64));
+    }
+    put_feed(codes, count, text, at, end)
+}
+
+// What stands between braces: hold, draw, look, rep k text, or one that begins with f.
+fn put_mark(codes: &mut [u16; ROOM], count: usize, text: &[u8], at: usize, end: usize) -> usize
+    requires { ⌜ (at < length (now text)) × (end ≤ length (now text)) ⌝ }
+{
+    let letter = byte_at(text, at + 1);
+    if letter == b'h' {
+        return put_code(codes, count, HOLD);
+    }
+    if letter == b'd' {
+        return put_code(codes, count, DRAW);
+    }
+    if letter == b'l' {
+        return put_code(codes, count, LOOK);
+    }
+    if letter == b'f' {
+        return put_f(codes, count, text, at, end);
+    }
+    put_rep(codes, count, text, at, end)
+}
+
+// What stands in braces.
 fn put_braces(codes: &mut [u16; ROOM], count: usize, text: &[u8], at: usize) -> Written
     requires { ⌜ at < length (now text) ⌝ }
     ensures { λ r. ⌜ at < r .next ⌝ }
 {
     let end = bytes::scan::find(text, at, text.len(), b'}');
-    let letter = byte_at(text, at + 1);
-    if letter == b'h' {
-        let written = put_code(codes, count, HOLD);
-        return Written {
-            count: written,
-            next: end + 1,
-        };
-    }
-    if letter == b'd' {
-        let written = put_code(codes, count, DRAW);
-        return Written {
-            count: written,
-            next: end + 1,
-        };
-    }
-    if letter == b'f' {
-        let last = natural_at(text, at + 6);
-        let written = put_points(codes, count, last.value);
-        return Written {
-            count: written,
-            next: end + 1,
-        };
-    }
-    let written = put_rep(codes, count, text, at, end);
+    let written = put_mark(codes, count, text, at, end);
     Written {
         count: written,
         next: end + 1,
@@ -186,7 +256,7 @@ fn put_piece(codes: &mut [u16; ROOM], count: usize, text: &[u8], at: usize) -> W
     }
 }
 
-// Writes out a sequence, and answers how many codes it has.
+// Writes out a sequence, and answers how many codes it has, one for its end included.
 pub fn write_out(text: &[u8], codes: &mut [u16; ROOM]) -> usize {
     let mut count = 0;
     let mut at = 0;
@@ -195,5 +265,5 @@ pub fn write_out(text: &[u8], codes: &mut [u16; ROOM]) -> usize {
         count = w.count;
         at = w.next;
     }
-    count
+    put_code(codes, count, END)
 }

@@ -1,13 +1,13 @@
 -- What each call leaves, whatever lists it was handed.
 use Prim.Native.Nat.{ℕ, _/_}
 use mathlib.Core.Bool.{cond}
-use mathlib.Core.List.{List}
+use mathlib.Core.List.{List, [], _∷_}
 use lib.Dec.{eqb}
 use lib.IntN.{ℤ}
 use lib.ListN.{length}
 use Rattle.rows.specs.Rows.{over}
 use Rattle.clip.specs.declared.Rect.{Rect}
-use Rattle.hpgl.specs.Machine.{freshState, freshNumber, takeState, takeNumber, drawState, drawAnswer, lookAt}
+use Rattle.hpgl.specs.Machine.{freshState, freshNumber, takeState, takeNumber, drawState, drawAnswer, lookAt, fetchState, fetchNumber, fetchText, fetchOut}
 use Rattle.feeding.specs.Feed.{feedOf, laidNumbers}
 use Rattle.feeding.specs.Plot.{plotFrom, laidMarks}
 use Rattle.answers.specs.Answers.{drawnKind, drawnNumbers, lookNumbers, countsOf, markCountsOf}
@@ -50,6 +50,20 @@ unfoldable pub lookCall : List ℤ → List ℤ → LookLeft
 lookCall zs lent =
     cond (eqb (readyOf zs 5 (length lent)) 0) (record { number = 0; seen = over lent 0 (lookNumbers (lookAt (machineIn zs))) })
     (record { number = readyOf zs 5 (length lent); seen = lent })
+
+pub record FetchLeft : Type 0 where
+  pub number : ℕ
+  pub state : List ℤ
+  pub out : List ℕ
+  pub answer : List ℕ
+
+-- the answer is how many bytes were written
+unfoldable pub fetchCall : List ℤ → List ℕ → List ℕ → FetchLeft
+fetchCall zs out answer =
+    let m = machineIn zs in
+    cond (eqb (readyOf zs 1 (length answer)) 0)
+    (record { number = fetchNumber m (length out); state = listOf (fetchState m (length out)); out = fetchOut m out; answer = over answer 0 (length (fetchText m (length out)) ∷ []) })
+    (record { number = readyOf zs 1 (length answer); state = zs; out = out; answer = answer })
 
 pub record FeedLeft : Type 0 where
   pub number : ℕ

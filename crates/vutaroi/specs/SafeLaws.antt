@@ -79,6 +79,7 @@ stroke-waits m (work.Chords o i zero) r pen k h = absurd (idle≢ h)
 stroke-waits m (work.Chords o i (suc n)) r pen k h = omega arith
 stroke-waits m (work.Edges i zero) r pen k h = absurd (idle≢ h)
 stroke-waits m (work.Edges i (suc n)) r pen k h = omega arith
+stroke-waits m (work.Answer a) r pen k h = absurd (idle≢ h)
 
 -- a draw of any machine that may be used
 pub usable-painted : {m : State} → Usable m → (k : Stroke) → drawAnswer m ≡ drawn.Stroke k → Painted m k

@@ -3,9 +3,10 @@
 // specs/Calls.antt has one definition for what each call leaves; the crate readiness has that each list which the calls leave is a machine. include/vutaroi.h is the same in C's words.
 ghost use mathlib.Core.Path.{_≡_};
 ghost use Rattle.hpgl.specs.Machine.{rect};
-ghost use Rattle.vutaroi.specs.Calls.{freshCall, takeCall, drawCall, lookCall, feedCall, plotCall};
+ghost use Rattle.vutaroi.specs.Calls.{freshCall, takeCall, drawCall, lookCall, fetchCall, feedCall, plotCall};
 use calling::draw_in;
 use calling::feed_in;
+use calling::fetch_in;
 use calling::fresh_in;
 use calling::look_in;
 use calling::plot_in;
@@ -84,6 +85,22 @@ pub extern "C" fn vutaroi_look(state: &[i64], seen: &mut [i64]) -> u8
         let numbers = &state[HEADER..];
         look_in(numbers, seen);
         return 0;
+    }
+    status
+}
+
+#[no_mangle]
+pub extern "C" fn vutaroi_fetch(state: &mut [i64], out: &mut [u8], answer: &mut [u64]) -> u8
+    ensures { λ r. ⌜ r ≡ fetchCall (now (state .entry)) (now (out .entry)) (now (answer .entry)) .number ⌝ }
+    ensures { λ _. ⌜ now (state .exit) ≡ fetchCall (now (state .entry)) (now (out .entry)) (now (answer .entry)) .state ⌝ }
+    ensures { λ _. ⌜ now (out .exit) ≡ fetchCall (now (state .entry)) (now (out .entry)) (now (answer .entry)) .out ⌝ }
+    ensures { λ _. ⌜ now (answer .exit) ≡ fetchCall (now (state .entry)) (now (out .entry)) (now (answer .entry)) .answer ⌝ }
+{
+    let status = ready(state, 1, answer.len());
+    if status == 0 {
+        let number = fetch_in(&mut state[HEADER..], out, answer);
+        seal(state);
+        return number;
     }
     status
 }

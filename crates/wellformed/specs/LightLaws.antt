@@ -14,9 +14,9 @@ use Rattle.rows.specs.declared.Row.{Row}
 use Rattle.rows.specs.Rows.{row, rowAt, smallOf, mostShort}
 use Rattle.seal.specs.Light.{rowCount, headCount, mostAt, LightRow, Light}
 use Rattle.hpgl.specs.ValidFacts.{and-both}
-use Rattle.saved.specs.Places.{limitsPlace, cornersPlace, scalePlace, windowPlace, positionPlace, penPlace, polygonPlace, firstPlace, savedPlace, workPlace, acrossPlace, alongPlace, startPlace, edgesPlace}
+use Rattle.saved.specs.Places.{limitsPlace, cornersPlace, scalePlace, windowPlace, positionPlace, penPlace, polygonPlace, firstPlace, savedPlace, memoryPlace, workPlace, acrossPlace, alongPlace, startPlace, edgesPlace}
 use Rattle.saved.specs.Saved.{stateNumbers, positionOf, circleOf, settingsAt}
-use Rattle.wellformed.specs.Sound.{betweenOf, fourLow, fourHigh, fiveOf, blankSound, last, placeSound, numbersSound, numberSound, readerSound, lastTurn, limitsSound, cornersSound, scaleSound, boxSound, settingsSound, placedOf, positionLow, positionHigh, positionSound, penSound, polygonSound, keptSound, positionsSound, partsSound, carriageSound, knownSound, roundOf, centreLow, centreHigh, startLow, startHigh, startSound, ringSound, chordsSound, blanksSound, lineSound, outlineSound, workSound, inkedSound, edgesSound, soundOf}
+use Rattle.wellformed.specs.Sound.{betweenOf, fourLow, fourHigh, fiveOf, blankSound, last, placeSound, numbersSound, numberSound, readerSound, lastTurn, limitsSound, cornersSound, scaleSound, boxSound, settingsSound, placedOf, positionLow, positionHigh, positionSound, penSound, polygonSound, keptSound, positionsSound, memorySound, partsSound, carriageSound, knownSound, roundOf, centreLow, centreHigh, startLow, startHigh, startSound, ringSound, chordsSound, blanksSound, lineSound, outlineSound, countSound, replySound, workSound, inkedSound, edgesSound, soundOf}
 use Rattle.wellformed.specs.RowTests.{between-true}
 
 -- the largest number of the rows before the edges
@@ -108,6 +108,10 @@ polygon-light : (r : Row) → polygonSound r ≡ true → LightRow most r
 unfolding polygonSound
 polygon-light r e = light most (fiveOf 0 0 0 0 0) r (fiveOf 1 1024 112 1 0) refl refl (and-both (betweenOf (fiveOf 0 0 0 0 0) r (fiveOf 1 1024 112 1 0)) _ e .0)
 
+memory-light : (r : Row) → memorySound r ≡ true → LightRow most r
+unfolding memorySound
+memory-light r e = light most (fiveOf 0 0 0 0 0) r (fiveOf 7 0 0 0 0) refl refl (and-both (betweenOf (fiveOf 0 0 0 0 0) r (fiveOf 7 0 0 0 0)) _ e .0)
+
 blank-light : (r : Row) → blankSound r ≡ true → LightRow most r
 unfolding blankSound
 blank-light r e = light most (fiveOf 0 0 0 0 0) r (fiveOf 0 0 0 0 0) refl refl e
@@ -159,15 +163,33 @@ chords-light r across along start e =
       its-start = light most startLow start startHigh refl refl (and-both p q (g .1) .0);
     }
 
+reply-light : (r across along start : Row) → replySound r across along start ≡ true → Four r across along start
+unfolding replySound countSound
+reply-light r across along start e =
+    let count = betweenOf (fiveOf 1 0 0 0 0) across (fiveOf 4 0 0 0 0) in
+    let two = not (across .a ≡? pos 2) in
+    let b = and-both (betweenOf (fourLow 1000000 4) r (fourHigh 1000000 4)) (count && two && (blankSound along && blankSound start)) e in
+    let c = and-both (count && two) (blankSound along && blankSound start) (b .1) in
+    let d = and-both (blankSound along) (blankSound start) (c .1) in
+    record {
+      its-row = light most (fourLow 1000000 4) r (fourHigh 1000000 4) refl refl (b .0);
+      its-across = light most (fiveOf 1 0 0 0 0) across (fiveOf 4 0 0 0 0) refl refl (and-both count two (c .0) .0);
+      its-along = blank-light along (d .0);
+      its-start = blank-light start (d .1);
+    }
+
 work-light : (r across along start : Row) → workSound r across along start ≡ true → Four r across along start
 unfolding workSound
-work-light r across along start = go (r .e ≡? pos 1) (r .e ≡? pos 2) (r .e ≡? pos 3)
+work-light r across along start = go (r .e ≡? pos 1) (r .e ≡? pos 2) (r .e ≡? pos 3) (r .e ≡? pos 4)
   where
-    go : (s t u : Bool) → cond s (lineSound r across along start) (cond t (chordsSound r across along start) (cond u (outlineSound r across along start) (blankSound r && blanksSound across along start))) ≡ true → Four r across along start
-    go true t u e = line-light r across along start e
-    go false true u e = chords-light r across along start e
-    go false false true e = outline-light r across along start e
-    go false false false e = let b = and-both (blankSound r) (blanksSound across along start) e in blanks-light r across along start (blank-light r (b .0)) (b .1)
+    go : (s t u v : Bool) →
+        cond s (lineSound r across along start) (cond t (chordsSound r across along start) (cond u (outlineSound r across along start) (cond v (replySound r across along start) (blankSound r && blanksSound across along start)))) ≡ true →
+        Four r across along start
+    go true t u v e = line-light r across along start e
+    go false true u v e = chords-light r across along start e
+    go false false true v e = outline-light r across along start e
+    go false false false true e = reply-light r across along start e
+    go false false false false e = let b = and-both (blankSound r) (blanksSound across along start) e in blanks-light r across along start (blank-light r (b .0)) (b .1)
 
 -- ---- the store
 
@@ -196,9 +218,10 @@ record Head (zs : List ℤ) : Type 0 where
   r9 : LightRow most (rowAt zs polygonPlace)
   r10 : LightRow most (rowAt zs firstPlace)
   r11 : LightRow most (rowAt zs savedPlace)
+  r12 : LightRow most (rowAt zs memoryPlace)
   rest : Four (rowAt zs workPlace) (rowAt zs acrossPlace) (rowAt zs alongPlace) (rowAt zs startPlace)
 
-head-row : {zs : List ℤ} → Head zs → (k : ℕ) → k < 16 → LightRow most (rowAt zs (k * 5))
+head-row : {zs : List ℤ} → Head zs → (k : ℕ) → k < headCount → LightRow most (rowAt zs (k * 5))
 head-row h zero l = h .r0
 head-row h (suc zero) l = h .r1
 head-row h (suc (suc zero)) l = h .r2
@@ -211,11 +234,12 @@ head-row h (suc (suc (suc (suc (suc (suc (suc (suc zero)))))))) l = h .r8
 head-row h (suc (suc (suc (suc (suc (suc (suc (suc (suc zero))))))))) l = h .r9
 head-row h (suc (suc (suc (suc (suc (suc (suc (suc (suc (suc zero)))))))))) l = h .r10
 head-row h (suc (suc (suc (suc (suc (suc (suc (suc (suc (suc (suc zero))))))))))) l = h .r11
-head-row h (suc (suc (suc (suc (suc (suc (suc (suc (suc (suc (suc (suc zero)))))))))))) l = h .rest .its-row
-head-row h (suc (suc (suc (suc (suc (suc (suc (suc (suc (suc (suc (suc (suc zero))))))))))))) l = h .rest .its-across
-head-row h (suc (suc (suc (suc (suc (suc (suc (suc (suc (suc (suc (suc (suc (suc zero)))))))))))))) l = h .rest .its-along
-head-row h (suc (suc (suc (suc (suc (suc (suc (suc (suc (suc (suc (suc (suc (suc (suc zero))))))))))))))) l = h .rest .its-start
-head-row h (suc (suc (suc (suc (suc (suc (suc (suc (suc (suc (suc (suc (suc (suc (suc (suc k)))))))))))))))) l = absurd (omega (arith, l))
+head-row h (suc (suc (suc (suc (suc (suc (suc (suc (suc (suc (suc (suc zero)))))))))))) l = h .r12
+head-row h (suc (suc (suc (suc (suc (suc (suc (suc (suc (suc (suc (suc (suc zero))))))))))))) l = h .rest .its-row
+head-row h (suc (suc (suc (suc (suc (suc (suc (suc (suc (suc (suc (suc (suc (suc zero)))))))))))))) l = h .rest .its-across
+head-row h (suc (suc (suc (suc (suc (suc (suc (suc (suc (suc (suc (suc (suc (suc (suc zero))))))))))))))) l = h .rest .its-along
+head-row h (suc (suc (suc (suc (suc (suc (suc (suc (suc (suc (suc (suc (suc (suc (suc (suc zero)))))))))))))))) l = h .rest .its-start
+head-row h (suc (suc (suc (suc (suc (suc (suc (suc (suc (suc (suc (suc (suc (suc (suc (suc (suc k))))))))))))))))) l = absurd (omega (arith, l))
 
 light-list : (zs : List ℤ) → length zs ≡ stateNumbers → Head zs → edgesSound zs edgesPlace 112 ≡ true → Light zs
 unfolding mostAt
@@ -225,15 +249,15 @@ light-list zs e h t = record { long = e; row = λ k l. by k l (ltb k headCount) 
     by k l true g = head-row h k (ltb-true k headCount g)
     by k l false g =
         let c = ltb-false k headCount g in
-        let at : k * 5 ≡ edgesPlace + (k - 16) * 5 = omega (arith, c) in
-        rw at (edge-light zs edgesPlace 112 (k - 16) t (omega (arith, l, c)))
+        let at : k * 5 ≡ edgesPlace + (k - headCount) * 5 = omega (arith, c) in
+        rw at (edge-light zs edgesPlace 112 (k - headCount) t (omega (arith, l, c)))
 
 pub sound-light : (zs : List ℤ) → length zs ≡ stateNumbers → soundOf zs ≡ true → Light zs
 unfolding soundOf readerSound settingsSound carriageSound partsSound positionsSound
 sound-light zs e t =
     let settings = limitsSound (rowAt zs limitsPlace) && (cornersSound (rowAt zs cornersPlace) && (scaleSound (rowAt zs scalePlace) && boxSound (rowAt zs windowPlace))) in
     let positions = positionSound (rowAt zs positionPlace) && (positionSound (rowAt zs firstPlace) && positionSound (rowAt zs savedPlace)) in
-    let parts = positions && (penSound (rowAt zs penPlace) && polygonSound (rowAt zs polygonPlace)) in
+    let parts = positions && (penSound (rowAt zs penPlace) && (polygonSound (rowAt zs polygonPlace) && memorySound (rowAt zs memoryPlace))) in
     let placed = placedOf (settingsAt zs) (positionOf (rowAt zs positionPlace)) && keptSound (settingsAt zs) (rowAt zs polygonPlace) (rowAt zs firstPlace) (rowAt zs savedPlace) in
     let known = knownSound (rowAt zs 0) (rowAt zs polygonPlace) in
     let work = workSound (rowAt zs workPlace) (rowAt zs acrossPlace) (rowAt zs alongPlace) (rowAt zs startPlace) in
@@ -252,10 +276,11 @@ sound-light zs e t =
     let b2 = and-both (cornersSound (rowAt zs cornersPlace)) (scaleSound (rowAt zs scalePlace) && boxSound (rowAt zs windowPlace)) (b1 .1) in
     let b3 = and-both (scaleSound (rowAt zs scalePlace)) (boxSound (rowAt zs windowPlace)) (b2 .1) in
     let c0 = and-both parts placed (t3 .0) in
-    let c1 = and-both positions (penSound (rowAt zs penPlace) && polygonSound (rowAt zs polygonPlace)) (c0 .0) in
+    let c1 = and-both positions (penSound (rowAt zs penPlace) && (polygonSound (rowAt zs polygonPlace) && memorySound (rowAt zs memoryPlace))) (c0 .0) in
     let c2 = and-both (positionSound (rowAt zs positionPlace)) (positionSound (rowAt zs firstPlace) && positionSound (rowAt zs savedPlace)) (c1 .0) in
     let c3 = and-both (positionSound (rowAt zs firstPlace)) (positionSound (rowAt zs savedPlace)) (c2 .1) in
-    let c4 = and-both (penSound (rowAt zs penPlace)) (polygonSound (rowAt zs polygonPlace)) (c1 .1) in
+    let c4 = and-both (penSound (rowAt zs penPlace)) (polygonSound (rowAt zs polygonPlace) && memorySound (rowAt zs memoryPlace)) (c1 .1) in
+    let c5 = and-both (polygonSound (rowAt zs polygonPlace)) (memorySound (rowAt zs memoryPlace)) (c4 .1) in
     light-list zs e
     (record {
       r0 = place-light (rowAt zs 0) (a1 .0);
@@ -267,9 +292,10 @@ sound-light zs e t =
       r6 = box-light most (rowAt zs windowPlace) refl refl (b3 .1);
       r7 = position-light (rowAt zs positionPlace) (c2 .0);
       r8 = pen-light (rowAt zs penPlace) (c4 .0);
-      r9 = polygon-light (rowAt zs polygonPlace) (c4 .1);
+      r9 = polygon-light (rowAt zs polygonPlace) (c5 .0);
       r10 = position-light (rowAt zs firstPlace) (c3 .0);
       r11 = position-light (rowAt zs savedPlace) (c3 .1);
+      r12 = memory-light (rowAt zs memoryPlace) (c5 .1);
       rest = work-light (rowAt zs workPlace) (rowAt zs acrossPlace) (rowAt zs alongPlace) (rowAt zs startPlace) (t5 .0);
     })
     (t6 .1)

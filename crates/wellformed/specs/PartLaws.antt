@@ -5,7 +5,7 @@ use Prim.Native.Nat.{ℕ, zero, suc, _+_, _*_, _/_, _≤_, _<_}
 use native.Mathlib.Nat.{le-div-iff-mul-le}
 use native.Mathlib.Omega.{arith}
 use lib.IntN.{ℤ, pos, negsuc, negℤ, natAbs, _+ℤ_, _*ℤ_}
-use Rattle.exact.specs.Whole.{_<?_, _≤?_, _≡?_, _≤ᶻ_, _<ᶻ_, ord, ≤?-true, <?-true, ≡?-true, ≡?-false, le-≤?, lt-<?, ne-≡?, up-mul, dn-mul, add-parts}
+use Rattle.exact.specs.Whole.{_<?_, _≤?_, _≡?_, _≤ᶻ_, _<ᶻ_, ord, ≤?-true, <?-true, ≡?-true, ≡?-false, le-≤?, lt-≤?, lt-<?, ne-≡?, up-mul, dn-mul, add-parts}
 use Rattle.exact.specs.Fit.{Bd, abs, abs-mul}
 use Rattle.rows.specs.declared.Row.{Row}
 use Rattle.rows.specs.Rows.{row, flagNumber, flagOf, smallOf, mostByte, mostShort, mostWord}
@@ -23,13 +23,16 @@ use Rattle.plane.specs.PositionLaws.{in-range, in-range-of}
 use Rattle.hpgl.specs.declared.Position.{Position}
 use Rattle.hpgl.specs.declared.Polygon.{Polygon}
 use Rattle.hpgl.specs.declared.Settings.{Settings}
+use Rattle.hpgl.specs.declared.Memory.{Memory}
 use Rattle.hpgl.specs.declared.Carriage.{Carriage}
 use Rattle.hpgl.specs.Place.{axisX, axisY, location, inRange}
-use Rattle.hpgl.specs.Valid.{ValidSettings, Placed, KeptPosition, ValidPolygon, ValidCore}
+use Rattle.hpgl.specs.Valid.{ValidSettings, Placed, KeptPosition, ValidPolygon, Recalled, clear, given, ValidCore}
+use Rattle.hpgl.specs.RepliesKept.{recalled-least}
+use Rattle.hpgl.specs.Replies.{remembered}
 use Rattle.hpgl.specs.ValidFacts.{and-both, axis-bounds-x, axis-bounds-y, placed-locatable, placed-kept, located-placed}
 use Rattle.saved.specs.SavedReader.{modeTag, modeLetter, modeOf, placeRow, numbersRow, numbersOf, numberRow, numberOf}
-use Rattle.saved.specs.Saved.{flagIn, smallIn, limitsRow, cornersRow, scaleRow, windowRow, boxOf, fromOf, toOf, rangeX, rangeY, settingsOf, positionRow, penRow, polygonRow, positionOf, penOf, pm0Of, polygonOf, carriageOf}
-use Rattle.wellformed.specs.Sound.{betweenOf, fourLow, fourHigh, fiveOf, last, placeSound, numbersSound, numberSound, lastTurn, limitsSound, cornersSound, scaleSound, boxSound, settingsSound, roomOf, locatableOf, placedOf, positionLow, positionHigh, positionSound, penSound, polygonSound, keptSound, positionsSound, partsSound, carriageSound}
+use Rattle.saved.specs.Saved.{flagIn, smallIn, limitsRow, cornersRow, scaleRow, windowRow, boxOf, fromOf, toOf, rangeX, rangeY, settingsOf, positionRow, penRow, polygonRow, memoryRow, positionOf, penOf, pm0Of, polygonOf, memoryOf, carriageOf}
+use Rattle.wellformed.specs.Sound.{betweenOf, fourLow, fourHigh, fiveOf, last, placeSound, numbersSound, numberSound, lastTurn, limitsSound, cornersSound, scaleSound, boxSound, settingsSound, roomOf, locatableOf, placedOf, positionLow, positionHigh, positionSound, penSound, polygonSound, keptSound, positionsSound, memorySound, partsSound, carriageSound}
 use Rattle.wellformed.specs.RowTests.{both, Between, between-true, between-of, bd-of, bd-low, bd-high, Four, four-true, four-of, five-of, zero-same, flag-same, small-is, small-same, small-most, place-is, place-same, flag-bounds, flag-zero}
 
 -- ---- the reader
@@ -319,8 +322,8 @@ unfolding flagNumber _≡?_
 mode-off true e = refl
 mode-off false e = not-both refl e
 
-pub record CarriageLaw (s : Settings) (place pen polygon first saved : Row) : Type 0 where
-  pub valid : ValidCore (record { settings = s; carriage = carriageOf place pen polygon first saved })
+pub record CarriageLaw (s : Settings) (place pen polygon first saved memory : Row) : Type 0 where
+  pub valid : ValidCore (record { settings = s; carriage = carriageOf place pen polygon first saved memory })
   pub pen-low : pos 0 ≤ᶻ pen .a
   pub pen-high : pen .a ≤ᶻ pos 8
   pub position : positionRow (positionOf place) (flagIn place) ≡ place
@@ -328,6 +331,7 @@ pub record CarriageLaw (s : Settings) (place pen polygon first saved : Row) : Ty
   pub its-polygon : polygonRow (polygonOf polygon first saved) ≡ polygon
   pub its-first : positionRow (positionOf first) (flagIn first) ≡ first
   pub its-saved : positionRow (positionOf saved) (flagIn saved) ≡ saved
+  pub its-memory : memoryRow (memoryOf memory) ≡ memory
 
 position-same : (r : Row) → positionSound r ≡ true → positionRow (positionOf r) (flagIn r) ≡ r
 unfolding positionSound positionRow positionOf flagIn
@@ -357,19 +361,48 @@ polygon-law r t =
           omega (arith, ord, l, add-parts (pos 11) (pos 9 *ℤ r .c), up-mul (pos 9) (r .c), dn-mul (pos 9) (r .c), abs (r .b), abs (r .c), b .low .b, b .low .c, p .1, q .1);
     }
 
-pub carriage-law : {s : Settings} (place pen polygon first saved : Row) → ValidSettings s → carriageSound s place pen polygon first saved ≡ true → CarriageLaw s place pen polygon first saved
+-- the numbers up to 7 without 4 and 5
+recalled-of : (k : ℕ) → k ≤ 7 → ((3 < k) → 6 ≤ k) → Recalled k
+unfolding remembered
+recalled-of zero h f = clear
+recalled-of (suc zero) h f = given refl
+recalled-of (suc (suc zero)) h f = given refl
+recalled-of (suc (suc (suc zero))) h f = given refl
+recalled-of (suc (suc (suc (suc zero)))) h f = absurd (omega (arith, f (omega arith)))
+recalled-of (suc (suc (suc (suc (suc zero))))) h f = absurd (omega (arith, f (omega arith)))
+recalled-of (suc (suc (suc (suc (suc (suc zero)))))) h f = given refl
+recalled-of (suc (suc (suc (suc (suc (suc (suc zero))))))) h f = given refl
+recalled-of (suc (suc (suc (suc (suc (suc (suc (suc k)))))))) h f = absurd (omega (arith, h))
+
+memory-law : (r : Row) → memorySound r ≡ true → Recalled (memoryOf r .refusal) × (memoryRow (memoryOf r) ≡ r)
+unfolding memorySound memoryOf memoryRow
+memory-law r t =
+    let u = and-both (betweenOf (fiveOf 0 0 0 0 0) r (fiveOf 7 0 0 0 0)) _ t in
+    let b = between-true (fiveOf 0 0 0 0 0) r (fiveOf 7 0 0 0 0) (u .0) in
+    let n = small-is (r .a) mostByte (b .low .a) (b .high .a) (omega arith) in (
+      recalled-of (smallOf mostByte (r .a)) (omega (arith, n .1, n .2)) (λ f.
+          let far : pos 3 <ᶻ r .a = omega (arith, ord, n .1, f, abs (r .a), b .low .a) in
+          let l = ≤?-true _ (r .a) (unless (u .1) (lt-≤? far)) in
+          omega (arith, ord, l, n .1, abs (r .a))),
+      (λ i. row (n .0 i) (zero-same (b .low .b) (b .high .b) i) (zero-same (b .low .c) (b .high .c) i) (zero-same (b .low .d) (b .high .d) i) (zero-same (b .low .e) (b .high .e) i)),
+    )
+
+pub carriage-law : {s : Settings} (place pen polygon first saved memory : Row) → ValidSettings s → carriageSound s place pen polygon first saved memory ≡ true →
+    CarriageLaw s place pen polygon first saved memory
 unfolding carriageSound partsSound positionsSound keptSound penSound carriageOf penOf penRow polygonOf polygonRow pm0Of
-carriage-law {s} place pen polygon first saved v t =
+carriage-law {s} place pen polygon first saved memory v t =
     let kept = cond (polygon .a ≡? pos 0) true (placedOf s (positionOf first) && placedOf s (positionOf saved)) in
     let here = placedOf s (positionOf place) in
-    let t0 = and-both (positionSound place && (positionSound first && positionSound saved) && (penSound pen && polygonSound polygon)) (here && kept) t in
-    let f0 = and-both (positionSound place && (positionSound first && positionSound saved)) (penSound pen && polygonSound polygon) (t0 .0) in
+    let t0 = and-both (positionSound place && (positionSound first && positionSound saved) && (penSound pen && (polygonSound polygon && memorySound memory))) (here && kept) t in
+    let f0 = and-both (positionSound place && (positionSound first && positionSound saved)) (penSound pen && (polygonSound polygon && memorySound memory)) (t0 .0) in
     let t1 = and-both (positionSound place) (positionSound first && positionSound saved) (f0 .0) in
     let t2 = and-both (positionSound first) (positionSound saved) (t1 .1) in
-    let t4 = and-both (penSound pen) (polygonSound polygon) (f0 .1) in
+    let t4 = and-both (penSound pen) (polygonSound polygon && memorySound memory) (f0 .1) in
+    let t5 = and-both (polygonSound polygon) (memorySound memory) (t4 .1) in
     let t6 = and-both here kept (t0 .1) in
     let p = between-true (fiveOf 0 0 0 0 0) pen (fiveOf 8 1 1 0 0) (t4 .0) in
-    let g = polygon-law polygon (t4 .1) in
+    let g = polygon-law polygon (t5 .0) in
+    let m = memory-law memory (t5 .1) in
     let b = g .between in
     let two : flagOf (polygon .a) ≡ true → (placedOf s (positionOf first) ≡ true) × (placedOf s (positionOf saved) ≡ true) = λ on. and-both (placedOf s (positionOf first)) (placedOf s (positionOf saved)) (unless (t6 .1) (mode-on (polygon .a) on)) in
     record {
@@ -386,6 +419,7 @@ carriage-law {s} place pen polygon first saved v t =
           first-kept = position-kept first (t2 .0);
           saved-kept = position-kept saved (t2 .1);
         };
+        memory = m .0;
       };
       pen-low = p .low .a;
       pen-high = p .high .a;
@@ -394,6 +428,7 @@ carriage-law {s} place pen polygon first saved v t =
       its-polygon = λ i. row (flag-same (polygon .a) (b .low .a) (b .high .a) i) (small-same (polygon .b) mostShort (b .low .b) (b .high .b) (omega arith) i) (small-same (polygon .c) mostByte (b .low .c) (b .high .c) (omega arith) i) (flag-same (polygon .d) (b .low .d) (b .high .d) i) (zero-same (b .low .e) (b .high .e) i);
       its-first = position-same first (t2 .0);
       its-saved = position-same saved (t2 .1);
+      its-memory = m .1;
     }
 
 back : (p : Position) (t : Bool) → positionOf (positionRow p t) ≡ p
@@ -409,8 +444,25 @@ kept-sound {p} t h =
       high = record { a = bd-high (h .x-base); b = bd-high (h .x-offset); c = bd-high (h .y-base); d = bd-high (h .y-offset); e = flag-bounds t .1 };
     })
 
+six : (k : ℕ) → pos 6 ≤ᶻ pos (suc (suc (suc (suc (suc (suc k))))))
+six k = omega (arith, ord)
+
+recalled-sound : (k : ℕ) → Recalled k → cond (pos k ≤? pos 3) true (pos 6 ≤? pos k) ≡ true
+unfolding remembered _≤?_
+recalled-sound zero h = refl
+recalled-sound (suc zero) h = refl
+recalled-sound (suc (suc zero)) h = refl
+recalled-sound (suc (suc (suc zero))) h = refl
+recalled-sound (suc (suc (suc (suc zero)))) (given e) = not-both e refl
+recalled-sound (suc (suc (suc (suc (suc zero))))) (given e) = not-both e refl
+recalled-sound (suc (suc (suc (suc (suc (suc k)))))) h = unless-of {t = pos (suc (suc (suc (suc (suc (suc k)))))) ≤? pos 3} (λ off. le-≤? (six k))
+
+memory-of : (n : Memory) → Recalled (n .refusal) → memorySound (memoryRow n) ≡ true
+unfolding memorySound memoryRow
+memory-of n h = both (five-of (omega (arith, recalled-least h)) (omega arith) (omega arith) (omega arith) (omega arith)) (recalled-sound (n .refusal) h)
+
 pub carriage-of : (s : Settings) (k : Carriage) → ValidCore (record { settings = s; carriage = k }) →
-    carriageSound s (positionRow (k .position) (k .relative)) (penRow (k .pen)) (polygonRow (k .polygon)) (positionRow (k .polygon .first) (k .polygon .empty)) (positionRow (k .polygon .saved .position) (k .polygon .saved .relative)) ≡ true
+    carriageSound s (positionRow (k .position) (k .relative)) (penRow (k .pen)) (polygonRow (k .polygon)) (positionRow (k .polygon .first) (k .polygon .empty)) (positionRow (k .polygon .saved .position) (k .polygon .saved .relative)) (memoryRow (k .memory)) ≡ true
 unfolding carriageSound partsSound positionsSound keptSound penSound polygonSound penRow polygonRow
 carriage-of s k v =
     both
@@ -422,12 +474,14 @@ carriage-of s k v =
       high = record { a = omega (arith, ord, v .pen); b = flag-bounds (k .pen .down) .1; c = flag-bounds (k .pen .changed) .1; d = omega (arith, ord); e = omega (arith, ord) };
     }))
     (both
+    (both
     (between-of _ (polygonRow g) _
     (record {
       low = record { a = flag-bounds (g .mode) .0; b = omega (arith, ord); c = omega (arith, ord); d = flag-bounds (g .saved .down) .0; e = omega (arith, ord) };
       high = record { a = flag-bounds (g .mode) .1; b = omega (arith, ord, w .bytes); c = omega (arith, ord, w .edges); d = flag-bounds (g .saved .down) .1; e = omega (arith, ord) };
     }))
-    (unless-of (λ off. le-≤? (room (w .room (mode-off (g .mode) off))))))))
+    (unless-of (λ off. le-≤? (room (w .room (mode-off (g .mode) off))))))
+    (memory-of (k .memory) (v .memory)))))
     (both (here (k .position) (k .relative) (v .position)) (unless-of (λ off. both (here (g .first) (g .empty) (w .first (mode-off (g .mode) off))) (here (g .saved .position) (g .saved .relative) (w .saved (mode-off (g .mode) off))))))
   where
     g : Polygon

@@ -17,7 +17,7 @@ use Rattle.hpgl.specs.declared.Position.{Position}
 use Rattle.hpgl.specs.declared.Settings.{Settings}
 use Rattle.hpgl.specs.declared.Circle.{Circle}
 use Rattle.hpgl.specs.Place.{axisX, axisY, location, inRange}
-use Rattle.saved.specs.Places.{limitsPlace, cornersPlace, scalePlace, windowPlace, positionPlace, penPlace, polygonPlace, firstPlace, savedPlace, workPlace, acrossPlace, alongPlace, startPlace, edgesPlace}
+use Rattle.saved.specs.Places.{limitsPlace, cornersPlace, scalePlace, windowPlace, positionPlace, penPlace, polygonPlace, firstPlace, savedPlace, memoryPlace, workPlace, acrossPlace, alongPlace, startPlace, edgesPlace}
 use Rattle.saved.specs.Saved.{positionOf, circleOf, settingsAt}
 
 -- ---- rows between two rows
@@ -128,11 +128,15 @@ keptSound s polygon first saved = cond (polygon .a ≡? pos 0) true (placedOf s 
 unfoldable pub positionsSound : Row → Row → Row → Bool
 positionsSound place first saved = positionSound place && (positionSound first && positionSound saved)
 
-unfoldable pub partsSound : Row → Row → Row → Row → Row → Bool
-partsSound place pen polygon first saved = positionsSound place first saved && (penSound pen && polygonSound polygon)
+-- what OE may tell: 0, 1, 2, 3, 6 or 7
+unfoldable pub memorySound : Row → Bool
+memorySound r = betweenOf (fiveOf 0 0 0 0 0) r (fiveOf 7 0 0 0 0) && cond (r .a ≤? pos 3) true (pos 6 ≤? r .a)
 
-unfoldable pub carriageSound : Settings → Row → Row → Row → Row → Row → Bool
-carriageSound s place pen polygon first saved = partsSound place pen polygon first saved && (placedOf s (positionOf place) && keptSound s polygon first saved)
+unfoldable pub partsSound : Row → Row → Row → Row → Row → Row → Bool
+partsSound place pen polygon first saved memory = positionsSound place first saved && (penSound pen && (polygonSound polygon && memorySound memory))
+
+unfoldable pub carriageSound : Settings → Row → Row → Row → Row → Row → Row → Bool
+carriageSound s place pen polygon first saved memory = partsSound place pen polygon first saved memory && (placedOf s (positionOf place) && keptSound s polygon first saved)
 
 -- ---- what is being read in polygon mode is known there
 
@@ -182,16 +186,24 @@ lineSound r across along start = betweenOf (fourLow 1000000 1) r (fourHigh 10000
 unfoldable pub outlineSound : Row → Row → Row → Row → Bool
 outlineSound r across along start = betweenOf (fiveOf 0 0 0 0 3) r (fiveOf 112 112 0 0 3) && ((r .a +ℤ r .b ≤? pos 112) && blanksSound across along start)
 
+-- how many numbers a reply has: one, three or four
+unfoldable pub countSound : Row → Bool
+countSound r = betweenOf (fiveOf 1 0 0 0 0) r (fiveOf 4 0 0 0 0) && not (r .a ≡? pos 2)
+
+unfoldable pub replySound : Row → Row → Row → Row → Bool
+replySound r across along start = betweenOf (fourLow 1000000 4) r (fourHigh 1000000 4) && (countSound across && (blankSound along && blankSound start))
+
 unfoldable pub workSound : Row → Row → Row → Row → Bool
 workSound r across along start =
     cond (r .e ≡? pos 1) (lineSound r across along start)
     (cond (r .e ≡? pos 2) (chordsSound r across along start)
     (cond (r .e ≡? pos 3) (outlineSound r across along start)
-    (blankSound r && blanksSound across along start)))
+    (cond (r .e ≡? pos 4) (replySound r across along start)
+    (blankSound r && blanksSound across along start))))
 
--- where a segment waits, the pen is not 0
+-- where a segment waits, the pen is not 0; a reply is no segment
 unfoldable pub inkedSound : Row → Row → Bool
-inkedSound pen work = cond (pos 1 ≤? pen .a) true (cond (work .e ≡? pos 0) true (cond (work .e ≡? pos 1) false (work .b ≡? pos 0)))
+inkedSound pen work = cond (pos 1 ≤? pen .a) true (cond (work .e ≡? pos 0) true (cond (work .e ≡? pos 4) true (cond (work .e ≡? pos 1) false (work .b ≡? pos 0))))
 
 -- ---- the store
 
@@ -205,7 +217,7 @@ unfoldable pub soundOf : List ℤ → Bool
 soundOf zs =
     readerSound (rowAt zs 0) (rowAt zs 5) (rowAt zs 10)
     && (settingsSound (rowAt zs limitsPlace) (rowAt zs cornersPlace) (rowAt zs scalePlace) (rowAt zs windowPlace)
-    && (carriageSound (settingsAt zs) (rowAt zs positionPlace) (rowAt zs penPlace) (rowAt zs polygonPlace) (rowAt zs firstPlace) (rowAt zs savedPlace)
+    && (carriageSound (settingsAt zs) (rowAt zs positionPlace) (rowAt zs penPlace) (rowAt zs polygonPlace) (rowAt zs firstPlace) (rowAt zs savedPlace) (rowAt zs memoryPlace)
     && (knownSound (rowAt zs 0) (rowAt zs polygonPlace)
     && (workSound (rowAt zs workPlace) (rowAt zs acrossPlace) (rowAt zs alongPlace) (rowAt zs startPlace)
     && (inkedSound (rowAt zs penPlace) (rowAt zs workPlace)

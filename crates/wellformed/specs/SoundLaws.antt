@@ -17,9 +17,9 @@ use Rattle.hpgl.specs.Valid.{Knows, Valid, Usable}
 use Rattle.hpgl.specs.Made.{Made}
 use Rattle.hpgl.specs.ValidFacts.{and-both}
 use Rattle.hpgl.specs.ValidKept.{made-usable}
-use Rattle.saved.specs.Places.{limitsPlace, cornersPlace, scalePlace, windowPlace, positionPlace, penPlace, polygonPlace, firstPlace, savedPlace, workPlace, acrossPlace, alongPlace, startPlace, edgesPlace}
+use Rattle.saved.specs.Places.{limitsPlace, cornersPlace, scalePlace, windowPlace, positionPlace, penPlace, polygonPlace, firstPlace, savedPlace, memoryPlace, workPlace, acrossPlace, alongPlace, startPlace, edgesPlace}
 use Rattle.saved.specs.SavedReader.{numbersRow, numberRow, readerOf, readerAt}
-use Rattle.saved.specs.Saved.{stateNumbers, settingsOf, settingsAt, positionRow, penRow, polygonRow, penOf, pm0Of, polygonOf, carriageOf, carriageAt, workAt, storeAt, savedOf, loadedOf}
+use Rattle.saved.specs.Saved.{stateNumbers, settingsOf, settingsAt, positionRow, penRow, polygonRow, memoryRow, penOf, pm0Of, polygonOf, carriageOf, carriageAt, workAt, storeAt, savedOf, loadedOf}
 use Rattle.saved.specs.SavedLaws.{saved-back}
 use Rattle.wellformed.specs.Sound.{readerSound, placeSound, numbersSound, numberSound, settingsSound, carriageSound, knownSound, workSound, inkedSound, edgesSound, soundOf}
 use Rattle.wellformed.specs.RowTests.{both}
@@ -53,8 +53,8 @@ pub record Passed (zs : List ℤ) : Type 0 where
 by-rows : (zs : List ℤ) → length zs ≡ stateNumbers →
     zs ≡ lay (rowAt zs 0) (lay (rowAt zs 5) (lay (rowAt zs 10)
     (lay (rowAt zs limitsPlace) (lay (rowAt zs cornersPlace) (lay (rowAt zs scalePlace) (lay (rowAt zs windowPlace)
-    (lay (rowAt zs positionPlace) (lay (rowAt zs penPlace) (lay (rowAt zs polygonPlace) (lay (rowAt zs firstPlace) (lay (rowAt zs savedPlace)
-    (lay (rowAt zs workPlace) (lay (rowAt zs acrossPlace) (lay (rowAt zs alongPlace) (lay (rowAt zs startPlace) (drop edgesPlace zs))))))))))))))))
+    (lay (rowAt zs positionPlace) (lay (rowAt zs penPlace) (lay (rowAt zs polygonPlace) (lay (rowAt zs firstPlace) (lay (rowAt zs savedPlace) (lay (rowAt zs memoryPlace)
+    (lay (rowAt zs workPlace) (lay (rowAt zs acrossPlace) (lay (rowAt zs alongPlace) (lay (rowAt zs startPlace) (drop edgesPlace zs)))))))))))))))))
 by-rows zs e =
     row-of 0 (omega (arith, e)) ∙ ap (lay (rowAt zs 0))
     (row-of 5 (omega (arith, e)) ∙ ap (lay (rowAt zs 5))
@@ -68,9 +68,10 @@ by-rows zs e =
     (row-of polygonPlace (omega (arith, e)) ∙ ap (lay (rowAt zs polygonPlace))
     (row-of firstPlace (omega (arith, e)) ∙ ap (lay (rowAt zs firstPlace))
     (row-of savedPlace (omega (arith, e)) ∙ ap (lay (rowAt zs savedPlace))
+    (row-of memoryPlace (omega (arith, e)) ∙ ap (lay (rowAt zs memoryPlace))
     (row-of workPlace (omega (arith, e)) ∙ ap (lay (rowAt zs workPlace))
     (row-of acrossPlace (omega (arith, e)) ∙ ap (lay (rowAt zs acrossPlace))
-    (row-of alongPlace (omega (arith, e)) ∙ ap (lay (rowAt zs alongPlace)) (row-of startPlace (omega (arith, e)))))))))))))))))
+    (row-of alongPlace (omega (arith, e)) ∙ ap (lay (rowAt zs alongPlace)) (row-of startPlace (omega (arith, e))))))))))))))))))
   where
     row-of : (i : ℕ) → i + 5 ≤ length zs → drop i zs ≡ lay (rowAt zs i) (drop (i + 5) zs)
     row-of i h = row-drop zs i h
@@ -80,7 +81,7 @@ unfolding soundOf loadedOf savedOf readerAt readerOf settingsAt settingsOf carri
 sound-passed zs e t =
     let reader = readerSound (rowAt zs 0) (rowAt zs 5) (rowAt zs 10) in
     let settings = settingsSound (rowAt zs limitsPlace) (rowAt zs cornersPlace) (rowAt zs scalePlace) (rowAt zs windowPlace) in
-    let carriage = carriageSound (settingsOf (rowAt zs limitsPlace) (rowAt zs cornersPlace) (rowAt zs scalePlace) (rowAt zs windowPlace)) (rowAt zs positionPlace) (rowAt zs penPlace) (rowAt zs polygonPlace) (rowAt zs firstPlace) (rowAt zs savedPlace) in
+    let carriage = carriageSound (settingsOf (rowAt zs limitsPlace) (rowAt zs cornersPlace) (rowAt zs scalePlace) (rowAt zs windowPlace)) (rowAt zs positionPlace) (rowAt zs penPlace) (rowAt zs polygonPlace) (rowAt zs firstPlace) (rowAt zs savedPlace) (rowAt zs memoryPlace) in
     let known = knownSound (rowAt zs 0) (rowAt zs polygonPlace) in
     let work = workSound (rowAt zs workPlace) (rowAt zs acrossPlace) (rowAt zs alongPlace) (rowAt zs startPlace) in
     let inked = inkedSound (rowAt zs penPlace) (rowAt zs workPlace) in
@@ -93,7 +94,7 @@ sound-passed zs e t =
     let t6 = and-both inked edges (t5 .1) in
     let r = reader-law (rowAt zs 0) (rowAt zs 5) (rowAt zs 10) (t1 .0) in
     let s = part.settings-law (rowAt zs limitsPlace) (rowAt zs cornersPlace) (rowAt zs scalePlace) (rowAt zs windowPlace) (t2 .0) in
-    let c = part.carriage-law (rowAt zs positionPlace) (rowAt zs penPlace) (rowAt zs polygonPlace) (rowAt zs firstPlace) (rowAt zs savedPlace) (s .valid) (t3 .0) in
+    let c = part.carriage-law (rowAt zs positionPlace) (rowAt zs penPlace) (rowAt zs polygonPlace) (rowAt zs firstPlace) (rowAt zs savedPlace) (rowAt zs memoryPlace) (s .valid) (t3 .0) in
     let w = last.work-law (rowAt zs workPlace) (rowAt zs acrossPlace) (rowAt zs alongPlace) (rowAt zs startPlace) (t5 .0) in
     let d = last.edges-law zs edgesPlace 112 (t6 .1) (omega (arith, e)) in
     record {
@@ -104,8 +105,8 @@ sound-passed zs e t =
       same =
           (λ j. lay (r .its-place .same j) (lay (r .its-numbers j) (lay (r .its-number j)
           (lay (s .limits j) (lay (s .corners j) (lay (s .scale j) (lay (s .window j)
-          (lay (c .position j) (lay (c .its-pen j) (lay (c .its-polygon j) (lay (c .its-first j) (lay (c .its-saved j)
-          (lay (w .its-row j) (lay (w .its-across j) (lay (w .its-along j) (lay (w .its-start j) (d .1 j)))))))))))))))))
+          (lay (c .position j) (lay (c .its-pen j) (lay (c .its-polygon j) (lay (c .its-first j) (lay (c .its-saved j) (lay (c .its-memory j)
+          (lay (w .its-row j) (lay (w .its-across j) (lay (w .its-along j) (lay (w .its-start j) (d .1 j))))))))))))))))))
           ∙ sym (by-rows zs e);
     }
 
@@ -121,7 +122,7 @@ usable-sound {m} u =
     let v = u .valid in
     both (both (part.place-of (m .reader .mode) (m .reader .op) (v .reader .mode) (v .reader .op)) (both (part.numbers-of (m .reader .numbers) (v .reader .numbers)) (part.number-of (m .reader .number) (v .reader .number))))
     (both (part.settings-of (m .core .settings) (v .core .settings))
-    (both (ap (λ (s : Settings). carriageSound s (positionRow (k .position) (k .relative)) (penRow (k .pen)) (polygonRow (k .polygon)) (positionRow (k .polygon .first) (k .polygon .empty)) (positionRow (k .polygon .saved .position) (k .polygon .saved .relative))) (settings-back m v) ∙ part.carriage-of (m .core .settings) k (v .core))
+    (both (ap (λ (s : Settings). carriageSound s (positionRow (k .position) (k .relative)) (penRow (k .pen)) (polygonRow (k .polygon)) (positionRow (k .polygon .first) (k .polygon .empty)) (positionRow (k .polygon .saved .position) (k .polygon .saved .relative)) (memoryRow (k .memory))) (settings-back m v) ∙ part.carriage-of (m .core .settings) k (v .core))
     (both (last.known-of (m .reader .mode) (m .reader .op) (m .core .carriage .polygon) (v .reader .op) (v .known))
     (both (last.work-of (m .work) (v .work))
     (both (last.inked-of (m .core .carriage .pen) (m .work) (u .inked .pen)) (ap (edgesSound (savedOf m) edgesPlace) (sym (v .length)) ∙ last.edges-of (m .store .edges) (savedOf m) edgesPlace refl (v .edges)))))))

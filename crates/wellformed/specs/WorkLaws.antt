@@ -30,14 +30,15 @@ use Rattle.hpgl.specs.declared.Edge.{Edge}
 use Rattle.hpgl.specs.declared.Circle.{Circle}
 use Rattle.hpgl.specs.declared.Polygon.{Polygon}
 use Rattle.hpgl.specs.declared.Pen.{Pen}
+use Rattle.hpgl.specs.declared.Reply.{Reply}
 use Rattle.hpgl.specs.declared.Work.{Work}
-use Rattle.hpgl.specs.declared.Work.the-variants.{Nothing, Line, Chords, Edges}
+use Rattle.hpgl.specs.declared.Work.the-variants.{Nothing, Line, Chords, Edges, Answer}
 use Rattle.hpgl.specs.Machine.{waiting, vertexIn}
-use Rattle.hpgl.specs.Valid.{mostChords, SmallEdge, ValidCircle, ValidWork, Every, none, more}
+use Rattle.hpgl.specs.Valid.{mostChords, SmallEdge, ValidCircle, ReplyCount, one, three, four, ValidReply, ValidWork, Every, none, more}
 use Rattle.hpgl.specs.ValidFacts.{and-both, later-vertex}
 use Rattle.saved.specs.SavedReader.{modeTag, modeOf, placeRow}
-use Rattle.saved.specs.Saved.{flagIn, smallIn, fromOf, toOf, penRow, polygonRow, blankRow, lineRow, chordsRow, edgesRow, acrossRow, alongRow, startRow, workRow, workAcross, workAlong, workStart, centreOf, wayOf, angleIn, circleOf, workOf, edgeRow, edgesNumbers, edgeOf, edgesFrom}
-use Rattle.wellformed.specs.Sound.{betweenOf, fourLow, fourHigh, fiveOf, centreLow, centreHigh, startLow, startHigh, blankSound, boxSound, knownSound, roundOf, startSound, ringSound, chordsSound, blanksSound, lineSound, outlineSound, workSound, inkedSound, edgesSound}
+use Rattle.saved.specs.Saved.{flagIn, smallIn, fromOf, toOf, penRow, polygonRow, blankRow, lineRow, chordsRow, edgesRow, replyRow, countRow, acrossRow, alongRow, startRow, workRow, workAcross, workAlong, workStart, centreOf, wayOf, angleIn, circleOf, replyOf, workOf, edgeRow, edgesNumbers, edgeOf, edgesFrom}
+use Rattle.wellformed.specs.Sound.{betweenOf, fourLow, fourHigh, fiveOf, centreLow, centreHigh, startLow, startHigh, blankSound, boxSound, knownSound, roundOf, startSound, ringSound, chordsSound, blanksSound, lineSound, outlineSound, countSound, replySound, workSound, inkedSound, edgesSound}
 use Rattle.wellformed.specs.RowTests.{both, between-true, between-of, bd-of, bd-low, bd-high, Four, four-true, four-of, five-of, zero-same, flag-same, small-is, small-same, small-most, flag-bounds, blank-same}
 use Rattle.wellformed.specs.PartLaws.{PlaceLaw, box-law, box-of, unless, unless-of, mode-on, mode-off, not-both}
 
@@ -167,6 +168,27 @@ round-of o (suc i) n v =
     each-fits (o .x) (o .y) (o .radius) (o .sweep) (o .angle) (suc i) (n + 1)
     (λ j l u. subst SmallPoint (later-vertex o j (omega (arith, l))) (v .fits j l (omega (arith, u))))
 
+-- how many numbers a reply has
+count-law : (k : ℕ) → 1 ≤ k → k ≤ 4 → (k ≡ 2 → ⊥) → ReplyCount k
+count-law zero l u h = absurd (omega (arith, l))
+count-law (suc zero) l u h = one
+count-law (suc (suc zero)) l u h = absurd (h refl)
+count-law (suc (suc (suc zero))) l u h = three
+count-law (suc (suc (suc (suc zero)))) l u h = four
+count-law (suc (suc (suc (suc (suc k))))) l u h = absurd (omega (arith, u))
+
+count-true : (r : Row) → countSound r ≡ true → ReplyCount (smallOf mostByte (r .a)) × (row (pos (smallOf mostByte (r .a))) (pos 0) (pos 0) (pos 0) (pos 0) ≡ r)
+unfolding countSound
+count-true r t =
+    let u = and-both (betweenOf (fiveOf 1 0 0 0 0) r (fiveOf 4 0 0 0 0)) (not (r .a ≡? pos 2)) t in
+    let b = between-true (fiveOf 1 0 0 0 0) r (fiveOf 4 0 0 0 0) (u .0) in
+    let low : pos 0 ≤ᶻ r .a = omega (arith, ord, b .low .a) in
+    let n = small-is (r .a) mostByte low (b .high .a) (omega arith) in
+    let two = ≡?-false (r .a) (pos 2) (not-true (r .a ≡? pos 2) (u .1)) in (
+      count-law (smallOf mostByte (r .a)) (omega (arith, ord, n .1, abs (r .a), b .low .a)) (omega (arith, n .1, n .2)) (λ e. two (sym (n .0) ∙ ap pos e)),
+      (λ i. row (n .0 i) (zero-same (b .low .b) (b .high .b) i) (zero-same (b .low .c) (b .high .c) i) (zero-same (b .low .d) (b .high .d) i) (zero-same (b .low .e) (b .high .e) i)),
+    )
+
 -- what a row with this tag is read as
 module _ (r across along start : Row) where
   read-as : {w : Work} → workOf r across along start ≡ w → WorkIs w r across along start → WorkIs (workOf r across along start) r across along start
@@ -258,6 +280,24 @@ module _ (r across along start : Row) where
         its-start = λ i. row (start .a) (start .b) (start .c) (z .2 i) (z .3 i);
       })
 
+  reply-law : replySound r across along start ≡ true → WorkIs (workOf r across along start) r across along start
+  unfolding replySound workOf workRow workAcross workAlong workStart replyRow countRow replyOf blankRow
+  reply-law t =
+      let u = and-both (betweenOf (fourLow 1000000 4) r (fourHigh 1000000 4)) (countSound across && (blankSound along && blankSound start)) t in
+      let v = and-both (countSound across) (blankSound along && blankSound start) (u .1) in
+      let b = and-both (blankSound along) (blankSound start) (v .1) in
+      let f = four-true 1000000 4 4 r (u .0) in
+      let c = count-true across (v .0) in
+      let k = tag-is r 4 (omega arith) (f .low) (f .high) in
+      read-as {w = Answer (replyOf r across)} (rw (k .0) refl)
+      (record {
+        valid = record { count = c .0; first = f .a; second = f .b; third = f .c; fourth = f .d };
+        its-row = λ i. row (r .a) (r .b) (r .c) (r .d) (k .1 i);
+        its-across = c .1;
+        its-along = blank-same along (b .0);
+        its-start = blank-same start (b .1);
+      })
+
   nothing-law : blankSound r && blanksSound across along start ≡ true → WorkIs (workOf r across along start) r across along start
   unfolding workOf workRow workAcross workAlong workStart blankRow
   nothing-law t =
@@ -272,14 +312,16 @@ module _ (r across along start : Row) where
 
   pub work-law : workSound r across along start ≡ true → WorkIs (workOf r across along start) r across along start
   unfolding workSound
-  work-law = go (r .e ≡? pos 1) (r .e ≡? pos 2) (r .e ≡? pos 3)
+  work-law = go (r .e ≡? pos 1) (r .e ≡? pos 2) (r .e ≡? pos 3) (r .e ≡? pos 4)
     where
-      go : (s t u : Bool) → cond s (lineSound r across along start) (cond t (chordsSound r across along start) (cond u (outlineSound r across along start) (blankSound r && blanksSound across along start))) ≡ true →
+      go : (s t u v : Bool) →
+          cond s (lineSound r across along start) (cond t (chordsSound r across along start) (cond u (outlineSound r across along start) (cond v (replySound r across along start) (blankSound r && blanksSound across along start)))) ≡ true →
           WorkIs (workOf r across along start) r across along start
-      go true t u h = line-law h
-      go false true u h = chords-law h
-      go false false true h = outline-law h
-      go false false false h = nothing-law h
+      go true t u v h = line-law h
+      go false true u v h = chords-law h
+      go false false true v h = outline-law h
+      go false false false true h = reply-law h
+      go false false false false h = nothing-law h
 
 -- ---- what is written passes
 
@@ -333,9 +375,13 @@ tag-three : (r across along start : Row) → r .e ≡ pos 3 → outlineSound r a
 unfolding workSound
 tag-three r across along start e h = rw (not-tag (r .e) 3 1 e (omega arith), not-tag (r .e) 3 2 e (omega arith), eq-≡? e) h
 
+tag-four : (r across along start : Row) → r .e ≡ pos 4 → replySound r across along start ≡ true → workSound r across along start ≡ true
+unfolding workSound
+tag-four r across along start e h = rw (not-tag (r .e) 4 1 e (omega arith), not-tag (r .e) 4 2 e (omega arith), not-tag (r .e) 4 3 e (omega arith), eq-≡? e) h
+
 tag-none : (r across along start : Row) → r .e ≡ pos 0 → blankSound r && blanksSound across along start ≡ true → workSound r across along start ≡ true
 unfolding workSound
-tag-none r across along start e h = rw (not-tag (r .e) 0 1 e (omega arith), not-tag (r .e) 0 2 e (omega arith), not-tag (r .e) 0 3 e (omega arith)) h
+tag-none r across along start e h = rw (not-tag (r .e) 0 1 e (omega arith), not-tag (r .e) 0 2 e (omega arith), not-tag (r .e) 0 3 e (omega arith), not-tag (r .e) 0 4 e (omega arith)) h
 
 line-of : (p q : Point) → SmallPoint p → SmallPoint q → lineSound (lineRow p q) blankRow blankRow blankRow ≡ true
 unfolding lineSound lineRow
@@ -353,12 +399,25 @@ outline-of : (i n : ℕ) → i + n ≤ 112 → outlineSound (edgesRow i n) blank
 unfolding outlineSound edgesRow
 outline-of i n s = both (five-of (omega (arith, s)) (omega (arith, s)) (omega arith) (omega arith) (omega arith)) (both (le-≤? (sum-of i n s)) blanks-of)
 
+count-of : {k : ℕ} → ReplyCount k → countSound (row (pos k) (pos 0) (pos 0) (pos 0) (pos 0)) ≡ true
+unfolding countSound _≡?_
+count-of one = both (five-of (omega arith) (omega arith) (omega arith) (omega arith) (omega arith)) refl
+count-of three = both (five-of (omega arith) (omega arith) (omega arith) (omega arith) (omega arith)) refl
+count-of four = both (five-of (omega arith) (omega arith) (omega arith) (omega arith) (omega arith)) refl
+
+reply-of : (r : Reply) → ValidReply r → replySound (replyRow r) (countRow r) blankRow blankRow ≡ true
+unfolding replySound replyRow countRow
+reply-of r v =
+    both (four-of 1000000 4 4 (replyRow r) (record { a = v .first; b = v .second; c = v .third; d = v .fourth; low = omega (arith, ord); high = omega (arith, ord) }))
+    (both (count-of (v .count)) (both blank-of blank-of))
+
 pub work-of : (w : Work) → ValidWork w → workSound (workRow w) (workAcross w) (workAlong w) (workStart w) ≡ true
-unfolding workRow workAcross workAlong workStart blankRow lineRow chordsRow edgesRow
+unfolding workRow workAcross workAlong workStart blankRow lineRow chordsRow edgesRow replyRow
 work-of Nothing v = tag-none blankRow blankRow blankRow blankRow refl (both blank-of blanks-of)
 work-of (Line p q) v = tag-one (lineRow p q) blankRow blankRow blankRow refl (line-of p q (v .0) (v .1))
 work-of (Chords o i n) v = tag-two (chordsRow o i n) (acrossRow o) (alongRow o) (startRow o) refl (chords-of o i n (v .0) (v .1))
 work-of (Edges i n) v = tag-three (edgesRow i n) blankRow blankRow blankRow refl (outline-of i n v)
+work-of (Answer r) v = tag-four (replyRow r) (countRow r) blankRow blankRow refl (reply-of r v)
 
 -- ---- the pen
 
@@ -386,39 +445,46 @@ module _ (r across along start : Row) where
   unfolding workOf waiting smallIn
   waiting-none e = rw (none-read mostByte (r .e) e) refl
 
+  waiting-reply : r .e ≡ pos 4 → waiting (workOf r across along start) ≡ 0
+  unfolding workOf waiting
+  waiting-reply e = rw (tag-is r 4 (omega arith) (omega (arith, ord, e)) (omega (arith, ord, e)) .0) refl
+
   waiting-done : (smallIn r ≡ 1 → ⊥) → r .b ≡ pos 0 → waiting (workOf r across along start) ≡ 0
   unfolding workOf waiting
-  waiting-done h e = go (eqb (smallIn r) 1) refl (eqb (smallIn r) 2) (eqb (smallIn r) 3)
+  waiting-done h e = go (eqb (smallIn r) 1) refl (eqb (smallIn r) 2) (eqb (smallIn r) 3) (eqb (smallIn r) 4)
     where
-      go : (s : Bool) → eqb (smallIn r) 1 ≡ s → (t u : Bool) →
-          waiting (cond s (Line (fromOf r) (toOf r)) (cond t (Chords (circleOf r across along start) (smallOf mostShort (r .a)) (smallOf mostShort (r .b))) (cond u (Edges (smallOf mostByte (r .a)) (smallOf mostByte (r .b))) Nothing))) ≡ 0
-      go true f t u = absurd (h (eqb-true (smallIn r) 1 f))
-      go false f true u = none-read mostShort (r .b) e
-      go false f false true = none-read mostByte (r .b) e
-      go false f false false = refl
+      go : (s : Bool) → eqb (smallIn r) 1 ≡ s → (t u v : Bool) →
+          waiting (cond s (Line (fromOf r) (toOf r)) (cond t (Chords (circleOf r across along start) (smallOf mostShort (r .a)) (smallOf mostShort (r .b))) (cond u (Edges (smallOf mostByte (r .a)) (smallOf mostByte (r .b))) (cond v (Answer (replyOf r across)) Nothing)))) ≡ 0
+      go true f t u v = absurd (h (eqb-true (smallIn r) 1 f))
+      go false f true u v = none-read mostShort (r .b) e
+      go false f false true v = none-read mostByte (r .b) e
+      go false f false false true = refl
+      go false f false false false = refl
 
   pub inked-law : (pen : Row) → inkedSound pen r ≡ true → pos 0 ≤ᶻ pen .a → pen .a ≤ᶻ pos 8 → 0 < waiting (workOf r across along start) → smallOf mostByte (pen .a) ≡ 0 → ⊥
   unfolding inkedSound
-  inked-law pen t l u h p = by (r .e ≡? pos 0) refl (r .e ≡? pos 1) refl (unless t (lt-≤? zero-pen))
+  inked-law pen t l u h p = by (r .e ≡? pos 0) refl (r .e ≡? pos 4) refl (r .e ≡? pos 1) refl (unless t (lt-≤? zero-pen))
     where
       zero-pen : pen .a <ᶻ pos 1
       zero-pen = let s = small-is (pen .a) mostByte l u (omega arith) in omega (arith, ord, abs (pen .a), s .1, p, l)
 
-      by : (s : Bool) → (r .e ≡? pos 0) ≡ s → (q : Bool) → (r .e ≡? pos 1) ≡ q → cond s true (cond q false (r .b ≡? pos 0)) ≡ true → ⊥
-      by true e q g f = omega (arith, h, waiting-none (≡?-true (r .e) (pos 0) e))
-      by false e true g f = not-both f refl
-      by false e false g f =
+      by : (s : Bool) → (r .e ≡? pos 0) ≡ s → (a : Bool) → (r .e ≡? pos 4) ≡ a → (q : Bool) → (r .e ≡? pos 1) ≡ q → cond s true (cond a true (cond q false (r .b ≡? pos 0))) ≡ true → ⊥
+      by true e a i q g f = omega (arith, h, waiting-none (≡?-true (r .e) (pos 0) e))
+      by false e true i q g f = omega (arith, h, waiting-reply (≡?-true (r .e) (pos 4) i))
+      by false e false i true g f = not-both f refl
+      by false e false i false g f =
           let k = waiting-done (λ (x : smallIn r ≡ 1). ≡?-false (r .e) (pos 1) g (read-tag r 0 x)) (≡?-true (r .b) (pos 0) f) in
           omega (arith, h, k)
 
-idle-of : (w : Work) → (0 < waiting w → ⊥) → cond (workRow w .e ≡? pos 0) true (cond (workRow w .e ≡? pos 1) false (workRow w .b ≡? pos 0)) ≡ true
-unfolding workRow blankRow lineRow chordsRow edgesRow waiting _≡?_
+idle-of : (w : Work) → (0 < waiting w → ⊥) → cond (workRow w .e ≡? pos 0) true (cond (workRow w .e ≡? pos 4) true (cond (workRow w .e ≡? pos 1) false (workRow w .b ≡? pos 0))) ≡ true
+unfolding workRow blankRow lineRow chordsRow edgesRow replyRow waiting _≡?_
 idle-of Nothing h = refl
 idle-of (Line p q) h = absurd (h (omega arith))
 idle-of (Chords o i zero) h = refl
 idle-of (Chords o i (suc n)) h = absurd (h (omega arith))
 idle-of (Edges i zero) h = refl
 idle-of (Edges i (suc n)) h = absurd (h (omega arith))
+idle-of (Answer r) h = refl
 
 pub inked-of : (pen : Pen) (w : Work) → (0 < waiting w → pen .number ≡ 0 → ⊥) → inkedSound (penRow pen) (workRow w) ≡ true
 unfolding inkedSound penRow
@@ -427,7 +493,7 @@ inked-of pen w h = go (pen .number) h
     one-more : (n : ℕ) → pos 1 ≤ᶻ pos (suc n)
     one-more n = omega (arith, ord)
 
-    go : (n : ℕ) → (0 < waiting w → n ≡ 0 → ⊥) → cond (pos 1 ≤? pos n) true (cond (workRow w .e ≡? pos 0) true (cond (workRow w .e ≡? pos 1) false (workRow w .b ≡? pos 0))) ≡ true
+    go : (n : ℕ) → (0 < waiting w → n ≡ 0 → ⊥) → cond (pos 1 ≤? pos n) true (cond (workRow w .e ≡? pos 0) true (cond (workRow w .e ≡? pos 4) true (cond (workRow w .e ≡? pos 1) false (workRow w .b ≡? pos 0)))) ≡ true
     go zero h = unless-of {t = pos 1 ≤? pos 0} (λ e. idle-of w (λ k. h k refl))
     go (suc n) h = rw (le-≤? (one-more n)) refl
 

@@ -1,4 +1,4 @@
--- The kinds of instructions, by their names: the sixteen of document 01 and the two of document 02 (c, d, m, p), and those of the manual and of HP-GL/2 that the machine does not have.
+-- The kinds of instructions, by their names: the sixteen of document 01 and the seven of document 02 (c, d, m, p, q), and those of the manual and of HP-GL/2 that the machine does not have.
 use mathlib.Core.Bool.{Bool, true, false, cond}
 use mathlib.Core.List.{List, [], _∷_, _++_}
 use Prim.Native.Char.{code}
@@ -17,13 +17,14 @@ kindIn (p ∷ q ∷ []) a b = code "x"
 kindIn (p ∷ q ∷ kind ∷ []) a b = code "x"
 kindIn (p ∷ q ∷ kind ∷ blank ∷ rest) a b = cond (sameName p q a b) kind (kindIn rest a b)
 
--- its own: settings, what is painted by itself, moves (an arc among them, "each chord .. being a move": the pen goes on from its end), polygon mode
+-- its own: settings, what is painted by itself, moves (an arc among them, "each chord .. being a move": the pen goes on from its end), polygon mode, replies
 abbrev pub ownKinds : List ℕ
 ownKinds =
     bytes "DFc INc IPc IWc ROc SCc SPc "
     ++ bytes "CId EAd EPd ERd "
     ++ bytes "AAm ARm PAm PDm PRm PUm "
     ++ bytes "PMp "
+    ++ bytes "OAq OEq OHq OPq OWq "
 
 -- other arcs and curves, bytes of no name, coded lines, fills and wedges, text, questions, settings of text, line types, speed and force, width of a pen;
 -- and n: the page and the picture as a whole, which no line depends on (a file's beginning BP; the next page PG, NP; a size or a cut of paper PS, EC;
@@ -35,7 +36,7 @@ foreignKinds =
     ++ bytes "PEe "
     ++ bytes "ACf EWf FPf FTf RAf RFf RRf UFf WGf "
     ++ bytes "BLl CPl LBl PBl UCl "
-    ++ bytes "DCo DPo IMo OAo OCo ODo OEo OFo OGo OHo OIo OLo OOo OPo OSo OTo OWo "
+    ++ bytes "DCo DPo IMo OCo ODo OFo OGo OIo OLo OOo OSo OTo "
     ++ bytes "ADs CAs CSs DIs DRs DTs DVs ESs LOs SAs SDs SIs SLs SRs SSs TDs "
     ++ bytes "LTt ULt "
     ++ bytes "BPn ECn LAn NPn PCn PGn PSn TRn "
@@ -47,7 +48,7 @@ kindOf a b = kindIn (ownKinds ++ foreignKinds) a b
 
 -- the machine has it
 unfoldable pub hasOf : ℕ → Bool
-hasOf k = cond (eqb k (code "c")) true (cond (eqb k (code "d")) true (cond (eqb k (code "m")) true (eqb k (code "p"))))
+hasOf k = cond (eqb k (code "c")) true (cond (eqb k (code "d")) true (cond (eqb k (code "m")) true (cond (eqb k (code "p")) true (eqb k (code "q")))))
 
 -- "not known in polygon mode: 1": for no other cause an instruction of its own is refused with 1
 unfoldable pub refusedKind : ℕ → ℕ → ℕ → ℕ
@@ -56,4 +57,4 @@ refusedKind number a b = cond (eqb number 1) (cond (hasOf (kindOf a b)) (code "k
 -- what is painted is the same without it. Of line types that is true where LT has no numbers; those with numbers are counted apart (scanning/specs/Types.antt)
 unfoldable pub harmlessOf : ℕ → Bool
 harmlessOf k =
-    cond (eqb k (code "n")) true (cond (eqb k (code "o")) true (cond (eqb k (code "s")) true (cond (eqb k (code "t")) true (cond (eqb k (code "v")) true (eqb k (code "w"))))))
+    cond (eqb k (code "n")) true (cond (eqb k (code "o")) true (cond (eqb k (code "q")) true (cond (eqb k (code "s")) true (cond (eqb k (code "t")) true (cond (eqb k (code "v")) true (eqb k (code "w")))))))

@@ -1,4 +1,4 @@
--- The words for the numbers of document 01 ("Causes and numbers"), and for instructions that it does not have.
+-- The words for the numbers of document 01 ("Causes and numbers") and of document 02, and for instructions that they do not have.
 use mathlib.Core.Bool.{cond}
 use mathlib.Core.List.{List}
 use Prim.Native.Char.{code}
@@ -17,8 +17,9 @@ causeOf n =
     cond (eqb n 10) (bytes "bad hard limits                                                         ") (
     cond (eqb n 11) (bytes "unknown pitch code                                                      ") (
     cond (eqb n 12) (bytes "stroke out of the range of the drive                                    ") (
-    cond (eqb n 20) (bytes "byte given while a segment waits                                        ") (
-    cond (eqb n 21) (bytes "list of strokes full                                                    ") (bytes "not a number of the table                                               "))))))))))
+    cond (eqb n 20) (bytes "byte given while a segment or a reply waits                             ") (
+    cond (eqb n 21) (bytes "list of strokes full                                                    ") (
+    cond (eqb n 31) (bytes "buffer shorter than the reply                                           ") (bytes "not a number of the table                                               ")))))))))))
 
 -- what to do about it
 unfoldable pub adviceOf : ℕ → List ℕ
@@ -31,8 +32,9 @@ adviceOf n =
     cond (eqb n 10) (bytes "Give left below right, bottom below top, each -32768 to 32767.          ") (
     cond (eqb n 11) (bytes "Give 0, 1, 2 or 3: a unit is 0.125, 0.25, 0.5 or 1 mm.                  ") (
     cond (eqb n 12) (bytes "Keep the ends of the stroke within -32768 to 32767.                     ") (
-    cond (eqb n 20) (bytes "Draw until the machine is idle, then give the byte again.               ") (
-    cond (eqb n 21) (bytes "Take the strokes out, then feed the bytes that are left.                ") (bytes "None.                                                                   "))))))))))
+    cond (eqb n 20) (bytes "Draw until idle, or fetch the reply; then give the byte again.          ") (
+    cond (eqb n 21) (bytes "Take the strokes out, then feed the bytes that are left.                ") (
+    cond (eqb n 31) (bytes "Fetch again with a longer buffer: 37 bytes hold every reply.            ") (bytes "None.                                                                   ")))))))))))
 
 -- what becomes of an instruction that the machine does not have, by its kind
 unfoldable pub ofForeign : ℕ → List ℕ
@@ -56,4 +58,5 @@ ofKind n =
     cond (eqb n (code "d")) (bytes "not carried out: nothing of it is painted                               ") (
     cond (eqb n (code "k")) (bytes "lost: it is not known between PM0 and PM2. End the polygon before it    ") (
     cond (eqb n (code "m")) (bytes "not carried out from there on: the next line starts where the pen was   ") (
-    cond (eqb n (code "p")) (bytes "not carried out, or left open: the polygon is another than was meant    ") (ofForeign n)))))
+    cond (eqb n (code "p")) (bytes "not carried out, or left open: the polygon is another than was meant    ") (
+    cond (eqb n (code "q")) (bytes "not carried out: no reply is made of it                                 ") (ofForeign n))))))

@@ -1,4 +1,4 @@
-// The words of the desk: what the numbers of document 01 mean and what to do about them, and what becomes of instructions that the machine does not have.
+// The words of the desk: what the numbers of documents 01 and 02 mean and what to do about them, and what becomes of instructions that the machine does not have.
 // Each text has blanks after it, up to 72 bytes. specs/Words.antt and specs/Names.antt have the same tables.
 ghost use mathlib.Core.Path.{_≡_};
 ghost use Rattle.words.specs.Words.{causeOf, adviceOf, ofForeign, ofKind};
@@ -33,10 +33,13 @@ pub fn cause(number: u8) -> [u8; 72]
         return *b"stroke out of the range of the drive                                    ";
     }
     if number == 20 {
-        return *b"byte given while a segment waits                                        ";
+        return *b"byte given while a segment or a reply waits                             ";
     }
     if number == 21 {
         return *b"list of strokes full                                                    ";
+    }
+    if number == 31 {
+        return *b"buffer shorter than the reply                                           ";
     }
     *b"not a number of the table                                               "
 }
@@ -70,10 +73,13 @@ pub fn advice(number: u8) -> [u8; 72]
         return *b"Keep the ends of the stroke within -32768 to 32767.                     ";
     }
     if number == 20 {
-        return *b"Draw until the machine is idle, then give the byte again.               ";
+        return *b"Draw until idle, or fetch the reply; then give the byte again.          ";
     }
     if number == 21 {
         return *b"Take the strokes out, then feed the bytes that are left.                ";
+    }
+    if number == 31 {
+        return *b"Fetch again with a longer buffer: 37 bytes hold every reply.            ";
     }
     *b"None.                                                                   "
 }
@@ -137,6 +143,9 @@ pub fn of_kind(kind: u8) -> [u8; 72]
     if kind == b'p' {
         return *b"not carried out, or left open: the polygon is another than was meant    ";
     }
+    if kind == b'q' {
+        return *b"not carried out: no reply is made of it                                 ";
+    }
     of_foreign(kind)
 }
 
@@ -164,12 +173,12 @@ fn kind_in(names: &[u8], first: u8, second: u8) -> u8
     b'x'
 }
 
-// The kind of an instruction, by its name: of the machine's own (c, d, m, p), or of the manual and of HP-GL/2, which it does not have; ?? is for a byte of no name.
+// The kind of an instruction, by its name: of the machine's own (c, d, m, p, q), or of the manual and of HP-GL/2, which it does not have; ?? is for a byte of no name.
 pub fn kind(first: u8, second: u8) -> u8
     ensures { λ r. ⌜ r ≡ kindOf first second ⌝ }
 {
     kind_in(
-        b"DFc INc IPc IWc ROc SCc SPc CId EAd EPd ERd AAm ARm PAm PDm PRm PUm PMp ATa BRa BZa RTa ??b PEe ACf EWf FPf FTf RAf RFf RRf UFf WGf BLl CPl LBl PBl UCl DCo DPo IMo OAo OCo ODo OEo OFo OGo OHo OIo OLo OOo OPo OSo OTo OWo ADs CAs CSs DIs DRs DTs DVs ESs LOs SAs SDs SIs SLs SRs SSs TDs LTt ULt BPn ECn LAn NPn PCn PGn PSn TRn APv ASv FSv VAv VNv VSv PTw PWw WUw ",
+        b"DFc INc IPc IWc ROc SCc SPc CId EAd EPd ERd AAm ARm PAm PDm PRm PUm PMp OAq OEq OHq OPq OWq ATa BRa BZa RTa ??b PEe ACf EWf FPf FTf RAf RFf RRf UFf WGf BLl CPl LBl PBl UCl DCo DPo IMo OCo ODo OFo OGo OIo OLo OOo OSo OTo ADs CAs CSs DIs DRs DTs DVs ESs LOs SAs SDs SIs SLs SRs SSs TDs LTt ULt BPn ECn LAn NPn PCn PGn PSn TRn APv ASv FSv VAv VNv VSv PTw PWw WUw ",
         first,
         second,
     )
@@ -188,7 +197,10 @@ fn has(kind: u8) -> bool
     if kind == b'm' {
         return true;
     }
-    kind == b'p'
+    if kind == b'p' {
+        return true;
+    }
+    kind == b'q'
 }
 
 // The kind of a refusal: an instruction that the machine has is refused with 1 in polygon mode alone.
@@ -214,6 +226,9 @@ pub fn harmless(kind: u8) -> bool
         return true;
     }
     if kind == b'o' {
+        return true;
+    }
+    if kind == b'q' {
         return true;
     }
     if kind == b's' {

@@ -28,7 +28,8 @@ fn rows(text: &mut [u8; 65536], used: usize) -> usize {
     end = row(text, end, 11);
     end = row(text, end, 12);
     end = row(text, end, 20);
-    row(text, end, 21)
+    end = row(text, end, 21);
+    row(text, end, 31)
 }
 
 fn main() {

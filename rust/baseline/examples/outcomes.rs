@@ -2,7 +2,7 @@
 //!
 //!     cargo run --offline --example outcomes < ../../crates/vectors/stdin > ../../crates/vectors/stdout
 
-use baseline::{drive, number, Drawn, Look, Machine, Move, Moves, Place, Stroke};
+use baseline::{drive, number, Drawn, Fed, Look, Machine, Move, Moves, Place, Stroke};
 use std::fmt::Write;
 use std::io::Read;
 
@@ -12,15 +12,27 @@ pub const LIMITS: [i64; 4] = [-10_000, -7_000, 10_000, 7_000];
 /// What a record of the lent list holds before feed.
 pub const MARK: Stroke = Stroke { pen: 7, x0: 7, y0: 7, x1: 7, y1: 7 };
 
+/// The bytes of the buffer that is lent where a line names none.
+pub const BUFFER: usize = 64;
+
+/// What a byte of the buffer holds before it is lent.
+const UNTOUCHED: u8 = 7;
+
 /// A step of the field "bytes".
-#[derive(Clone, Copy, PartialEq, Debug)]
+#[derive(Clone, PartialEq, Debug)]
 pub enum Step {
-    /// The byte is taken, and all that waits is drawn.
+    /// The byte is taken, a reply is fetched, and all that waits is drawn.
     Byte(u8),
-    /// From here on no draws follow a byte.
+    /// From here on neither follows a byte.
     Hold,
     /// One draw.
     Draw,
+    /// One look.
+    Look,
+    /// One fetch with a buffer of so many bytes.
+    Fetch(usize),
+    /// One feed of these bytes into a list of so many records.
+    Feed(usize, Vec<u8>),
 }
 
 /// Something that happened.
@@ -30,6 +42,14 @@ pub enum Event {
     Refused(u8, usize),
     /// A stroke, or "hidden".
     Drawn(Drawn),
+    /// What a look says, and whether a segment waits.
+    Looked(Look, bool),
+    /// What a fetch wrote, without 13, 10 at its end; none where nothing waited.
+    Fetched(Option<String>),
+    /// The number of a fetch that was refused.
+    Unfetched(u8),
+    /// What a feed answered: bytes taken, strokes stored, number.
+    Fed([usize; 3]),
 }
 
 /// A line: hard limits, or a kind of calls with a name and fields.
@@ -90,6 +110,9 @@ fn braces(text: &str) -> Vec<Step> {
     match words[..] {
         ["hold"] => vec![Step::Hold],
         ["draw"] => vec![Step::Draw],
+        ["look"] => vec![Step::Look],
+        ["fetch", room] => vec![Step::Fetch(room.parse().unwrap())],
+        ["feed", room, part] => vec![Step::Feed(room.parse().unwrap(), part.bytes().collect())],
         ["fill", k] => {
             let points = (1..=k.parse().unwrap()).map(|i: u32| format!("{i},0"));
             bytes(points.collect::<Vec<_>>().join(","))
@@ -108,12 +131,18 @@ pub fn bytes(text: &str) -> Vec<u8> {
     steps(text).into_iter().map(byte).collect()
 }
 
-/// What take, draw and look need of a machine, so that a second one may stand beside it.
+/// What a line needs of a machine, so that a second one may stand beside it.
 pub trait Calls {
     /// One byte.
     fn take(&mut self, byte: u8) -> u8;
     /// One draw.
     fn draw(&mut self) -> Drawn;
+    /// One fetch: the bytes written, and the number.
+    fn fetch(&mut self, buffer: &mut [u8]) -> (usize, u8);
+    /// One feed.
+    fn feed(&mut self, bytes: &[u8], list: &mut [Stroke]) -> Fed;
+    /// The machine as it is.
+    fn machine(&self) -> &Machine;
 }
 
 impl Calls for Machine {
@@ -124,6 +153,18 @@ impl Calls for Machine {
     fn draw(&mut self) -> Drawn {
         Machine::draw(self)
     }
+
+    fn fetch(&mut self, buffer: &mut [u8]) -> (usize, u8) {
+        Machine::fetch(self, buffer)
+    }
+
+    fn feed(&mut self, bytes: &[u8], list: &mut [Stroke]) -> Fed {
+        Machine::feed(self, bytes, list)
+    }
+
+    fn machine(&self) -> &Machine {
+        self
+    }
 }
 
 /// The events of a line `take`, and how many bytes it has.
@@ -131,33 +172,61 @@ pub fn run(machine: &mut impl Calls, program: &[Step]) -> (Vec<Event>, usize) {
     let mut events = Vec::new();
     let (mut count, mut hold) = (0, false);
     for step in program {
-        let draws = match step {
-            Step::Hold => {
-                hold = true;
-                0
+        match step {
+            Step::Hold => hold = true,
+            Step::Draw => _ = draw(machine, &mut events),
+            Step::Look => {
+                events.push(Event::Looked(machine.machine().look(), waits(machine.machine())))
             }
-            Step::Draw => 1,
+            Step::Fetch(room) => events.push(fetched(machine, *room)),
+            Step::Feed(room, bytes) => fed(machine, bytes, *room, &mut events),
             Step::Byte(byte) => {
                 count += 1;
                 match machine.take(*byte) {
                     0 => {}
                     number => events.push(Event::Refused(number, count)),
                 }
-                if hold {
-                    0
-                } else {
-                    usize::MAX
+                if !hold {
+                    events.extend(
+                        Some(fetched(machine, BUFFER)).filter(|e| *e != Event::Fetched(None)),
+                    );
+                    while draw(machine, &mut events) {}
                 }
-            }
-        };
-        for _ in 0..draws {
-            match machine.draw() {
-                Drawn::Idle => break,
-                drawn => events.push(Event::Drawn(drawn)),
             }
         }
     }
     (events, count)
+}
+
+/// One draw; whether a segment waited.
+fn draw(machine: &mut impl Calls, events: &mut Vec<Event>) -> bool {
+    let drawn = machine.draw();
+    events.extend((drawn != Drawn::Idle).then_some(Event::Drawn(drawn)));
+    drawn != Drawn::Idle
+}
+
+/// One fetch. A reply is closed by 13, 10, and every other byte of the buffer keeps its content.
+fn fetched(machine: &mut impl Calls, room: usize) -> Event {
+    let mut buffer = vec![UNTOUCHED; room];
+    let (length, number) = machine.fetch(&mut buffer);
+    assert!(buffer[length..].iter().all(|&byte| byte == UNTOUCHED));
+    match (length, number) {
+        (0, 0) => Event::Fetched(None),
+        (0, number) => Event::Unfetched(number),
+        _ => {
+            let text = buffer[..length].strip_suffix(b"\r\n").expect("13, 10 close a reply");
+            Event::Fetched(Some(String::from_utf8(text.to_vec()).unwrap()))
+        }
+    }
+}
+
+/// One feed, with the strokes that it stored.
+fn fed(machine: &mut impl Calls, bytes: &[u8], room: usize, events: &mut Vec<Event>) {
+    let mut list = vec![MARK; room];
+    let Fed { taken, stored, number } = machine.feed(bytes, &mut list);
+    events.push(Event::Fed([taken, stored, usize::from(number)]));
+    events.extend(list[..stored].iter().map(|&s| Event::Drawn(Drawn::Stroke(s))));
+    assert!(list[stored..].iter().all(|&s| s == MARK));
 }
 
 /// The events as they are written in `crates/vectors/stdout`.
@@ -169,6 +238,13 @@ pub fn events_text(events: &[Event]) -> String {
             Event::Drawn(Drawn::Stroke(s)) => text += &stroke_text(s),
             Event::Drawn(Drawn::Hidden) => text += " hid",
             Event::Drawn(Drawn::Idle) => unreachable!(),
+            Event::Looked(look, waits) => text += &look_text(look, *waits),
+            Event::Fetched(Some(reply)) => write!(text, " \"{reply}\"").unwrap(),
+            Event::Fetched(None) => text += " len0",
+            Event::Unfetched(number) => write!(text, " E{number}@fetch").unwrap(),
+            Event::Fed([taken, stored, number]) => {
+                write!(text, " ({taken},{stored},{number})").unwrap()
+            }
         }
     }
     text
@@ -178,15 +254,20 @@ fn stroke_text(s: &Stroke) -> String {
     format!(" {}:{},{}-{},{}", s.pen, s.x0, s.y0, s.x1, s.y1)
 }
 
-fn look_text(machine: &Machine) -> String {
-    let Look { x, y, pen, down, bytes } = machine.look();
-    let pen_is = if down { "dn" } else { "up" };
-    let work = if machine.clone().draw() == Drawn::Idle { "idle" } else { "waits" };
+/// Whether a segment waits, as draw tells it.
+fn waits(machine: &Machine) -> bool {
+    machine.clone().draw() != Drawn::Idle
+}
+
+fn look_text(look: &Look, waits: bool) -> String {
+    let Look { x, y, pen, down, bytes } = look;
+    let pen_is = if *down { "dn" } else { "up" };
+    let work = if waits { "waits" } else { "idle" };
     format!(" x={x} y={y} pen={pen} by={bytes} {pen_is} {work}")
 }
 
-/// What feed does to a machine.
-pub struct Fed {
+/// What a line `feed` does to a machine.
+pub struct FeedLine {
     /// The events of the bytes before it.
     pub before: Vec<Event>,
     /// Its answer: bytes taken, strokes stored, number.
@@ -196,16 +277,16 @@ pub struct Fed {
 }
 
 /// A line `feed`.
-pub fn feed(machine: &mut Machine, fields: &[&str]) -> Fed {
+pub fn feed(machine: &mut Machine, fields: &[&str]) -> FeedLine {
     let mut program = steps(fields[0]);
     program.insert(0, Step::Hold);
     let before = run(machine, &program).0;
     let mut list = vec![MARK; fields[1].parse().unwrap()];
     let fed = machine.feed(&bytes(fields[2]), &mut list);
-    Fed { before, answer: [fed.taken, fed.stored, usize::from(fed.number)], list }
+    FeedLine { before, answer: [fed.taken, fed.stored, usize::from(fed.number)], list }
 }
 
-/// What the program strokes prints: feed after feed, with a list of two records.
+/// What the program strokes prints: feed after feed, with a list of two records, a reply fetched after each.
 pub fn strokes(machine: &mut Machine, input: &[u8]) -> Vec<Event> {
     let mut events = Vec::new();
     let mut at = 0;
@@ -214,10 +295,12 @@ pub fn strokes(machine: &mut Machine, input: &[u8]) -> Vec<Event> {
         let fed = machine.feed(&input[at..], &mut list);
         at += fed.taken;
         events.extend(list[..fed.stored].iter().map(|&s| Event::Drawn(Drawn::Stroke(s))));
-        match fed.number {
-            0 => return events,
-            number::FULL => {}
-            refused => events.push(Event::Refused(refused, at)),
+        if !matches!(fed.number, number::NONE | number::FULL | number::WAITS) {
+            events.push(Event::Refused(fed.number, at));
+        }
+        events.extend(Some(fetched(machine, BUFFER)).filter(|e| *e != Event::Fetched(None)));
+        if fed.number == number::NONE {
+            return events;
         }
     }
 }
@@ -266,10 +349,10 @@ pub fn outcomes(text: &str) -> String {
         let outcome = match kind {
             "take" => {
                 let events = events_text(&run(&mut machine, &steps(fields[0])).0);
-                events + " |" + &look_text(&machine)
+                events + " |" + &look_text(&machine.look(), waits(&machine))
             }
             "feed" => {
-                let Fed { before, answer, list } = feed(&mut machine, &fields);
+                let FeedLine { before, answer, list } = feed(&mut machine, &fields);
                 let [taken, stored, number] = answer;
                 let records: String = list.iter().map(stroke_text).collect();
                 format!("{} {taken} {stored} {number} |{records}", events_text(&before))

@@ -265,6 +265,10 @@ pub struct Exact {
     /// The pen was changed by the PU or PD that is being read, and no pair of it is stored.
     pen_change_open: bool,
     queue: VecDeque<Segment>,
+    /// The reply that waits.
+    reply: Option<String>,
+    /// The latest refusal since fresh, IN or OE, or 0.
+    latest: u8,
 }
 
 fn is_blank(byte: u8) -> bool {
@@ -275,10 +279,16 @@ fn is_mover(name: &[u8; 2]) -> bool {
     matches!(name, b"PU" | b"PD" | b"PA" | b"PR")
 }
 
+/// Whether an instruction asks for a reply.
+fn asked(name: &[u8; 2]) -> bool {
+    matches!(name, b"OA" | b"OP" | b"OW" | b"OH" | b"OE")
+}
+
 /// The counts of numbers an instruction allows; none for an unknown name.
 fn counts(name: &[u8; 2]) -> Option<&'static [usize]> {
     Some(match name {
         b"IN" | b"DF" | b"EP" => &[0],
+        name if asked(name) => &[0],
         b"IP" => &[0, 2, 4],
         b"SC" | b"IW" => &[0, 4],
         b"RO" | b"SP" | b"PM" => &[0, 1],
@@ -371,16 +381,37 @@ impl Exact {
             saved: None,
             pen_change_open: false,
             queue: VecDeque::new(),
+            reply: None,
+            latest: 0,
         };
         (model, if good { 0 } else { 10 })
     }
 
     /// A take of this byte; the number it is due to answer.
     pub fn take(&mut self, byte: u8) -> u8 {
-        if !self.queue.is_empty() {
+        if !self.queue.is_empty() || self.reply.is_some() {
             return 20;
         }
-        self.read(byte).err().unwrap_or(0)
+        let answer = self.read(byte).err().unwrap_or(0);
+        if answer != 0 {
+            self.latest = answer;
+        }
+        answer
+    }
+
+    /// A fetch with a buffer of this content: the content, length and number that are due.
+    pub fn fetch(&mut self, buffer: &[u8]) -> (Vec<u8>, usize, u8) {
+        match self.reply.take() {
+            None => (buffer.to_vec(), 0, 0),
+            Some(reply) if buffer.len() < reply.len() => {
+                self.reply = Some(reply);
+                (buffer.to_vec(), 0, 31)
+            }
+            Some(reply) => {
+                let kept = &buffer[reply.len()..];
+                ([reply.as_bytes(), kept].concat(), reply.len(), 0)
+            }
+        }
     }
 
     /// What a look is due to answer.
@@ -492,7 +523,7 @@ impl Exact {
     fn name(&mut self, name: &[u8; 2]) -> Result<(), u8> {
         let known = match self.saved {
             None => counts(name).is_some(),
-            Some(_) => is_mover(name) || matches!(name, b"PM" | b"IN"),
+            Some(_) => is_mover(name) || asked(name) || matches!(name, b"PM" | b"IN"),
         };
         if !known {
             return Err(1);
@@ -655,9 +686,31 @@ impl Exact {
             b"CI" => return self.circle(first, numbers.get(1).copied()),
             b"AA" => return self.arc(self.absolute([numbers[0], numbers[1]]), &numbers[2..]),
             b"AR" => return self.arc(self.relative([numbers[0], numbers[1]]), &numbers[2..]),
+            name if asked(name) => self.make_reply(name),
             _ => {}
         }
         Ok(())
+    }
+
+    /// OA and OP tell points, OW and OH an area, its low corner first.
+    fn make_reply(&mut self, name: &[u8; 2]) {
+        let numbers: Vec<i128> = match name {
+            b"OA" => {
+                let [x, y] = location(&self.position);
+                vec![x, y, i128::from(self.down)]
+            }
+            b"OP" => [self.p1, self.p2].concat(),
+            b"OW" => {
+                let back = |corner| location(&turned(&transposed(&self.turn), &spot(corner)));
+                let hard = Area::spanned(back(&self.hard.low), back(&self.hard.high));
+                let window = self.window.unwrap_or(hard);
+                [window.low, window.high].concat()
+            }
+            b"OH" => [self.hard.low, self.hard.high].concat(),
+            _ => vec![i128::from(std::mem::replace(&mut self.latest, 0))],
+        };
+        let words: Vec<String> = numbers.iter().map(i128::to_string).collect();
+        self.reply = Some(words.join(",") + "\r\n");
     }
 
     fn rebase(&mut self) {

@@ -6,7 +6,7 @@ use crate::number;
 /// The answer of [`Machine::feed`].
 #[derive(Clone, Copy, PartialEq, Eq, Debug, Default)]
 pub struct Fed {
-    /// Bytes taken, a refused one included.
+    /// Bytes taken, a refused one included, but not one that meets a waiting reply (20).
     pub taken: usize,
     /// Strokes stored, from the first record on.
     pub stored: usize,
@@ -34,10 +34,14 @@ impl Machine {
             let Some(&byte) = bytes.get(fed.taken) else {
                 return fed;
             };
-            fed.taken += 1;
-            fed.number = self.take(byte);
-            if fed.number != number::NONE {
-                return fed;
+            match self.take(byte) {
+                number::NONE => fed.taken += 1,
+                refused => {
+                    // No segment waits here, so 20 is a reply's.
+                    fed.taken += usize::from(refused != number::WAITS);
+                    fed.number = refused;
+                    return fed;
+                }
             }
         }
     }

@@ -1,8 +1,8 @@
 //! An HP-GL machine for painting rink lines.
 //!
 //! This crate is a plain Rust implementation of document 01, the specification of the
-//! project, with change requests 1 (arcs), 2 (the fifth decimal), 3 (half and three-quarter turns)
-//! and 4 (line types) of document 02, written from these texts alone.
+//! project, with change requests 1 (arcs), 2 (the fifth decimal), 3 (half and three-quarter turns),
+//! 4 (line types) and 5 (replies) of document 02, written from these texts alone.
 //! It serves two ends: a partner that another
 //! implementation is compared with byte by byte, and a baseline of speed.
 //!
@@ -35,12 +35,14 @@ mod feed;
 pub mod geometry;
 mod machine;
 pub mod reader;
+mod reply;
 pub mod sines;
 mod wide;
 
 pub use drive::{drive, Move, Moves, Place};
 pub use feed::Fed;
 pub use machine::{Drawn, Look, Machine, Stroke};
+pub use reply::LONGEST_REPLY;
 
 /// The numbers of document 01, "Causes and numbers".
 pub mod number {
@@ -62,8 +64,10 @@ pub mod number {
     pub const PITCH: u8 = 11;
     /// Stroke end out of the drive's range.
     pub const DRIVE: u8 = 12;
-    /// Take while a segment waits.
+    /// Take while a segment or a reply waits.
     pub const WAITS: u8 = 20;
     /// Feed: the list is full.
     pub const FULL: u8 = 21;
+    /// Fetch: the buffer is shorter than the reply.
+    pub const SHORT: u8 = 31;
 }

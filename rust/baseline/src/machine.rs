@@ -5,6 +5,7 @@ use crate::geometry::{
 };
 use crate::number;
 use crate::reader::{Event, Op, Reader};
+use crate::reply::Reply;
 use crate::sines::{cosine, sine};
 
 /// A painted line on the page.
@@ -138,7 +139,7 @@ struct Circle {
     from: Point,
 }
 
-/// The segments that wait: all of them come from one byte.
+/// The segments that wait, all of them from one byte, or the reply: no byte makes both.
 #[derive(Clone, Copy, Debug)]
 enum Work {
     None,
@@ -149,6 +150,7 @@ enum Work {
     Chords(Circle),
     /// The arc's chords from the vertex at these tenths on, which is this page point.
     Arc(usize, Point),
+    Reply(Reply),
 }
 
 /// The HP-GL machine.
@@ -178,6 +180,8 @@ pub struct Machine {
     polygon: Polygon,
     /// The arc whose chords wait, if those of one do.
     arc: Arc,
+    /// The latest refusal since fresh, IN or OE; 0 for none. 20 is no part of it.
+    latest: u8,
 }
 
 /// Whether a number fits the range of P1, P2 and the hard limits.
@@ -233,29 +237,30 @@ impl Machine {
             mode: None,
             polygon: Polygon::EMPTY,
             arc: Arc::default(),
+            latest: number::NONE,
         }
     }
 
     /// Whether a segment waits.
     #[inline]
     pub fn waits(&self) -> bool {
-        !matches!(self.work, Work::None)
+        !matches!(self.work, Work::None | Work::Reply(_))
     }
 
     /// Takes one byte; answers 0 or the number it is refused with.
     #[inline]
     pub fn take(&mut self, byte: u8) -> u8 {
-        // The common case first. A segment waits only from a byte that ended a number or an
-        // instruction, until it is drawn, so none waits while a number is open.
+        // The common case first. A segment or reply waits only from a byte that ended a number or
+        // an instruction, until it is drawn or fetched, so none waits while a number is open.
         if self.reader.step_digit(byte) {
             return number::NONE;
         }
-        if self.waits() {
+        if !matches!(self.work, Work::None) {
             return number::WAITS;
         }
         let answer = match self.reader.step(byte) {
             Event::Quiet => return number::NONE,
-            Event::Refused(number) => return number,
+            Event::Refused(number) => Err(number),
             Event::Pair => self.pair(),
             Event::Name => self.name(),
             Event::Perform => self.perform(),
@@ -264,6 +269,7 @@ impl Machine {
             Ok(()) => number::NONE,
             Err(number) => {
                 self.reader.refuse();
+                self.latest = number;
                 number
             }
         }
@@ -273,7 +279,7 @@ impl Machine {
     #[inline]
     pub fn draw(&mut self) -> Drawn {
         match self.work {
-            Work::None => Drawn::Idle,
+            Work::None | Work::Reply(_) => Drawn::Idle,
             Work::Line(a, b) => {
                 self.work = Work::None;
                 self.show(a, b)
@@ -294,7 +300,7 @@ impl Machine {
     /// The page points that the segment joins which waits first.
     fn segment(&self) -> Option<(Point, Point)> {
         match self.work {
-            Work::None => None,
+            Work::None | Work::Reply(_) => None,
             Work::Line(from, to) => Some((from, to)),
             Work::Edges(index) => {
                 let page = |index: usize| self.turn.to_page(self.polygon.corners[index].at);
@@ -311,6 +317,18 @@ impl Machine {
     pub fn look(&self) -> Look {
         let Point { x, y } = self.position.at();
         Look { x, y, pen: self.pen, down: self.down, bytes: self.polygon.bytes }
+    }
+
+    /// Writes the reply that waits into the buffer, whose rest keeps its content; answers length and
+    /// number. The length is 0 if no reply waits, and with 31: for a buffer shorter than the reply,
+    /// which then still waits.
+    pub fn fetch(&mut self, buffer: &mut [u8]) -> (usize, u8) {
+        let Work::Reply(reply) = self.work else { return (0, number::NONE) };
+        let text = reply.text();
+        let Some(room) = buffer.get_mut(..text.len()) else { return (0, number::SHORT) };
+        room.copy_from_slice(text);
+        self.work = Work::None;
+        (text.len(), number::NONE)
     }
 
     /// The answer for the line between two page points.
@@ -372,7 +390,8 @@ impl Machine {
     #[inline]
     fn name(&mut self) -> Result<(), u8> {
         let op = self.reader.op();
-        if self.mode.is_some() && !(op.is_move() || matches!(op, Op::Pm | Op::In)) {
+        let asks = matches!(op, Op::Oa | Op::Op | Op::Ow | Op::Oh | Op::Oe);
+        if self.mode.is_some() && !(op.is_move() || asks || matches!(op, Op::Pm | Op::In)) {
             return Err(number::UNKNOWN);
         }
         match op {
@@ -479,9 +498,32 @@ impl Machine {
             Op::Ep => self.edge_polygon(),
             Op::Ea => self.rectangle(self.absolute(n[0], n[1]))?,
             Op::Er => self.rectangle(self.relative(n[0], n[1]))?,
+            Op::Oa | Op::Op | Op::Ow | Op::Oh | Op::Oe => self.reply(),
             Op::Pu | Op::Pd | Op::Pa | Op::Pr => {}
         }
         Ok(())
+    }
+
+    /// OA, OP, OW, OH and OE. The window is told as it was given, neither turned nor cut by the hard
+    /// limits; these take its place where there is none, turned back to where it would stand.
+    fn reply(&mut self) {
+        let sides = |b: Bounds| Reply::of(&[b.left, b.bottom, b.right, b.top]);
+        let back = |x, y| self.turn.from_page(Point::new(x, y));
+        let Bounds { left, bottom, right, top } = self.hard;
+        let reply = match self.reader.op() {
+            Op::Oa => {
+                let Point { x, y } = self.position.at();
+                Reply::of(&[x, y, i64::from(self.down)])
+            }
+            Op::Op => Reply::of(&[self.p1.x, self.p1.y, self.p2.x, self.p2.y]),
+            Op::Ow => {
+                let hard = Bounds::of_corners(back(left, bottom), back(right, top));
+                sides(self.window.unwrap_or(hard))
+            }
+            Op::Oh => sides(self.hard),
+            _ => Reply::of(&[i64::from(std::mem::take(&mut self.latest))]),
+        };
+        self.work = Work::Reply(reply);
     }
 
     /// B becomes the location and O 0, and scales and limits follow the settings.
@@ -514,6 +556,7 @@ impl Machine {
         self.window = None;
         self.mode = None;
         self.polygon.clear();
+        self.latest = number::NONE;
         self.set_turn(Turn::None);
     }
 

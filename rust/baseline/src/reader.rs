@@ -5,7 +5,7 @@
 
 use crate::number;
 
-/// The instructions: the sixteen of document 01, and the arcs of change request 1.
+/// The instructions: the sixteen of document 01, the arcs of change request 1 and the replies of 5.
 #[derive(Clone, Copy, PartialEq, Eq, Debug)]
 #[allow(missing_docs)]
 pub enum Op {
@@ -27,6 +27,11 @@ pub enum Op {
     Pr,
     Aa,
     Ar,
+    Oa,
+    Op,
+    Ow,
+    Oh,
+    Oe,
 }
 
 impl Op {
@@ -60,7 +65,7 @@ const fn line(name: &[u8; 2], op: Op, least: u8, most: u8, step: u8) -> Instruct
 }
 
 /// The table of instructions, in the order of [`Op`].
-pub const INSTRUCTIONS: [Instruction; 18] = [
+pub const INSTRUCTIONS: [Instruction; 23] = [
     line(b"IN", Op::In, 0, 0, 1),
     line(b"DF", Op::Df, 0, 0, 1),
     line(b"EP", Op::Ep, 0, 0, 1),
@@ -79,6 +84,11 @@ pub const INSTRUCTIONS: [Instruction; 18] = [
     line(b"PR", Op::Pr, 0, ANY, 2),
     line(b"AA", Op::Aa, 3, 4, 1),
     line(b"AR", Op::Ar, 3, 4, 1),
+    line(b"OA", Op::Oa, 0, 0, 1),
+    line(b"OP", Op::Op, 0, 0, 1),
+    line(b"OW", Op::Ow, 0, 0, 1),
+    line(b"OH", Op::Oh, 0, 0, 1),
+    line(b"OE", Op::Oe, 0, 0, 1),
 ];
 
 /// Place of two letters, of either case, in [`NAMES`].

@@ -67,7 +67,7 @@ impl Dice {
     fn instruction(&mut self, in_polygon: bool) -> Vec<u8> {
         let size = [3, 50, 300, 12_000, 32_767][self.below(5) as usize];
         let pairs = 2 * (1 + self.below(3));
-        let choice = if in_polygon { 12 + self.below(14) } else { self.below(26) };
+        let choice = if in_polygon { 12 + self.below(15) } else { self.below(27) };
         let text = match choice {
             0 => "IN".into(),
             1 => "DF".into(),
@@ -101,6 +101,7 @@ impl Dice {
                 format!("SP{}", self.pick(&["1", "2", "3", "4", "5", "8", "0", "9", ""]))
             }
             22 | 23 if !in_polygon => self.arc(size),
+            26 => self.pick(&["OA", "OP", "OW", "OH", "OE", "OE", "OA5", "OC"]).into(),
             _ => format!("PD{}", self.numbers(pairs, size)),
         };
         let text = if self.one_in(10) { text.to_lowercase() } else { text };
@@ -126,7 +127,16 @@ struct Tally {
     types: [usize; 5],
 }
 
-/// One drawing: instructions and draws in many orders.
+/// A fetch of both with a buffer of this length; its number.
+fn fetch(machine: &mut Machine, exact: &mut Exact, room: usize) -> u8 {
+    let mut buffer = vec![7; room];
+    let due = exact.fetch(&buffer);
+    let (length, number) = machine.fetch(&mut buffer);
+    assert_eq!((buffer, length, number), due);
+    number
+}
+
+/// One drawing: instructions, draws and fetches in many orders.
 fn drawing(dice: &mut Dice, instructions: usize, tally: &mut Tally) {
     let limits = match dice.below(6) {
         0 => [0, 0, 10, 10],
@@ -159,6 +169,9 @@ fn drawing(dice: &mut Dice, instructions: usize, tally: &mut Tally) {
             assert_eq!(answer, exact.take(byte), "{limits:?} {}", shown());
             assert_eq!(machine.look(), exact.look(), "{limits:?} {}", shown());
             tally.refused[usize::from(answer)] += 1;
+            // Mostly a reply is fetched after a byte; else the buffer may be too short for it.
+            let room = if eager || dice.one_in(3) { 64 } else { dice.below(30) as usize };
+            tally.refused[usize::from(fetch(&mut machine, &mut exact, room))] += 1;
             // Mostly all draws after a byte, else some, also on an empty queue.
             let most = if eager || dice.one_in(3) { usize::MAX } else { dice.below(4) as usize };
             for _ in 0..most {
@@ -198,7 +211,7 @@ fn generated_drawings() {
         &tally.types[1..],
         tally.refused
     );
-    for number in [1, 2, 3, 6, 7, 20] {
+    for number in [1, 2, 3, 6, 7, 20, 31] {
         assert!(tally.refused[number] > 0, "no refusal with {number}");
     }
     assert!(tally.strokes > 10_000 && tally.hidden > 1_000);
@@ -217,6 +230,7 @@ fn generated_bytes() {
             let byte = alphabet[dice.below(alphabet.len() as u64) as usize];
             assert_eq!(machine.take(byte), exact.take(byte));
             assert_eq!(machine.look(), exact.look());
+            fetch(&mut machine, &mut exact, 40);
             let answer = machine.draw();
             assert_eq!(exact.draw(answer), Ok(()));
         }

@@ -28,7 +28,7 @@ fn painted(bytes: &str) -> (Vec<u8>, Vec<String>) {
             format!("{} {} {} {} {}", s.pen, s.x0, s.y0, s.x1, s.y1)
         }
         Event::Drawn(_) => "none".to_string(),
-        Event::Refused(..) => panic!("{bytes}: {event:?}"),
+        event => panic!("{bytes}: {event:?}"),
     };
     let (events, _) = outcomes::run(&mut pair, &steps);
     (pair.types, events.into_iter().map(text).collect())

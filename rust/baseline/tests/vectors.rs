@@ -7,7 +7,7 @@ mod outcomes;
 mod pair;
 
 use baseline::{Drawn, Look, Stroke};
-use outcomes::{Event, Fed, Line, LIMITS, MARK};
+use outcomes::{events_text, Event, FeedLine, Line, LIMITS, MARK};
 use pair::Pair;
 use std::io::Write;
 use std::process::{Command, Stdio};
@@ -35,12 +35,15 @@ fn stroke(text: &str) -> Stroke {
     }
 }
 
+/// The stated events beside those that happened, word by word.
 fn check_events(id: &str, expected: &str, count: usize, events: &[Event]) {
-    let mut rest = events.iter();
+    let told = events_text(events);
+    let mut rest = told.split_whitespace();
     for word in words(expected) {
         if let Some(n) = word.strip_prefix('#') {
             for _ in 0..n.parse::<usize>().unwrap() {
-                assert!(matches!(rest.next(), Some(Event::Drawn(_))), "{id}: {word} of {events:?}");
+                let drawn = |word: &str| word == "hid" || word.contains(':');
+                assert!(rest.next().is_some_and(drawn), "{id}: {word} of {told}");
             }
             continue;
         }
@@ -48,20 +51,12 @@ fn check_events(id: &str, expected: &str, count: usize, events: &[Event]) {
             Some((n, word)) => (n.parse().unwrap(), word),
             None => (1, word),
         };
-        let event = if word == "hid" {
-            Event::Drawn(Drawn::Hidden)
-        } else if let Some(refusal) = word.strip_prefix('E') {
-            let (number, place) = refusal.split_once('@').unwrap();
-            let place = if place == "end" { count } else { place.parse().unwrap() };
-            Event::Refused(number.parse().unwrap(), place)
-        } else {
-            Event::Drawn(Drawn::Stroke(stroke(word)))
-        };
+        let word = word.replace("@end", &format!("@{count}"));
         for _ in 0..times {
-            assert_eq!(rest.next(), Some(&event), "{id}: {events:?}");
+            assert_eq!(rest.next(), Some(&word[..]), "{id}: {told}");
         }
     }
-    assert_eq!(rest.next(), None, "{id}: more than expected in {events:?}");
+    assert_eq!(rest.next(), None, "{id}: more than expected in {told}");
 }
 
 fn check_look(id: &str, expected: &str, look: &Look, waits: bool) {
@@ -98,7 +93,7 @@ fn check_take(id: &str, limits: [i64; 4], fields: &[&str]) {
 }
 
 fn check_feed(id: &str, limits: [i64; 4], fields: &[&str]) {
-    let Fed { before, answer, list } = outcomes::feed(&mut outcomes::fresh(limits).0, fields);
+    let FeedLine { before, answer, list } = outcomes::feed(&mut outcomes::fresh(limits).0, fields);
     assert_eq!(before, [], "{id}");
     let due: Vec<usize> = words(fields[3]).map(|v| v.parse().unwrap()).collect();
     assert_eq!(answer, due[..], "{id}");
@@ -117,6 +112,7 @@ fn check_strokes(id: &str, fields: &[&str]) {
             [pen, x0, y0, x1, y1] => {
                 Event::Drawn(Drawn::Stroke(stroke(&format!("{pen}:{x0},{y0}-{x1},{y1}"))))
             }
+            [reply] => Event::Fetched(Some(reply.to_string())),
             _ => panic!("{id}: {line}"),
         }
     };

@@ -8,6 +8,7 @@ pub(crate) enum Call {
     Take(u8),
     Draw,
     Look,
+    Fetch(usize),
     Feed(Range<usize>, usize),
     Plot(Range<usize>, usize),
 }
@@ -80,6 +81,7 @@ fn single(call: &Call, stream: &[u8]) -> String {
         Call::Take(byte) => format!("machine.take({byte});\n"),
         Call::Draw => "machine.draw();\n".to_string(),
         Call::Look => "machine.look();\n".to_string(),
+        Call::Fetch(room) => format!("machine.fetch(&mut [0; {room}]);\n"),
         Call::Feed(bytes, room) => block("feed", "Stroke", bytes, *room),
         Call::Plot(bytes, room) => block("plot", "Mark", bytes, *room),
     }

@@ -8,7 +8,8 @@ fn record(s: Stroke) -> Record {
 }
 
 /// Plot in terms of take and draw, as `crates/feeding/specs/Plot.antt` defines it: while a segment
-/// waits, draw; when idle, take the next byte. Both first ask for a free record, else 21.
+/// waits, draw; when idle, take the next byte. Both first ask for a free record, else 21. A byte that
+/// meets a reply ends it with 20 before that; it is neither counted nor stored.
 pub fn plot<P: Partner>(
     machine: &mut P,
     waits: fn(&P) -> bool,
@@ -19,6 +20,10 @@ pub fn plot<P: Partner>(
     loop {
         let waits = waits(machine);
         if !waits && fed.taken == bytes.len() {
+            return fed;
+        }
+        if !waits && machine.fetch(&mut []).1 == number::SHORT {
+            fed.number = number::WAITS;
             return fed;
         }
         let Some(free) = records.get_mut(fed.stored) else {
@@ -57,6 +62,10 @@ impl Partner for Machine {
 
     fn look(&self) -> Look {
         Machine::look(self)
+    }
+
+    fn fetch(&mut self, buffer: &mut [u8]) -> (usize, u8) {
+        Machine::fetch(self, buffer)
     }
 
     fn feed(&mut self, bytes: &[u8], records: &mut [Record]) -> Fed {

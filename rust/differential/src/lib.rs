@@ -1,7 +1,7 @@
 //! The proved library beside the independent implementation.
 //!
 //! * [`dice`] and [`streams`]: generated HP-GL, by seed.
-//! * [`partner`]: the calls of document 01, as the proved library answers them.
+//! * [`partner`]: the calls of documents 01 and 02, as the proved library answers them.
 //! * [`due`]: the answers that the baseline gives, and the exact checker of condition 3.
 //! * [`ways`]: how a stream is put through the calls, and every answer compared.
 //! * [`difference`] and [`shrink`]: a wrong answer with its calls; the shortest input that has one.
@@ -22,6 +22,7 @@ mod line_types;
 pub mod loads;
 pub mod partner;
 pub mod record;
+mod replies;
 pub mod shrink;
 pub mod streams;
 pub mod ways;

@@ -14,6 +14,9 @@ const CIRCLES: usize = 300_000;
 /// Bytes of arcs; each 34 of them, about, give 720 strokes.
 const ARCS: usize = 450_000;
 
+/// Bytes of replies; each 3 of them are a reply, which ends a call.
+const REPLIES: usize = 300_000;
+
 /// Begins the loads of moves of the manual's types 2, 3 and 4.
 const WINDOW: &str = "IN;SP1;IW-5000,-3500,5000,3500;";
 
@@ -33,7 +36,7 @@ pub struct Load {
 }
 
 /// Every load.
-pub const LOADS: [Load; 13] = [
+pub const LOADS: [Load; 15] = [
     Load { name: "pd", about: "PD moves", setup: "IN;SP1;", size: MOVES, part: pen_down },
     Load { name: "pu", about: "PU moves", setup: "IN;SP1;", size: MOVES, part: pen_up },
     Load {
@@ -95,6 +98,20 @@ pub const LOADS: [Load; 13] = [
         part: written,
     },
     Load { name: "refusals", about: "refusals only", setup: "IN;SP1;", size: MOVES, part: unknown },
+    Load {
+        name: "replies",
+        about: "replies, each fetched",
+        setup: "IN;SP1;",
+        size: REPLIES,
+        part: asked,
+    },
+    Load {
+        name: "asking",
+        about: "PD moves, a question after each 256",
+        setup: "IN;SP1;",
+        size: MOVES,
+        part: drawn_then_asked,
+    },
 ];
 
 impl Load {
@@ -198,4 +215,20 @@ fn written(_: &mut Dice) -> String {
 /// Names that are not known.
 fn unknown(dice: &mut Dice) -> String {
     format!("{};", dice.pick(&["VS", "LT", "UC", "XX", "TL"]))
+}
+
+/// The five that reply, now and then under another turn or window, elsewhere, or after a refusal.
+fn asked(dice: &mut Dice) -> String {
+    let before = match dice.below(8) {
+        0 => format!("PU{};", pair(dice)),
+        1 => dice.pick(&["RO90;", "RO;", "IW-5000,-3500,5000,3500;", "IW;", "XX;"]).to_string(),
+        _ => String::new(),
+    };
+    format!("{before}OA;OP;OW;OH;OE;")
+}
+
+/// A package that draws, and asks where the pen is or what was refused.
+fn drawn_then_asked(dice: &mut Dice) -> String {
+    let moves: String = (0..256).map(|_| pen_down(dice)).collect();
+    moves + dice.pick(&["OA;", "OE;"])
 }

@@ -15,6 +15,8 @@ pub trait Partner: Sized {
     fn draw(&mut self) -> Drawn;
     /// Location, pen, polygon bytes.
     fn look(&self) -> Look;
+    /// Writes the reply that waits into the buffer; the bytes written, and 0 or 31.
+    fn fetch(&mut self, buffer: &mut [u8]) -> (usize, u8);
     /// Bytes in, strokes out, up to a refusal.
     fn feed(&mut self, bytes: &[u8], records: &mut [Record]) -> Fed;
     /// Bytes in, strokes and refusals out.
@@ -59,6 +61,18 @@ impl Partner for vutaroi::Machine {
             down: seen.down,
             bytes: usize::try_from(seen.bytes).unwrap_or(usize::MAX),
         }
+    }
+
+    #[cfg(feature = "replies")]
+    fn fetch(&mut self, buffer: &mut [u8]) -> (usize, u8) {
+        let answer = vutaroi::Machine::fetch(self, buffer).expect(OWN);
+        (answer.length, answer.number)
+    }
+
+    /// A library from before change request 5 has no such call, and makes no reply.
+    #[cfg(not(feature = "replies"))]
+    fn fetch(&mut self, _: &mut [u8]) -> (usize, u8) {
+        (0, 0)
     }
 
     fn feed(&mut self, bytes: &[u8], records: &mut [Record]) -> Fed {

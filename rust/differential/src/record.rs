@@ -2,8 +2,8 @@
 //! it can be compared though no program can link both.
 //!
 //! The streams are without what a change is about ([`Without`]): whether a library knows arcs, rounds
-//! the fifth decimal, or turns by more than a quarter, makes no difference to them. A change that is to
-//! change no answer has all streams.
+//! the fifth decimal, turns by more than a quarter, or makes replies, makes no difference to them. A
+//! change that is to change no answer has all streams.
 
 use crate::dice::Dice;
 use crate::partner::{Partner, Record};
@@ -17,8 +17,11 @@ pub enum Without {
     Arcs,
     /// No number has more than four decimals, and there are none of the families from turns on.
     FifthDecimals,
-    /// No RO has a number that rounds to 180 or 270, and there are none of the last family.
+    /// No RO has a number that rounds to 180 or 270, and there are none of the families from line
+    /// types on.
     FurtherTurns,
+    /// OA, OP, OW, OH and OE are made names that are not known, and there are none of the last family.
+    Replies,
     /// Every family, its streams as they are.
     Nothing,
 }
@@ -30,6 +33,7 @@ impl Without {
             Without::Arcs => &Family::ALL[..6],
             Without::FifthDecimals => &Family::ALL[..8],
             Without::FurtherTurns => &Family::ALL[..9],
+            Without::Replies => &Family::ALL[..10],
             Without::Nothing => &Family::ALL,
         }
     }
@@ -40,6 +44,7 @@ impl Without {
             Without::Arcs => without_arcs(stream),
             Without::FifthDecimals => four_decimals(stream),
             Without::FurtherTurns => quarter_turns(stream),
+            Without::Replies => without_replies(stream),
             Without::Nothing => stream,
         }
     }
@@ -48,15 +53,25 @@ impl Without {
 /// The bytes of each family.
 pub const BYTES: usize = 400_000;
 
-/// The stream with each AA and AR, of either case, made a name that is not known.
-pub fn without_arcs(mut stream: Vec<u8>) -> Vec<u8> {
+/// The stream with each of these names, of either case, made one that is not known.
+fn without_names(mut stream: Vec<u8>, names: &[&[u8; 2]]) -> Vec<u8> {
     for at in 1..stream.len() {
         let name = [stream[at - 1], stream[at]].map(|byte| byte.to_ascii_uppercase());
-        if matches!(&name, b"AA" | b"AR") {
+        if names.contains(&&name) {
             stream[at] = b'Z';
         }
     }
     stream
+}
+
+/// The stream without AA and AR.
+pub fn without_arcs(stream: Vec<u8>) -> Vec<u8> {
+    without_names(stream, &[b"AA", b"AR"])
+}
+
+/// The stream without OA, OP, OW, OH and OE.
+pub fn without_replies(stream: Vec<u8>) -> Vec<u8> {
+    without_names(stream, &[b"OA", b"OP", b"OW", b"OH", b"OE"])
 }
 
 /// The stream with at most four digits after each point.
@@ -118,13 +133,22 @@ impl Sum {
         }
     }
 
+    /// A fetch, every byte of the lent buffer included.
+    fn fetch<P: Partner>(&mut self, machine: &mut P) {
+        let mut buffer = [7; 40];
+        let (length, number) = machine.fetch(&mut buffer);
+        self.add(&[length as i64, i64::from(number)]);
+        self.add(&buffer.map(i64::from));
+    }
+
     fn fed(&mut self, fed: Fed, records: &[Record]) {
         self.add(&[fed.taken as i64, fed.stored as i64, i64::from(fed.number)]);
         records.iter().for_each(|record| self.add(record));
     }
 }
 
-/// The sum of take, look and draw: a byte that is refused with 20 is sent again after a draw.
+/// The sum of take, look and draw: a byte that is refused with 20 is sent again after a draw and a
+/// fetch.
 fn by_calls<P: Partner>(limits: [i64; 4], stream: &[u8]) -> u64 {
     let (mut machine, number) = P::fresh(limits);
     let mut sum = Sum(u64::from(number));
@@ -135,6 +159,7 @@ fn by_calls<P: Partner>(limits: [i64; 4], stream: &[u8]) -> u64 {
         sum.look(machine.look());
         if number == number::WAITS {
             sum.draw(machine.draw());
+            sum.fetch(&mut machine);
         } else {
             rest = after;
         }
@@ -163,6 +188,9 @@ fn by_blocks<P: Partner>(
         let fed = call(&mut machine, &stream[at..end], &mut records);
         sum.fed(fed, &records);
         sum.look(machine.look());
+        if fed.number == number::WAITS {
+            sum.fetch(&mut machine);
+        }
         at += fed.taken;
         if at == stream.len() && fed.number == number::NONE {
             return sum.0;

@@ -2,6 +2,7 @@
 
 use crate::dice::Dice;
 use crate::line_types;
+use crate::replies;
 
 /// A kind of stream.
 #[derive(Clone, Copy, PartialEq, Eq, Debug)]
@@ -27,6 +28,9 @@ pub enum Family {
     /// Segments of the manual's four types: ends inside small limits and windows, on an edge, in a
     /// corner, just outside, along an edge.
     LineTypes,
+    /// OA, OP, OW, OH and OE in every state and mode, with numbers, ended by a letter, after refusals
+    /// of each kind, under turns and windows.
+    Replies,
 }
 
 /// Drawings of real writers (`crates/drawings/data`), to be changed.
@@ -67,7 +71,7 @@ const EDGES: [&str; 6] =
 
 impl Family {
     /// Every family.
-    pub const ALL: [Family; 10] = [
+    pub const ALL: [Family; 11] = [
         Family::Drawings,
         Family::Mutations,
         Family::Bytes,
@@ -78,13 +82,14 @@ impl Family {
         Family::Decimals,
         Family::Turns,
         Family::LineTypes,
+        Family::Replies,
     ];
 
     /// How many of a hundred bytes are of this family.
     pub fn share(self) -> usize {
         match self {
-            Family::Drawings => 28,
-            Family::Mutations => 20,
+            Family::Drawings => 26,
+            Family::Mutations => 18,
             Family::Bytes => 13,
             Family::Brims => 13,
             Family::Circles => 3,
@@ -93,6 +98,7 @@ impl Family {
             Family::Decimals => 4,
             Family::Turns => 4,
             Family::LineTypes => 4,
+            Family::Replies => 4,
         }
     }
 
@@ -109,6 +115,7 @@ impl Family {
             Family::Decimals => decimals(dice),
             Family::Turns => turns(dice),
             Family::LineTypes => line_types::stream(dice),
+            Family::Replies => replies::stream(dice),
         }
     }
 
@@ -116,6 +123,7 @@ impl Family {
     pub fn limits(self, dice: &mut Dice) -> [i64; 4] {
         match self {
             Family::LineTypes => line_types::limits(dice),
+            Family::Replies => replies::limits(dice),
             _ => limits(dice),
         }
     }

@@ -17,9 +17,10 @@ pub const WHOLE: usize = 1 << 24;
 /// A way to put a stream through the calls.
 #[derive(Clone, Copy, PartialEq, Eq, Debug)]
 pub enum Way {
-    /// Take, look, and draw until idle, after each byte; with the exact checker.
+    /// Take, look, fetch, and draw until idle, after each byte; with the exact checker.
     Calls,
-    /// The same with draws by the dice, so that takes are refused with 20; with the exact checker.
+    /// The same with draws and fetches by the dice, so that takes are refused with 20; with the exact
+    /// checker.
     Lazy(u64),
     /// Feed in blocks of `block` bytes into `room` records.
     Feed {
@@ -62,6 +63,10 @@ pub struct Tally {
     pub draws: usize,
     /// Calls of feed and plot.
     pub feeds: usize,
+    /// Calls of fetch.
+    pub fetches: usize,
+    /// Replies that they wrote.
+    pub replies: usize,
     /// Strokes that condition 3 was checked of.
     pub strokes: usize,
     /// Hidden segments, likewise.
@@ -70,7 +75,7 @@ pub struct Tally {
     pub types: [usize; 5],
     /// Marks that feed and plot stored.
     pub stored: usize,
-    /// Answers by number, of take, feed and plot.
+    /// Answers by number, of take, feed, plot and fetch.
     pub numbers: [usize; 32],
 }
 
@@ -83,6 +88,8 @@ impl Tally {
         self.strokes += other.strokes;
         self.hidden += other.hidden;
         self.stored += other.stored;
+        self.fetches += other.fetches;
+        self.replies += other.replies;
         for (sum, count) in self.types.iter_mut().zip(other.types) {
             *sum += count;
         }
@@ -94,8 +101,9 @@ impl Tally {
 
 impl Display for Tally {
     fn fmt(&self, f: &mut fmt::Formatter<'_>) -> fmt::Result {
-        let Tally { takes, draws, feeds, strokes, hidden, types, stored, numbers } = self;
+        let Tally { takes, draws, feeds, strokes, hidden, types, stored, numbers, .. } = self;
         write!(f, "{takes} takes, {draws} draws, {feeds} feeds and plots ({stored} marks), ")?;
+        write!(f, "{} fetches ({} replies), ", self.fetches, self.replies)?;
         write!(f, "condition 3 on {strokes} strokes and {hidden} hidden, ")?;
         write!(f, "line types {:?}, numbers", &types[1..])?;
         for (number, count) in numbers.iter().enumerate().filter(|(_, &count)| count > 0) {
@@ -111,6 +119,8 @@ struct Pair<'a, P> {
     answering: P,
     due: Machine,
     exact: Option<Exact>,
+    /// How many fetches took their buffer's length from [`ROOMS`].
+    lent: usize,
     calls: Vec<Call>,
     tally: Tally,
 }
@@ -122,7 +132,7 @@ impl<'a, P: Partner> Pair<'a, P> {
         let [left, bottom, right, top] = limits;
         let exact = judged.then(|| Exact::fresh(left, bottom, right, top).0);
         let (calls, tally) = (Vec::new(), Tally::default());
-        let pair = Pair { stream, answering, due, exact, calls, tally };
+        let pair = Pair { stream, answering, due, exact, lent: 0, calls, tally };
         pair.same(answer, number)?;
         Ok(pair)
     }
@@ -184,6 +194,46 @@ impl<'a, P: Partner> Pair<'a, P> {
         self.same(answer, self.due.look())
     }
 
+    /// Compares what fetch answered, every byte of the buffer, and the look after it.
+    fn fetch(&mut self, room: usize) -> Result<(), Difference> {
+        self.calls.push(Call::Fetch(room));
+        self.tally.fetches += 1;
+        let content: Vec<u8> = (0..room).map(|i| 150 + (i % 100) as u8).collect();
+        let (mut buffer, mut kept) = (content.clone(), content.clone());
+        let (length, number) = self.answering.fetch(&mut buffer);
+        let due = self.due.fetch(&mut kept);
+        let told = |length, number, buffer: &[u8]| {
+            format!("length {length}, number {number}, buffer {}", buffer.escape_ascii())
+        };
+        let answer = told(length, number, &buffer);
+        if let Some(exact) = &mut self.exact {
+            let (owed, length, number) = exact.fetch(&content);
+            if told(length, number, &owed) != answer {
+                return self.differs(answer, told(length, number, &owed));
+            }
+        }
+        if ((length, number), buffer) != (due, kept.clone()) {
+            return self.differs(answer, told(due.0, due.1, &kept));
+        }
+        self.tally.replies += usize::from(due.0 > 0);
+        self.tally.numbers[usize::from(due.1) % 32] += 1;
+        self.look().map(drop)
+    }
+
+    /// Whether a reply waits, as the baseline has it: it changes nothing for want of a buffer.
+    fn replies(&mut self) -> bool {
+        self.due.fetch(&mut []).1 == number::SHORT
+    }
+
+    /// Fetches with one buffer after another until no reply waits.
+    fn fetch_off(&mut self) -> Result<(), Difference> {
+        while self.replies() {
+            self.lent += 1;
+            self.fetch(ROOMS[self.lent % ROOMS.len()])?;
+        }
+        Ok(())
+    }
+
     fn feed(&mut self, bytes: Range<usize>, room: usize) -> Result<Fed, Difference> {
         self.calls.push(Call::Feed(bytes.clone(), room));
         let (mut records, mut kept) = (untouched(room), untouched(room));
@@ -225,6 +275,10 @@ impl<'a, P: Partner> Pair<'a, P> {
     }
 }
 
+/// The lengths of lent buffers: longer than any reply, shorter than any, none, those of some replies
+/// and next to them.
+const ROOMS: [usize; 12] = [64, 7, 37, 2, 40, 0, 25, 3, 64, 24, 38, 6];
+
 /// Records with content that no mark has, which feed and plot leave where they store nothing.
 fn untouched(room: usize) -> Vec<Record> {
     (0..room as i64).map(|i| [1, 2, 3, 4, 5].map(|k| -70_000_000 - 10 * i - k)).collect()
@@ -249,12 +303,15 @@ fn calls<P: Partner>(pair: &mut Pair<P>) -> Result<(), Difference> {
     for &byte in pair.stream {
         pair.take(byte)?;
         pair.look()?;
+        pair.fetch_off()?;
         pair.draw_off()?;
     }
-    pair.look().map(|_| ())
+    // With no reply waiting.
+    pair.fetch(0)?;
+    pair.fetch(64)
 }
 
-/// Few draws, so that bytes are refused with 20; most of those are sent again.
+/// Few draws and fetches, so that bytes are refused with 20; most of those are sent again.
 fn lazy<P: Partner>(pair: &mut Pair<P>, dice: &mut Dice) -> Result<(), Difference> {
     for &byte in pair.stream {
         while pair.take(byte)? == number::WAITS && !dice.one_in(8) {
@@ -262,12 +319,19 @@ fn lazy<P: Partner>(pair: &mut Pair<P>, dice: &mut Dice) -> Result<(), Differenc
             for _ in 0..dice.below(40) {
                 pair.draw()?;
             }
+            if dice.one_in(2) {
+                pair.fetch(dice.pick(&ROOMS))?;
+            }
         }
         pair.look()?;
         if dice.one_in(4) {
             pair.draw()?;
         }
+        if dice.one_in(32) {
+            pair.fetch(dice.pick(&ROOMS))?;
+        }
     }
+    pair.fetch_off()?;
     pair.draw_off()
 }
 
@@ -281,8 +345,11 @@ fn feeds<P: Partner>(pair: &mut Pair<P>, block: usize, room: usize) -> Result<()
         if fed.number == number::FULL && room == 0 {
             pair.draw()?;
         }
+        if fed.number == number::WAITS {
+            pair.fetch_off()?;
+        }
         if fed.number == number::NONE && at == pair.stream.len() {
-            return Ok(());
+            return pair.fetch_off();
         }
     }
 }
@@ -295,7 +362,11 @@ fn plots<P: Partner>(pair: &mut Pair<P>, block: usize, room: usize) -> Result<()
         pair.look()?;
         at += fed.taken;
         if fed.number == number::NONE && at == pair.stream.len() {
-            return Ok(());
+            return pair.fetch_off();
+        }
+        if fed.number == number::WAITS {
+            pair.fetch_off()?;
+            continue;
         }
         // Without records plot does nothing: a draw or, when idle, a take goes on.
         if room == 0 && pair.draw()? == Drawn::Idle {
@@ -310,16 +381,21 @@ fn mixed<P: Partner>(pair: &mut Pair<P>, dice: &mut Dice) -> Result<(), Differen
     while at < pair.stream.len() {
         let bytes = at..(at + dice.below(40)).min(pair.stream.len());
         let room = dice.below(9);
-        at += match dice.below(6) {
+        at += match dice.below(7) {
             0 | 1 => usize::from(pair.take(pair.stream[at])? != number::WAITS || dice.one_in(8)),
             2 => {
                 pair.draw()?;
                 0
             }
             3 | 4 => pair.feed(bytes, room)?.taken,
+            5 => {
+                pair.fetch(dice.pick(&ROOMS))?;
+                0
+            }
             _ => pair.plot(bytes, room)?.taken,
         };
         pair.look()?;
     }
+    pair.fetch_off()?;
     pair.draw_off()
 }

@@ -103,6 +103,11 @@ fn line_types() {
 }
 
 #[test]
+fn replies() {
+    search(Family::Replies, &[0, 1, 2, 3, 6, 7, 20, 21, 31]);
+}
+
+#[test]
 fn shares_make_a_whole() {
     assert_eq!(Family::ALL.iter().map(|family| family.share()).sum::<usize>(), 100);
 }

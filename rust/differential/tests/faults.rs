@@ -22,6 +22,9 @@ trait Fault {
     fn look(seen: Look) -> Look {
         seen
     }
+    fn fetch(answer: (usize, u8), _buffer: &mut [u8]) -> (usize, u8) {
+        answer
+    }
     fn feed(fed: Fed, _records: &mut [Record]) -> Fed {
         fed
     }
@@ -46,6 +49,10 @@ impl<F: Fault> Partner for Faulty<F> {
     }
     fn look(&self) -> Look {
         F::look(Partner::look(&self.0))
+    }
+    fn fetch(&mut self, buffer: &mut [u8]) -> (usize, u8) {
+        let answer = Partner::fetch(&mut self.0, buffer);
+        F::fetch(answer, buffer)
     }
     fn feed(&mut self, bytes: &[u8], records: &mut [Record]) -> Fed {
         let fed = Partner::feed(&mut self.0, bytes, records);
@@ -204,6 +211,83 @@ impl Fault for CountedFromZero {
 #[test]
 fn place_counted_from_zero() {
     found_within::<CountedFromZero>(Family::Digits, 4);
+}
+
+/// A fetch that also writes the byte after a reply.
+struct BytePast;
+impl Fault for BytePast {
+    fn fetch(answer: (usize, u8), buffer: &mut [u8]) -> (usize, u8) {
+        if let (true, Some(past)) = (answer.0 > 0, buffer.get_mut(answer.0)) {
+            *past = 0;
+        }
+        answer
+    }
+}
+
+#[test]
+fn byte_past_a_reply() {
+    let finding = found_within::<BytePast>(Family::Replies, 4);
+    assert!(finding.calls.contains("machine.fetch(&mut [0; "), "{finding}");
+}
+
+/// A fetch that counts 13 and 10 out.
+struct CountedOut;
+impl Fault for CountedOut {
+    fn fetch((length, number): (usize, u8), _: &mut [u8]) -> (usize, u8) {
+        (length.saturating_sub(2), number)
+    }
+}
+
+#[test]
+fn reply_counted_short() {
+    found_within::<CountedOut>(Family::Replies, 4);
+}
+
+/// A short buffer that is written, as far as it goes.
+struct WrittenShort;
+impl Fault for WrittenShort {
+    fn fetch(answer: (usize, u8), buffer: &mut [u8]) -> (usize, u8) {
+        if answer.1 == number::SHORT {
+            buffer.fill(b'0');
+        }
+        answer
+    }
+}
+
+#[test]
+fn short_buffer_written() {
+    found::<WrittenShort>(Family::Replies);
+}
+
+/// A feed that counts the byte that meets a reply.
+struct CountedAtReply;
+impl Fault for CountedAtReply {
+    fn feed(mut fed: Fed, _: &mut [Record]) -> Fed {
+        fed.taken += usize::from(fed.number == number::WAITS);
+        fed
+    }
+}
+
+#[test]
+fn byte_counted_at_20() {
+    found_within::<CountedAtReply>(Family::Replies, 4);
+}
+
+/// A plot that stores a refusal for the byte that meets a reply.
+struct StoredAtReply;
+impl Fault for StoredAtReply {
+    fn plot(mut fed: Fed, records: &mut [Record]) -> Fed {
+        if let (number::WAITS, Some(record)) = (fed.number, records.get_mut(fed.stored)) {
+            *record = [0, i64::from(number::WAITS), fed.taken as i64 + 1, 0, 0];
+            fed.stored += 1;
+        }
+        fed
+    }
+}
+
+#[test]
+fn refusal_stored_at_20() {
+    found_within::<StoredAtReply>(Family::Replies, 4);
 }
 
 /// Bad hard limits that are not refused.

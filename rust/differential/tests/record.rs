@@ -1,11 +1,13 @@
-//! The record tells two versions of a library apart, and has no arcs, no fifth decimal, or no turn by
-//! more than a quarter.
+//! The record tells two versions of a library apart, and has no arcs, no fifth decimal, no turn by
+//! more than a quarter, or no replies.
 
 use baseline::geometry::round_number;
 use baseline::reader::{Event, Op, Reader};
 use baseline::{number, Drawn, Fed, Look, Machine};
 use differential::partner::{Partner, Record};
-use differential::record::{four_decimals, lines, quarter_turns, recorded, without_arcs, Without};
+use differential::record::{
+    four_decimals, lines, quarter_turns, recorded, without_arcs, without_replies, Without,
+};
 use differential::streams::Family;
 
 const BYTES: usize = 20_000;
@@ -75,6 +77,26 @@ fn no_further_turn() {
     assert!(further == 0 && kept > 100, "{further} {kept}");
 }
 
+#[test]
+fn no_replies() {
+    assert_eq!(without_replies(b"OA;oPOWOHoe;ROA;O;OC".to_vec()), b"OZ;oZOZOZoZ;ROZ;O;OC");
+    let mut further = 0;
+    for &family in Without::Replies.families() {
+        let streams = recorded(Without::Replies, family, BYTES);
+        assert!(streams.iter().map(|(_, stream)| stream.len()).sum::<usize>() >= BYTES);
+        for (limits, stream) in streams {
+            let mut machine = <Machine as Partner>::fresh(limits).0;
+            for &byte in &stream {
+                machine.take(byte);
+                assert_eq!(machine.fetch(&mut []), (0, 0), "{}", stream.escape_ascii());
+                while machine.draw() != Drawn::Idle {}
+            }
+            further += turns(&stream).iter().filter(|&turn| [180, 270].contains(turn)).count();
+        }
+    }
+    assert!(further > 100, "{further}");
+}
+
 /// The proved library and the baseline have the same lines.
 fn same_lines(without: Without) {
     for &family in without.families() {
@@ -96,6 +118,11 @@ fn same_lines_without_fifth_decimals() {
 #[test]
 fn same_lines_without_further_turns() {
     same_lines(Without::FurtherTurns);
+}
+
+#[test]
+fn same_lines_without_replies() {
+    same_lines(Without::Replies);
 }
 
 #[test]
@@ -136,6 +163,10 @@ impl<const CALL: u8> Partner for Changed<CALL> {
         seen.down ^= CALL == 3 && seen.pen == 5;
         seen
     }
+    fn fetch(&mut self, buffer: &mut [u8]) -> (usize, u8) {
+        let (length, number) = self.0.fetch(buffer);
+        (length + usize::from(CALL == 7 && length > 0), number)
+    }
     fn feed(&mut self, bytes: &[u8], records: &mut [Record]) -> Fed {
         Self::short::<4>(Partner::feed(&mut self.0, bytes, records))
     }
@@ -156,4 +187,8 @@ fn a_change_is_seen() {
     assert_ne!(lines::<Changed<4>>(without, family, bytes), due);
     assert_ne!(lines::<Changed<5>>(without, family, bytes), due);
     assert_eq!(lines::<Changed<6>>(without, family, bytes), due);
+    let (without, family) = (Without::Nothing, Family::Replies);
+    let due = lines::<Machine>(without, family, BYTES);
+    assert_ne!(lines::<Changed<7>>(without, family, BYTES), due);
+    assert_eq!(lines::<Changed<6>>(without, family, BYTES), due);
 }

@@ -1,12 +1,12 @@
 //! Writes copies of the baseline, each with one fault: in its arcs for `src/arcs.rs`, in the rounding of
 //! numbers for `src/decimals.rs`, in its turns for `src/turns.rs`, in what becomes of a segment by its
-//! type for `src/line_types.rs`.
+//! type for `src/line_types.rs`, in its replies for `src/replies.rs`.
 
 use std::path::Path;
 use std::{env, fs};
 
 /// The parts of the baseline that its machine is made of.
-const PARTS: [&str; 4] = ["geometry", "reader", "machine", "feed"];
+const PARTS: [&str; 5] = ["geometry", "reader", "reply", "machine", "feed"];
 
 /// A fault: its name, the part, what is there once, and what it becomes.
 type Fault = (&'static str, &'static str, &'static str, &'static str);
@@ -269,6 +269,120 @@ const LINE_TYPES: [Fault; 11] = [
     ),
 ];
 
+/// Where a fetch writes, where OA and OW tell, and where a reply is closed and a number written.
+const WRITTEN: &str = "room.copy_from_slice(text);\n        self.work = Work::None;";
+const PLACE: &str = "let Point { x, y } = self.position.at();\n                Reply::of(";
+const WINDOW: &str = "sides(self.window.unwrap_or(hard))";
+const SIGN: &str = "if value < 0 {";
+
+const REPLIES: [Fault; 25] = [
+    ("made_at_its_name", "machine", "            _ => {}\n        }\n        Ok(())\n    }\n\n    /// The second", "            _ if asks => self.reply(),\n            _ => {}\n        }\n        Ok(())\n    }\n\n    /// The second"),
+    (
+        "cleared_by_a_fetch",
+        "machine",
+        WRITTEN,
+        "room.copy_from_slice(text);\n        self.work = Work::None;\n        self.latest = 0;",
+    ),
+    ("oe_keeps_what_it_tells", "machine", "std::mem::take(&mut self.latest)", "self.latest"),
+    ("kept_by_in", "machine", "self.latest = number::NONE;", ""),
+    (
+        "cleared_by_df",
+        "machine",
+        "self.relative = false;\n                self.rebase();",
+        "self.relative = false;\n                self.latest = 0;\n                self.rebase();",
+    ),
+    (
+        "busy_remembered",
+        "machine",
+        "return number::WAITS;",
+        "self.latest = number::WAITS;\n            return number::WAITS;",
+    ),
+    (
+        "first_refusal_kept",
+        "machine",
+        "self.latest = number;",
+        "if self.latest == 0 { self.latest = number; }",
+    ),
+    (
+        "taken_while_a_reply_waits",
+        "machine",
+        "if !matches!(self.work, Work::None) {",
+        "if self.waits() {",
+    ),
+    (
+        "byte_counted_at_20",
+        "feed",
+        "fed.taken += usize::from(refused != number::WAITS);",
+        "fed.taken += 1;",
+    ),
+    (
+        "short_buffer_written",
+        "machine",
+        "let Some(room)",
+        "if let Some(part) = text.get(..buffer.len()) { buffer.copy_from_slice(part); }\n        let Some(room)",
+    ),
+    (
+        "dropped_at_31",
+        "machine",
+        "else { return (0, number::SHORT) };",
+        "else { self.work = Work::None; return (0, number::SHORT) };",
+    ),
+    (
+        "fitting_buffer_refused",
+        "machine",
+        "let Some(room) = buffer.get_mut(..text.len()) else",
+        "let Some((room, true)) = buffer.split_at_mut_checked(text.len()).map(|(a, b)| (a, !b.is_empty())) else",
+    ),
+    (
+        "byte_past_the_reply",
+        "machine",
+        WRITTEN,
+        "room.copy_from_slice(text);\n        if let Some(past) = buffer.get_mut(text.len()) { *past = 0; }\n        self.work = Work::None;",
+    ),
+    ("dropped_by_a_draw", "machine", "            Work::None | Work::Reply(_) => Drawn::Idle,", "            Work::None | Work::Reply(_) => { self.work = Work::None; Drawn::Idle }"),
+    (
+        "oa_in_page_units",
+        "machine",
+        PLACE,
+        "let Point { x, y } = self.turn.to_page(self.position.at());\n                Reply::of(",
+    ),
+    ("oa_without_the_pen", "machine", "Reply::of(&[x, y, i64::from(self.down)])", "Reply::of(&[x, y, 0])"),
+    (
+        "corners_in_order",
+        "machine",
+        "Reply::of(&[self.p1.x, self.p1.y, self.p2.x, self.p2.y])",
+        "sides(Bounds::of_corners(self.p1, self.p2))",
+    ),
+    ("hard_limits_for_a_window", "machine", WINDOW, "sides(hard)"),
+    (
+        "window_cut_by_the_limits",
+        "machine",
+        WINDOW,
+        "sides(self.window.map_or(hard, |window| window.meet(&hard)))",
+    ),
+    (
+        "window_turned",
+        "machine",
+        WINDOW,
+        "sides(self.window.map_or(hard, |window| window.turned(self.turn)))",
+    ),
+    (
+        "turned_the_wrong_way",
+        "machine",
+        "self.turn.from_page(Point::new(x, y))",
+        "self.turn.to_page(Point::new(x, y))",
+    ),
+    (
+        "unknown_in_polygons",
+        "machine",
+        "!(op.is_move() || asks ||",
+        "!(op.is_move() || asks && op != Op::Oh ||",
+    ),
+    ("number_allowed", "reader", "line(b\"OE\", Op::Oe, 0, 0, 1)", "line(b\"OE\", Op::Oe, 0, 1, 1)"),
+    ("plus_sign", "reply", SIGN, "if value > 0 { self.push(b'+'); }\n        if value < 0 {"),
+    ("minus_zero", "reply", SIGN, "if value <= 0 {"),
+];
+
 /// The text of a part with the fault in it, if it is the one.
 fn part(source: &Path, part: &str, (name, at, right, wrong): Fault) -> String {
     let file = source.join(part).with_extension("rs");
@@ -299,6 +413,7 @@ fn main() {
         ("wrong_decimals.rs", &DECIMALS[..]),
         ("wrong_turns.rs", &TURNS[..]),
         ("wrong_line_types.rs", &LINE_TYPES[..]),
+        ("wrong_replies.rs", &REPLIES[..]),
     ];
     for (file, faults) in files {
         let copies: String = faults.iter().map(|&fault| copy(&source, fault)).collect();

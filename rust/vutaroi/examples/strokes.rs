@@ -1,9 +1,9 @@
 //! Prints the strokes of standard input, as the program strokes does: pen, x0, y0, x1, y1 a line, or
-//! E, number, byte counted from 1. The lines of what a read gave are written before the next read, so that a
+//! E, number, byte counted from 1; and each reply as soon as it is made. The lines of what a read gave are written before the next read, so that a
 //! live stream is answered as it comes. A read or a write that fails is told, and the status is 1.
 
 use std::io::{self, BufWriter, Read, Write};
-use vutaroi::{Machine, Mark};
+use vutaroi::{Machine, Mark, REPLY};
 
 const BLOCK: usize = 65_536;
 
@@ -26,6 +26,7 @@ fn main() -> io::Result<()> {
                 print(&mut output, mark, before + at)?;
             }
             at += fed.taken;
+            print_reply(&mut output, &mut machine)?;
             if fed.number == 0 {
                 break;
             }
@@ -33,6 +34,17 @@ fn main() -> io::Result<()> {
         output.flush()?;
         before += got;
     }
+}
+
+/// The reply that waits, if one does, written out at once.
+fn print_reply(output: &mut impl Write, machine: &mut Machine) -> io::Result<()> {
+    let mut reply = [0; REPLY];
+    let fetched = machine.fetch(&mut reply).map_err(io::Error::other)?;
+    if fetched.length > 0 {
+        output.write_all(&reply[..fetched.length])?;
+        output.flush()?;
+    }
+    Ok(())
 }
 
 /// One read; one that a signal interrupted is tried again.

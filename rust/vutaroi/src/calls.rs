@@ -2,10 +2,10 @@
 //! the crate. What makes it sound: a slice crosses as its pointer and its length, no two overlap, and
 //! the library is proved for all lists: one that is no machine is refused.
 
-use crate::{Fed, Mark, NoMachine, Stroke};
+use crate::{Fed, Fetched, Mark, NoMachine, Stroke};
 
 /// The numbers of a machine: `VUTAROI_NUMBERS` of `include/vutaroi.h`.
-pub const NUMBERS: usize = 645;
+pub const NUMBERS: usize = 650;
 
 /// The numbers of a call that was handed no machine, or a list that is too short.
 const NO_MACHINE: u8 = 40;
@@ -34,6 +34,14 @@ extern "C" {
         state_len: usize,
         seen: *mut i64,
         seen_len: usize,
+    ) -> u8;
+    fn vutaroi_fetch(
+        state: *mut i64,
+        state_len: usize,
+        out: *mut u8,
+        out_len: usize,
+        answer: *mut u64,
+        answer_len: usize,
     ) -> u8;
     fn vutaroi_feed(
         state: *mut i64,
@@ -93,6 +101,22 @@ pub fn look(state: &State) -> Result<[i64; 5], NoMachine> {
     // SAFETY: the counts are the lists'; the call only reads the state.
     gone(unsafe { vutaroi_look(state.as_ptr(), NUMBERS, seen.as_mut_ptr(), seen.len()) })?;
     Ok(seen)
+}
+
+pub fn fetch(state: &mut State, out: &mut [u8]) -> Result<Fetched, NoMachine> {
+    let mut answer = [0u64; 1];
+    // SAFETY: the counts are the lists'.
+    let number = unsafe {
+        vutaroi_fetch(
+            state.as_mut_ptr(),
+            NUMBERS,
+            out.as_mut_ptr(),
+            out.len(),
+            answer.as_mut_ptr(),
+            answer.len(),
+        )
+    };
+    Ok(Fetched { length: answer[0] as usize, number: gone(number)? })
 }
 
 pub fn feed(state: &mut State, bytes: &[u8], strokes: &mut [Stroke]) -> Result<Fed, NoMachine> {

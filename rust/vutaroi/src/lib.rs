@@ -1,4 +1,4 @@
-//! An HP-GL machine for painting rink lines: bytes in, strokes out.
+//! An HP-GL machine for painting rink lines: bytes in, strokes and replies out.
 //!
 //! A safe wrapper of the proved library `libvutaroi.a`. Each method is one call of it; the library's
 //! contracts say what a call does (README.md: what crosses the boundary, and what is not proved
@@ -26,6 +26,9 @@ use std::error::Error;
 use std::fmt;
 
 pub use calls::NUMBERS;
+
+/// The bytes of the longest reply: `VUTAROI_REPLY` of `include/vutaroi.h`.
+pub const REPLY: usize = 37;
 
 /// The machine. It comes from [`Machine::fresh`], or from numbers that were kept, and only the calls
 /// change it.
@@ -112,6 +115,15 @@ pub struct Look {
     pub bytes: i64,
 }
 
+/// What [`Machine::fetch`] answers.
+#[derive(Clone, Copy, Debug, PartialEq, Eq, Hash)]
+pub struct Fetched {
+    /// The bytes that were written, from the first on; the others keep their content.
+    pub length: usize,
+    /// 31 if the buffer was shorter than the reply, which still waits; else 0.
+    pub number: u8,
+}
+
 /// How far [`Machine::feed`] or [`Machine::plot`] went.
 #[derive(Clone, Copy, Debug, PartialEq, Eq, Hash)]
 pub struct Fed {
@@ -119,7 +131,8 @@ pub struct Fed {
     pub taken: usize,
     /// The records that were stored, from the first on; the others keep their content.
     pub stored: usize,
-    /// The number of the last byte, if it was refused; 21 if the list was full; 0 if all was done.
+    /// The number of the last byte, if it was refused; 21 if the list was full; 20 if a reply waits
+    /// and the next byte, which is not counted, has to wait for it; 0 if all was done.
     pub number: u8,
 }
 
@@ -157,7 +170,7 @@ impl Machine {
         &self.state
     }
 
-    /// Takes one byte. While a segment waits the number is 20, and nothing changes.
+    /// Takes one byte. While a segment or a reply waits the number is 20, and nothing changes.
     pub fn take(&mut self, byte: u8) -> Result<u8, NoMachine> {
         calls::take(&mut self.state, byte)
     }
@@ -178,16 +191,24 @@ impl Machine {
         Ok(Look { x, y, pen, down: down != 0, bytes })
     }
 
+    /// Writes the reply that waits, that of OA, OP, OW, OH or OE, closed by 13 and 10, into a
+    /// buffer. With no reply waiting the length is 0. [`REPLY`] bytes hold any reply; where the
+    /// buffer is shorter than this one, nothing is written and it still waits.
+    pub fn fetch(&mut self, out: &mut [u8]) -> Result<Fetched, NoMachine> {
+        calls::fetch(&mut self.state, out)
+    }
+
     /// Bytes in, strokes out: draws while a segment waits and a record is free, else takes the next
     /// byte. Stops after a byte that is refused, which counts as taken; with 21 where a segment waits
-    /// and no record is free; or with 0 where all bytes are taken and no segment waits.
+    /// and no record is free; with 20 before a byte that a waiting reply refuses, which does not
+    /// count; or with 0 where all bytes are taken and no segment waits.
     pub fn feed(&mut self, bytes: &[u8], strokes: &mut [Stroke]) -> Result<Fed, NoMachine> {
         calls::feed(&mut self.state, bytes, strokes)
     }
 
     /// As [`Machine::feed`], but a refused byte is stored as a mark among the strokes, and the bytes
     /// after it are taken. A byte is taken only while a record is free, since it may be refused:
-    /// without one the number is 21.
+    /// without one the number is 21. It too stops with 20 where a reply waits.
     pub fn plot(&mut self, bytes: &[u8], marks: &mut [Mark]) -> Result<Fed, NoMachine> {
         calls::plot(&mut self.state, bytes, marks)
     }
@@ -234,6 +255,23 @@ mod tests {
         let stroke = Stroke { pen: 2, x0: 0, y0: 0, x1: 7, y1: 9 };
         assert_eq!(machine.draw(), Ok(Drawn::Stroke(stroke)));
         assert_eq!(machine.look(), Ok(Look { x: 7, y: 9, pen: 2, down: true, bytes: 0 }));
+    }
+
+    #[test]
+    fn a_reply_waits_until_it_is_fetched() {
+        let (mut machine, _) = Machine::fresh(-10000, -7000, 10000, 7000);
+        let mut marks = [Mark::default(); 4];
+        let mut out = *b"0123456789";
+        assert_eq!(machine.fetch(&mut []), Ok(Fetched { length: 0, number: 0 }));
+        let fed = machine.plot(b"PA3,-4;OA;PU;", &mut marks);
+        assert_eq!(fed, Ok(Fed { taken: 10, stored: 0, number: 20 }));
+        assert_eq!(machine.take(b';'), Ok(20));
+        assert_eq!(machine.fetch(&mut out[..7]), Ok(Fetched { length: 0, number: 31 }));
+        assert_eq!(&out, b"0123456789");
+        assert_eq!(machine.fetch(&mut out), Ok(Fetched { length: 8, number: 0 }));
+        assert_eq!(&out, b"3,-4,0\r\n89");
+        assert_eq!(machine.fetch(&mut out), Ok(Fetched { length: 0, number: 0 }));
+        assert_eq!(machine.take(b';'), Ok(0));
     }
 
     #[test]

@@ -38,8 +38,10 @@ batch-spec =
     (λ c. search needs)
     chords-requires
     (λ c. search needs)
+    (λ c. search needs)
     (λ c. let s : tie.Start = search in never (ap batchedOf (c .enum-told .given .1)) (s .pre .3))
     (λ c. let s : tie.Start = search in never (ap batchedOf (c .enum-told2 .given .1)) (s .pre .3))
     (λ c. search needs)
     returns-3
-    (λ c. let s : tie.Start = search in never (ap batchedOf (c .enum-told3 .given .1)) (s .pre .3)))
+    (λ c. let s : tie.Start = search in never (ap batchedOf (c .enum-told3 .given .1)) (s .pre .3))
+    (λ c. let s : tie.Start = search in never (ap batchedOf (c .enum-told4 .given .1)) (s .pre .3)))

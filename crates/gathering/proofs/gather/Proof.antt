@@ -37,8 +37,9 @@ use Rattle.hpgl.specs.declared.State.{State}
 use Rattle.hpgl.specs.Numbers.{mostEdges, polygonBytes}
 use Rattle.feeding.specs.Plot.{Plot, refusal}
 use Rattle.hpgl.specs.Place.{limits}
-use Rattle.hpgl.specs.Rules.{longer, refuse, pairRule, actOn}
-use Rattle.hpgl.specs.Machine.{noEdge, waiting, stored, queued, drawAnswer}
+use Rattle.hpgl.specs.Rules.{longer, refuse, pairRule, noting, actOn}
+use Rattle.hpgl.specs.Machine.{noEdge, waiting, occupied, stored, queued, drawAnswer}
+use Rattle.hpgl.specs.Replies.{remembering, remembered}
 use Rattle.hpgl.specs.Segment.{segmentOf, drawnOf, segment-drawn, SmallSegment, segment-small}
 use Rattle.hpgl.specs.Valid.{ValidActed, ValidEvent, ValidAction}
 use Rattle.hpgl.specs.ValidFacts.{edge-small, limits-small}
@@ -50,12 +51,13 @@ use Rattle.rulekit.specs.declared.hand.Pointed.{Pointed as Placed}
 use Rattle.queue.specs.Alone.{action-alone}
 use Rattle.queue.specs.First.{place-within}
 use Rattle.queue.specs.Corners.{segmentIn}
-use Rattle.rulekit.specs.Hand.{frameOf, handOf, carriageOf, coreOf, lineOf, pointedOf, locationIn, ValidParts}
+use Rattle.rulekit.specs.Hand.{frameOf, handOf, carriageOf, coreOf, notedHand, noted-parts, lineOf, pointedOf, locationIn, ValidParts}
 use Rattle.rulekit.specs.Locating.{frame-rows, hand-locatable}
 use Rattle.gathering.specs.Gather.{whole, gatherFrom, recordOf}
 use Rattle.gathering.specs.Far.{Far, Reached, Batching}
+use Rattle.gathering.specs.GatherLaws.{idle-free}
 use Rattle.gathering.proofs.Turns.{leaves, reader-on, acting, none-acts, refused-acts, ended-acts, settled-acts, pair-acts, pair-refused, named-acts, unknown-acts, unstored}
-use Rattle.gathering.proofs.Gathers.{waits-most, waits-less, byte-remains, none-remains, far-start, far-free, put-fits, far-fits, far-halted, far-end, far-draw, far-next, ends}
+use Rattle.gathering.proofs.Gathers.{waits-most, waits-less, byte-remains, none-remains, far-start, far-free, far-silent, put-fits, far-fits, far-halted, far-end, far-draw, far-next, ends}
 use Rattle.gathering.proofs.Moving.{letters-position, doing, next-turned, next-fits, next-full, next-kept, next-small, next-drawn, next-point, next-outline, refusal-some, next-refusal, next-refused}
 use Rattle.gathering.proofs.Chording.{alone-waits}
 use Rattle.gathering.proofs.gather.Statement.{statement}
@@ -148,6 +150,13 @@ Met = tie.At-match-came Inv-loop μ-loop
 abbrev Declined : Type 0
 Declined = tie.After-passed-over2 Inv-loop μ-loop
 
+-- where its number is remembered
+abbrev Refusal-noted : Type 0
+Refusal-noted = tie.After-noted Inv-loop μ-loop
+
+abbrev Declined-noted : Type 0
+Declined-noted = tie.After-noted2 Inv-loop μ-loop
+
 abbrev handed : Loop → tie.After-hand-of Inv-loop μ-loop
 handed l = search
 
@@ -222,11 +231,8 @@ full-core k = k .core-of2 .ensures
 rule-core : (k : Rule-core) → let q : Read = search in k .core-of3 .result ≡ here (loop q) .core
 rule-core k = k .core-of3 .ensures
 
-declined-core : (k : tie.After-core-of4 Inv-loop μ-loop) → let j : Met = search in k .core-of4 .result ≡ here (loop (met j)) .core
-declined-core k = k .core-of4 .ensures
-
-end-core : (k : tie.After-core-of5 Inv-loop μ-loop) → let l : Loop = search in k .core-of5 .result ≡ here l .core
-end-core k = k .core-of5 .ensures
+end-core : (k : tie.After-core-of6 Inv-loop μ-loop) → let l : Loop = search in k .core-of6 .result ≡ here l .core
+end-core k = k .core-of6 .ensures
 
 -- the parts of the core that a rule leaves
 abbrev new-hand : Ruled → Hand
@@ -256,6 +262,22 @@ line-is d = d .drawn-of2 .ensures
 -- the second tail of a refusal
 declined-is : (p : Declined) → let j : Met = search in p .passed-over2 .result ≡ passedOver (met j .next .result .reader)
 declined-is p = p .passed-over2 .ensures
+
+-- the number is remembered in the hand, which stays where it is
+declined-noted : (n : Declined-noted) → let j : Met = search in
+    let l = loop (met j) .loop in
+    coreOf (l .settings) (n .noted2 .result) (l .polygon) ≡ noting (j .match .number) (here (loop (met j)) .core)
+declined-noted n =
+    let j : Met = search in
+    let l = loop (met j) .loop in
+    ap (λ (h : Hand). coreOf (l .settings) h (l .polygon)) (n .noted2 .ensures) ∙ noted-parts (l .settings) (l .hand) (l .polygon) (j .match .number)
+
+declined-place : (n : Declined-noted) → let j : Met = search in n .noted2 .result .position ≡ loop (met j) .loop .hand .position
+unfolding notedHand
+declined-place n = ap (λ (h : Hand). h .position) (n .noted2 .ensures)
+
+declined-core : (k : tie.After-core-of5 Inv-loop μ-loop) → let j : Met = search in k .core-of5 .result ≡ noting (j .match .number) (here (loop (met j)) .core)
+declined-core k = k .core-of5 .ensures ∙ declined-noted search
 
 declined-made : (x : tie.After-refusal-record2 Inv-loop μ-loop) → let j : Met = search in x .refusal-record2 .result ≡ recordOf (refusal (j .match .number) (met j .next .result .at))
 declined-made x = x .refusal-record2 .ensures
@@ -292,6 +314,12 @@ goes-on l f = (again l f, l .loop .inv .1, l .loop .inv .2)
 -- where a byte is taken no segment waits, and there is one
 idle : (q : Read) → waiting (loop q .loop .work) ≡ 0
 idle q = let e : Going = search in omega (arith, e .waiting .ensures)
+
+-- nor a reply
+vacant : (q : Read) → occupied (loop q .loop .work) ≡ false
+vacant q =
+    let h : tie.After-halted Inv-loop μ-loop = search in
+    idle-free (loop q .loop .work) (idle q) (far-silent (far (loop q)) (h .halted .ensures) (omega arith))
 
 more : (q : Read) → loop q .loop .at < length (entry (loop q) .args .bytes .now)
 more q =
@@ -377,7 +405,7 @@ Reaches l n = let s = entry l .args in Reached (s .on) (All l) (s .bytes .now) (
 reached : (q : Read) → Reaches (loop q) (q .next .result)
 reached q =
     let l = loop q in
-    subst (Reaches l) (sym (q .next .ensures)) (far-next (free-taken q) (far l) (idle q) (more q))
+    subst (Reaches l) (sym (q .next .ensures)) (far-next (free-taken q) (far l) (vacant q) (more q))
 
 abbrev told : Read → Event
 told q = q .next .result .event
@@ -503,12 +531,33 @@ core-now r = coreOf (did r .core .settings) (new-hand r) (did r .core .carriage 
 core-is : (r : Ruled) → core-now r ≡ did r .core
 core-is r = ap (λ (h : Hand). coreOf (did r .core .settings) h (did r .core .carriage .polygon)) (hand-is r)
 
+-- carried out, there is nothing to remember
+core-kept : (r : Ruled) → did r .number ≡ 0 → core-now r ≡ noting (did r .number) (did r .core)
+unfolding noting remembering remembered
+core-kept r z = core-is r ∙ sym (ap (λ (k : ℕ). noting k (did r .core)) z)
+
+-- refused, its number is, in the hand, which stays where it is
+refusal-noted : (n : Refusal-noted) → let r : Ruled = search in
+    coreOf (did r .core .settings) (n .noted .result) (did r .core .carriage .polygon) ≡ noting (did r .number) (did r .core)
+refusal-noted n =
+    let r : Ruled = search in
+    let s = did r .core .settings in
+    let g = did r .core .carriage .polygon in
+    ap (λ (h : Hand). coreOf s h g) (n .noted .ensures) ∙ noted-parts s (new-hand r) g (did r .number) ∙ ap (noting (did r .number)) (core-is r)
+
+refusal-place : (n : Refusal-noted) → let r : Ruled = search in n .noted .result .position ≡ new-hand r .position
+unfolding notedHand
+refusal-place n = ap (λ (h : Hand). h .position) (n .noted .ensures)
+
+refusal-core : (k : tie.After-core-of4 Inv-loop μ-loop) → let r : Ruled = search in k .core-of4 .result ≡ noting (did r .number) (did r .core)
+refusal-core k = k .core-of4 .ensures ∙ refusal-noted search
+
 -- carried out, with the edges and the work that the action leaves
 taken : (r : Ruled) {st : Store} {w : Work} → did r .number ≡ 0 → let l = loop (read r) .loop in
     st .edges ≡ stored (l .store .edges) (l .polygon .edges) (did r .action) → w ≡ leaves (l .store .edges) (l .polygon .edges) (did r .core) (did r .action) → Left (read r) (core-now r) st w
 taken r z e f =
     let q = read r in
-    next-turned (reached q) (record { step = reached q .step; act = acts (ended r); reader = reader-on _ z; core = core-is r; edges = e; work = f }) z (free-taken q)
+    next-turned (reached q) (record { step = reached q .step; act = acts (ended r); reader = reader-on _ z; core = core-kept r z; edges = e; work = f }) z (free-taken q)
 
 refused : (p : Passed) → let r : Ruled = search in did r .number ≡ 0 → ⊥
 refused p e = omega (arith, e)
@@ -670,16 +719,21 @@ refusal-on : Refusal-on Inv-loop μ-loop
 refusal-on c =
     let r : Ruled = search in
     let p : Passed = search in
+    let n : Refusal-noted = search in
     let x : tie.After-refusal-record Inv-loop μ-loop = search in
+    let f : Rule-frame = search in
     let q = read r in
-    let o : entry (loop q) .args .on ≡ true = search in
-    (again (loop q) (next-refusal (reached q) (acts (ended r)) (refused p) (p .passed-over .ensures) (core-is r) o (free-taken q o) (x .refusal-record .ensures) (search) (search)), search, located-now r)
+    let o : entry (loop q) .args .on ≡ true = search in (
+      again (loop q) (next-refusal (reached q) (acts (ended r)) (refused p) (p .passed-over .ensures) (refusal-noted n) o (free-taken q o) (x .refusal-record .ensures) (search) (search)),
+      search,
+      located-now r ∙ ap (locationIn (f .frame-of2 .result)) (sym (refusal-place n)),
+    )
 
 refusal-returns : Refusal-returns Inv-loop μ-loop
 refusal-returns c =
     let r : Ruled = search in
     let p : Passed = search in
-    ends (search) refl (next-refused (reached (read r)) (acts (ended r)) (refused p) (p .passed-over .ensures) refl (search))
+    ends (search) (refusal-core search) (next-refused (reached (read r)) (acts (ended r)) (refused p) (p .passed-over .ensures) refl (search))
 
 join-on : Join-on Inv-loop μ-loop
 unfolding stored queued
@@ -696,7 +750,11 @@ declined-on c =
     let q = met j in
     let l = loop q in
     let o : entry l .args .on ≡ true = search in
-    goes-on l (next-refusal (reached q) (declines j .does) (declines j .some) (declined-is (search)) refl o (free-taken q o) (declined-made (search)) (search) (search))
+    let n : Declined-noted = search in (
+      again l (next-refusal (reached q) (declines j .does) (declines j .some) (declined-is (search)) (declined-noted n) o (free-taken q o) (declined-made (search)) (search) (search)),
+      l .loop .inv .1,
+      l .loop .inv .2 ∙ ap (locationIn (l .loop .frame)) (sym (declined-place n)),
+    )
 
 declined-returns : Declined-returns Inv-loop μ-loop
 declined-returns c =
@@ -787,10 +845,12 @@ gather-spec =
     (λ c κs. search needs)
     rule-located
     (λ c κs. search needs)
+    (λ c κs. search needs)
     (λ c κs. let r : Ruled = search in place-small (read r))
     (λ c κs. let r : Ruled = search in far-fits (far (loop (read r))) (free-taken (read r) (search)))
     (λ c. let r : Ruled = search in none-less (read r))
     refusal-on
+    (λ c κs. search needs)
     (λ c κs. search needs)
     (λ c. let r : Ruled = search in far (loop (read r)) .long)
     refusal-returns
@@ -808,6 +868,7 @@ gather-spec =
     (λ c. let r : Ruled = search in left-less (read r) (unmoved (search) (search) (action-queued search)))
     (λ c. let r : Ruled = search in (again (loop (read r)) (unmoved (search) (search) (action-queued search)), search, located-now r))
     (λ c. search needs)
+    (λ c κs. search needs)
     (λ c κs. search needs)
     (λ c κs. let j : Met = search in place-small (met j))
     (λ c κs. let j : Met = search in far-fits (far (loop (met j))) (free-taken (met j) (search)))

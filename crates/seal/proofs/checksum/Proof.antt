@@ -12,15 +12,15 @@ use Rattle.exact.specs.Fit.{Bd, Num, m64, put, fit, fits64, ret, of-nat, at-mos
 use Rattle.exact.specs.Whole.{is, Z}
 use Rattle.rows.specs.Rows.{rowAt}
 use Rattle.seal.specs.Seal.{weighed, checksumOf}
-use Rattle.seal.specs.Light.{mostAt, Light, weighOf, Weighs, weigh-size, heavy, heavy-most, heavy-more, light-weighs, weighed-more, weighed-all}
+use Rattle.seal.specs.Light.{rowCount, mostAt, Light, weighOf, Weighs, weigh-size, heavy, mostSum, heavy-most, heavy-more, light-weighs, weighed-more, weighed-all}
 use Rattle.seal.proofs.checksum.Statement.{statement}
 use Rattle.seal.proofs.checksum.Tie as tie
 
 abbrev Inv-loop : tie.InvT-loop
-Inv-loop numbers sum₀ k₀ sum k = (k ≤ 128) × Bd (toZ w64 sum) (heavy k) × (checksumOf numbers ≡ toZ w64 sum +ℤ weighed (k * 5 + 1) (drop (k * 5) numbers))
+Inv-loop numbers sum₀ k₀ sum k = (k ≤ rowCount) × Bd (toZ w64 sum) (heavy k) × (checksumOf numbers ≡ toZ w64 sum +ℤ weighed (k * 5 + 1) (drop (k * 5) numbers))
 
 abbrev μ-loop : tie.MeasureT-loop
-μ-loop numbers sum₀ k₀ sum k = 128 - k
+μ-loop numbers sum₀ k₀ sum k = rowCount - k
 
 module _ (r : tie.After-row-at Inv-loop μ-loop) where
   abbrev zs : List ℤ
@@ -29,7 +29,7 @@ module _ (r : tie.After-row-at Inv-loop μ-loop) where
   abbrev k : ℕ
   k = r .before .before .loop .k
 
-  more : k < 128
+  more : k < rowCount
   more = omega (arith, r .before .loop-test .taken)
 
   light : Light zs
@@ -54,13 +54,13 @@ module _ (w : tie.After-weigh Inv-loop μ-loop) where
       ret w64 (w .weigh .ok) (w .weigh .ensures ∙ (λ i. weighOf (place r i) (r .row-at .ensures i)))
       (weigh-size (k r * 5) (mostAt (k r)) (light r .row (k r) (more r)))
 
-  size : heavy (k r) + (k r * 5 * 5 + 15) * mostAt (k r) ≤ 7000000000000000000
+  size : heavy (k r) + (k r * 5 * 5 + 15) * mostAt (k r) ≤ mostSum
   size = omega (arith, heavy-more (k r), heavy-most (k r + 1) (omega (arith, more r)))
 
-  total : Num (sum +ℤ m64 (w .weigh .result)) (sum +ℤ part) 7000000000000000000
+  total : Num (sum +ℤ m64 (w .weigh .result)) (sum +ℤ part) mostSum
   total = at-most (record { is = refl; size = r .before .before .loop .inv .1 } ⊕ weighs) size
 
-  next : Num (m64 (sum +ℤ m64 (w .weigh .result))) (sum +ℤ part) 7000000000000000000
+  next : Num (m64 (sum +ℤ m64 (w .weigh .result))) (sum +ℤ part) mostSum
   next = put w64 total tt
 
 loop-holds : tie.Need-loop-holds Inv-loop μ-loop

@@ -24,6 +24,9 @@ row-at-requires-4 c κs = search needs
 row-at-requires-5 : tie.Need-row-at-requires-5
 row-at-requires-5 c κs = search needs
 
+row-at-requires-6 : tie.Need-row-at-requires-6
+row-at-requires-6 c κs = search needs
+
 carriage-sound-requires : tie.Need-carriage-sound-requires
 carriage-sound-requires c κs = let s : tie.Start = search in let g : tie.After-settings-at = search in subst ValidSettings (sym (g .settings-at .ensures)) (s .pre .1)
 
@@ -36,7 +39,8 @@ returns c =
     let r2 : tie.After-row-at3 = search in
     let r3 : tie.After-row-at4 = search in
     let r4 : tie.After-row-at5 = search in
-    c .carriage-sound .ensures ∙ (λ i. carriageSound (g .settings-at .ensures i) (r3 .row-at4 .ensures i) (r4 .row-at5 .ensures i) (r0 .row-at .ensures i) (r1 .row-at2 .ensures i) (r2 .row-at3 .ensures i))
+    let r5 : tie.After-row-at6 = search in
+    c .carriage-sound .ensures ∙ (λ i. carriageSound (g .settings-at .ensures i) (r4 .row-at5 .ensures i) (r5 .row-at6 .ensures i) (r0 .row-at .ensures i) (r1 .row-at2 .ensures i) (r2 .row-at3 .ensures i) (r3 .row-at4 .ensures i))
 
 pub carriage-here-spec : {M : Type 1} → statement M
 carriage-here-spec =
@@ -48,5 +52,6 @@ carriage-here-spec =
     row-at-requires-3
     row-at-requires-4
     row-at-requires-5
+    row-at-requires-6
     carriage-sound-requires
     returns)

@@ -7,7 +7,7 @@ use lib.IntN.{ℤ}
 use mathlib.Core.List.{List}
 use Rattle.rows.specs.Rows.{rowAt}
 use Rattle.hpgl.specs.Valid.{ValidSettings}
-use Rattle.saved.specs.Places.{limitsPlace, cornersPlace, scalePlace, windowPlace, positionPlace, penPlace, polygonPlace, firstPlace, savedPlace, workPlace, acrossPlace, alongPlace, startPlace}
+use Rattle.saved.specs.Places.{limitsPlace, cornersPlace, scalePlace, windowPlace, positionPlace, penPlace, polygonPlace, firstPlace, savedPlace, memoryPlace, workPlace, acrossPlace, alongPlace, startPlace}
 use Rattle.saved.specs.Saved.{settingsAt}
 use Rattle.wellformed.specs.PartLaws.{settings-law}
 use Rattle.wellformed.specs.Sound.{readerSound, settingsSound, carriageSound, knownSound, workSound, inkedSound, soundOf}
@@ -64,7 +64,7 @@ returns-3 c =
     let e2 : settingsSound (rowAt (s .args .numbers .now) limitsPlace) (rowAt (s .args .numbers .now) cornersPlace) (rowAt (s .args .numbers .now) scalePlace) (rowAt (s .args .numbers .now) windowPlace) ≡ true = sym (a2 .settings-here .ensures) ∙ not-false _ (t2 .if2 .left) in
     let a3 : tie.After-carriage-here = search in
     let t3 : tie.Then3 = search in
-    let e3 : carriageSound (settingsAt (s .args .numbers .now)) (rowAt (s .args .numbers .now) positionPlace) (rowAt (s .args .numbers .now) penPlace) (rowAt (s .args .numbers .now) polygonPlace) (rowAt (s .args .numbers .now) firstPlace) (rowAt (s .args .numbers .now) savedPlace) ≡ false = sym (a3 .carriage-here .ensures) ∙ not-true _ (t3 .if3 .taken) in
+    let e3 : carriageSound (settingsAt (s .args .numbers .now)) (rowAt (s .args .numbers .now) positionPlace) (rowAt (s .args .numbers .now) penPlace) (rowAt (s .args .numbers .now) polygonPlace) (rowAt (s .args .numbers .now) firstPlace) (rowAt (s .args .numbers .now) savedPlace) (rowAt (s .args .numbers .now) memoryPlace) ≡ false = sym (a3 .carriage-here .ensures) ∙ not-true _ (t3 .if3 .taken) in
     rw (e1, e2, e3) refl
 
 known-here-requires : tie.Need-known-here-requires
@@ -82,7 +82,7 @@ returns-4 c =
     let e2 : settingsSound (rowAt (s .args .numbers .now) limitsPlace) (rowAt (s .args .numbers .now) cornersPlace) (rowAt (s .args .numbers .now) scalePlace) (rowAt (s .args .numbers .now) windowPlace) ≡ true = sym (a2 .settings-here .ensures) ∙ not-false _ (t2 .if2 .left) in
     let a3 : tie.After-carriage-here = search in
     let t3 : tie.Else3 = search in
-    let e3 : carriageSound (settingsAt (s .args .numbers .now)) (rowAt (s .args .numbers .now) positionPlace) (rowAt (s .args .numbers .now) penPlace) (rowAt (s .args .numbers .now) polygonPlace) (rowAt (s .args .numbers .now) firstPlace) (rowAt (s .args .numbers .now) savedPlace) ≡ true = sym (a3 .carriage-here .ensures) ∙ not-false _ (t3 .if3 .left) in
+    let e3 : carriageSound (settingsAt (s .args .numbers .now)) (rowAt (s .args .numbers .now) positionPlace) (rowAt (s .args .numbers .now) penPlace) (rowAt (s .args .numbers .now) polygonPlace) (rowAt (s .args .numbers .now) firstPlace) (rowAt (s .args .numbers .now) savedPlace) (rowAt (s .args .numbers .now) memoryPlace) ≡ true = sym (a3 .carriage-here .ensures) ∙ not-false _ (t3 .if3 .left) in
     let a4 : tie.After-known-here = search in
     let t4 : tie.Then4 = search in
     let e4 : knownSound (rowAt (s .args .numbers .now) 0) (rowAt (s .args .numbers .now) polygonPlace) ≡ false = sym (a4 .known-here .ensures) ∙ not-true _ (t4 .if4 .taken) in
@@ -103,7 +103,7 @@ returns-5 c =
     let e2 : settingsSound (rowAt (s .args .numbers .now) limitsPlace) (rowAt (s .args .numbers .now) cornersPlace) (rowAt (s .args .numbers .now) scalePlace) (rowAt (s .args .numbers .now) windowPlace) ≡ true = sym (a2 .settings-here .ensures) ∙ not-false _ (t2 .if2 .left) in
     let a3 : tie.After-carriage-here = search in
     let t3 : tie.Else3 = search in
-    let e3 : carriageSound (settingsAt (s .args .numbers .now)) (rowAt (s .args .numbers .now) positionPlace) (rowAt (s .args .numbers .now) penPlace) (rowAt (s .args .numbers .now) polygonPlace) (rowAt (s .args .numbers .now) firstPlace) (rowAt (s .args .numbers .now) savedPlace) ≡ true = sym (a3 .carriage-here .ensures) ∙ not-false _ (t3 .if3 .left) in
+    let e3 : carriageSound (settingsAt (s .args .numbers .now)) (rowAt (s .args .numbers .now) positionPlace) (rowAt (s .args .numbers .now) penPlace) (rowAt (s .args .numbers .now) polygonPlace) (rowAt (s .args .numbers .now) firstPlace) (rowAt (s .args .numbers .now) savedPlace) (rowAt (s .args .numbers .now) memoryPlace) ≡ true = sym (a3 .carriage-here .ensures) ∙ not-false _ (t3 .if3 .left) in
     let a4 : tie.After-known-here = search in
     let t4 : tie.Else4 = search in
     let e4 : knownSound (rowAt (s .args .numbers .now) 0) (rowAt (s .args .numbers .now) polygonPlace) ≡ true = sym (a4 .known-here .ensures) ∙ not-false _ (t4 .if4 .left) in
@@ -127,7 +127,7 @@ returns-6 c =
     let e2 : settingsSound (rowAt (s .args .numbers .now) limitsPlace) (rowAt (s .args .numbers .now) cornersPlace) (rowAt (s .args .numbers .now) scalePlace) (rowAt (s .args .numbers .now) windowPlace) ≡ true = sym (a2 .settings-here .ensures) ∙ not-false _ (t2 .if2 .left) in
     let a3 : tie.After-carriage-here = search in
     let t3 : tie.Else3 = search in
-    let e3 : carriageSound (settingsAt (s .args .numbers .now)) (rowAt (s .args .numbers .now) positionPlace) (rowAt (s .args .numbers .now) penPlace) (rowAt (s .args .numbers .now) polygonPlace) (rowAt (s .args .numbers .now) firstPlace) (rowAt (s .args .numbers .now) savedPlace) ≡ true = sym (a3 .carriage-here .ensures) ∙ not-false _ (t3 .if3 .left) in
+    let e3 : carriageSound (settingsAt (s .args .numbers .now)) (rowAt (s .args .numbers .now) positionPlace) (rowAt (s .args .numbers .now) penPlace) (rowAt (s .args .numbers .now) polygonPlace) (rowAt (s .args .numbers .now) firstPlace) (rowAt (s .args .numbers .now) savedPlace) (rowAt (s .args .numbers .now) memoryPlace) ≡ true = sym (a3 .carriage-here .ensures) ∙ not-false _ (t3 .if3 .left) in
     let a4 : tie.After-known-here = search in
     let t4 : tie.Else4 = search in
     let e4 : knownSound (rowAt (s .args .numbers .now) 0) (rowAt (s .args .numbers .now) polygonPlace) ≡ true = sym (a4 .known-here .ensures) ∙ not-false _ (t4 .if4 .left) in
@@ -154,7 +154,7 @@ returns-7 c =
     let e2 : settingsSound (rowAt (s .args .numbers .now) limitsPlace) (rowAt (s .args .numbers .now) cornersPlace) (rowAt (s .args .numbers .now) scalePlace) (rowAt (s .args .numbers .now) windowPlace) ≡ true = sym (a2 .settings-here .ensures) ∙ not-false _ (t2 .if2 .left) in
     let a3 : tie.After-carriage-here = search in
     let t3 : tie.Else3 = search in
-    let e3 : carriageSound (settingsAt (s .args .numbers .now)) (rowAt (s .args .numbers .now) positionPlace) (rowAt (s .args .numbers .now) penPlace) (rowAt (s .args .numbers .now) polygonPlace) (rowAt (s .args .numbers .now) firstPlace) (rowAt (s .args .numbers .now) savedPlace) ≡ true = sym (a3 .carriage-here .ensures) ∙ not-false _ (t3 .if3 .left) in
+    let e3 : carriageSound (settingsAt (s .args .numbers .now)) (rowAt (s .args .numbers .now) positionPlace) (rowAt (s .args .numbers .now) penPlace) (rowAt (s .args .numbers .now) polygonPlace) (rowAt (s .args .numbers .now) firstPlace) (rowAt (s .args .numbers .now) savedPlace) (rowAt (s .args .numbers .now) memoryPlace) ≡ true = sym (a3 .carriage-here .ensures) ∙ not-false _ (t3 .if3 .left) in
     let a4 : tie.After-known-here = search in
     let t4 : tie.Else4 = search in
     let e4 : knownSound (rowAt (s .args .numbers .now) 0) (rowAt (s .args .numbers .now) polygonPlace) ≡ true = sym (a4 .known-here .ensures) ∙ not-false _ (t4 .if4 .left) in

@@ -1,6 +1,6 @@
 -- A machine of fresh may be used, and nothing waits.
 use borrow.Author.Needs.{needs}
-use Rattle.plotting.specs.PlottedLaws.{started-usable, started-idle}
+use Rattle.plotting.specs.PlottedLaws.{started-usable, started-free}
 use Rattle.survey.proofs.main.Statement.{statement}
 use Rattle.survey.proofs.main.Tie as tie
 
@@ -29,7 +29,7 @@ returns-2 : tie.Need-returns-2
 returns-2 c = search needs
 
 survey-requires : tie.Need-survey-requires
-survey-requires c κs = let f : tie.After-fresh = search in (started-usable _ (f .fresh .ensures), started-idle _ (f .fresh .ensures))
+survey-requires c κs = let f : tie.After-fresh = search in (started-usable _ (f .fresh .ensures), started-free _ (f .fresh .ensures))
 
 page-requires : tie.Need-page-requires
 page-requires c κs = search needs

@@ -48,7 +48,11 @@ returns-10 c = let t : tie.Then10 = search in ap causeOf (sym (t .if10 .taken))
 
 returns-11 : tie.Need-returns-11
 unfolding causeOf bytes bytesFrom
-returns-11 c =
+returns-11 c = let t : tie.Then11 = search in ap causeOf (sym (t .if11 .taken))
+
+returns-12 : tie.Need-returns-12
+unfolding causeOf bytes bytesFrom
+returns-12 c =
     let b : tie.Start = search in
     let e1 : tie.Else1 = search in
     let e2 : tie.Else2 = search in
@@ -60,8 +64,9 @@ returns-11 c =
     let e8 : tie.Else8 = search in
     let e9 : tie.Else9 = search in
     let e10 : tie.Else10 = search in
+    let e11 : tie.Else11 = search in
     rw
-    (ne-eqb (b .args .number) 1 (e1 .if1 .left), ne-eqb (b .args .number) 2 (e2 .if2 .left), ne-eqb (b .args .number) 3 (e3 .if3 .left), ne-eqb (b .args .number) 6 (e4 .if4 .left), ne-eqb (b .args .number) 7 (e5 .if5 .left), ne-eqb (b .args .number) 10 (e6 .if6 .left), ne-eqb (b .args .number) 11 (e7 .if7 .left), ne-eqb (b .args .number) 12 (e8 .if8 .left), ne-eqb (b .args .number) 20 (e9 .if9 .left), ne-eqb (b .args .number) 21 (e10 .if10 .left))
+    (ne-eqb (b .args .number) 1 (e1 .if1 .left), ne-eqb (b .args .number) 2 (e2 .if2 .left), ne-eqb (b .args .number) 3 (e3 .if3 .left), ne-eqb (b .args .number) 6 (e4 .if4 .left), ne-eqb (b .args .number) 7 (e5 .if5 .left), ne-eqb (b .args .number) 10 (e6 .if6 .left), ne-eqb (b .args .number) 11 (e7 .if7 .left), ne-eqb (b .args .number) 12 (e8 .if8 .left), ne-eqb (b .args .number) 20 (e9 .if9 .left), ne-eqb (b .args .number) 21 (e10 .if10 .left), ne-eqb (b .args .number) 31 (e11 .if11 .left))
 
 pub cause-spec : {M : Type 1} → statement M
 cause-spec =
@@ -77,4 +82,5 @@ cause-spec =
     returns-8
     returns-9
     returns-10
-    returns-11)
+    returns-11
+    returns-12)

@@ -33,7 +33,17 @@ returns-4 c =
     let e1 : tie.Else1 = search in
     let e2 : tie.Else2 = search in
     let e3 : tie.Else3 = search in
-    rw (ne-eqb (s .args .kind) (code "c") (e1 .if1 .left), ne-eqb (s .args .kind) (code "d") (e2 .if2 .left), ne-eqb (s .args .kind) (code "m") (e3 .if3 .left))
+    rw (ne-eqb (s .args .kind) (code "c") (e1 .if1 .left), ne-eqb (s .args .kind) (code "d") (e2 .if2 .left), ne-eqb (s .args .kind) (code "m") (e3 .if3 .left), eq-eqb (s .args .kind) (code "p") (c .if4 .taken))
+
+returns-5 : tie.Need-returns-5
+unfolding hasOf
+returns-5 c =
+    let s : tie.Start = search in
+    let e1 : tie.Else1 = search in
+    let e2 : tie.Else2 = search in
+    let e3 : tie.Else3 = search in
+    let e4 : tie.Else4 = search in
+    rw (ne-eqb (s .args .kind) (code "c") (e1 .if1 .left), ne-eqb (s .args .kind) (code "d") (e2 .if2 .left), ne-eqb (s .args .kind) (code "m") (e3 .if3 .left), ne-eqb (s .args .kind) (code "p") (e4 .if4 .left))
 
 pub has-spec : {M : Type 1} → statement M
-has-spec = tie.close (tie.spec returns returns-2 returns-3 returns-4)
+has-spec = tie.close (tie.spec returns returns-2 returns-3 returns-4 returns-5)

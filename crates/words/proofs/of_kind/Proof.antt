@@ -28,20 +28,25 @@ returns-5 : tie.Need-returns-5
 unfolding ofKind bytes bytesFrom
 returns-5 c = let t : tie.Then5 = search in ap ofKind (sym (t .if5 .taken))
 
+returns-6 : tie.Need-returns-6
+unfolding ofKind bytes bytesFrom
+returns-6 c = let t : tie.Then6 = search in ap ofKind (sym (t .if6 .taken))
+
 of-foreign-requires : tie.Need-of-foreign-requires
 of-foreign-requires c κs = search needs
 
-returns-6 : tie.Need-returns-6
+returns-7 : tie.Need-returns-7
 unfolding ofKind bytes bytesFrom
-returns-6 c =
+returns-7 c =
     let b : tie.Start = search in
     let e1 : tie.Else1 = search in
     let e2 : tie.Else2 = search in
     let e3 : tie.Else3 = search in
     let e4 : tie.Else4 = search in
     let e5 : tie.Else5 = search in
+    let e6 : tie.Else6 = search in
     rw
-    (ne-eqb (b .args .kind) (code "c") (e1 .if1 .left), ne-eqb (b .args .kind) (code "d") (e2 .if2 .left), ne-eqb (b .args .kind) (code "k") (e3 .if3 .left), ne-eqb (b .args .kind) (code "m") (e4 .if4 .left), ne-eqb (b .args .kind) (code "p") (e5 .if5 .left)) (c .of-foreign .ensures)
+    (ne-eqb (b .args .kind) (code "c") (e1 .if1 .left), ne-eqb (b .args .kind) (code "d") (e2 .if2 .left), ne-eqb (b .args .kind) (code "k") (e3 .if3 .left), ne-eqb (b .args .kind) (code "m") (e4 .if4 .left), ne-eqb (b .args .kind) (code "p") (e5 .if5 .left), ne-eqb (b .args .kind) (code "q") (e6 .if6 .left)) (c .of-foreign .ensures)
 
 pub of-kind-spec : {M : Type 1} → statement M
 of-kind-spec =
@@ -52,5 +57,6 @@ of-kind-spec =
     returns-3
     returns-4
     returns-5
+    returns-6
     of-foreign-requires
-    returns-6)
+    returns-7)

@@ -2,11 +2,11 @@
 //!
 //! Prints `pen x0 y0 x1 y1` for a stroke and `E number byte` for a refused byte, counted
 //! from 1 over the whole input. Limits are -10000, -7000, 10000, 7000, or the four
-//! arguments left, bottom, right, top.
+//! arguments left, bottom, right, top. A reply is printed as it is, at once: its asker waits.
 
 #![forbid(unsafe_code)]
 
-use baseline::{number, Machine, Stroke};
+use baseline::{number, Machine, Stroke, LONGEST_REPLY};
 use std::io::{self, Read, Write};
 use std::process::ExitCode;
 
@@ -77,6 +77,7 @@ impl<W: Write> Lines<W> {
 fn run(mut machine: Machine, mut from: impl Read, to: impl Write) -> io::Result<()> {
     let mut block = vec![0; BLOCK];
     let mut list = vec![Stroke::default(); RECORDS];
+    let mut buffer = [0; LONGEST_REPLY];
     let mut lines = Lines::new(to);
     let mut count: i64 = 0;
     loop {
@@ -94,9 +95,15 @@ fn run(mut machine: Machine, mut from: impl Read, to: impl Write) -> io::Result<
             }
             bytes = &bytes[fed.taken..];
             count += fed.taken as i64;
+            // Feed takes no byte after the one that made a reply, so it stands after the strokes.
+            let (length, _) = machine.fetch(&mut buffer);
+            if length > 0 {
+                lines.text.extend_from_slice(&buffer[..length]);
+                lines.flush()?;
+            }
             match fed.number {
                 number::NONE => break,
-                number::FULL => {}
+                number::FULL | number::WAITS => {}
                 refused => lines.refusal(refused, count)?,
             }
         }

@@ -2,12 +2,12 @@
 
 use crate::outcomes::{self, Calls};
 use baseline::exact::Exact;
-use baseline::{Drawn, Machine};
+use baseline::{Drawn, Fed, Machine, Stroke};
 
 /// The machine and the exact model side by side.
 pub struct Pair {
     pub machine: Machine,
-    exact: Exact,
+    pub exact: Exact,
     /// The types, 1 to 4, of the segments that were drawn; both tell the same.
     pub types: Vec<u8>,
 }
@@ -42,5 +42,47 @@ impl Calls for Pair {
         }
         assert_eq!(self.machine.look(), look);
         answer
+    }
+
+    fn fetch(&mut self, buffer: &mut [u8]) -> (usize, u8) {
+        let look = self.machine.look();
+        let due = self.exact.fetch(buffer);
+        let (length, number) = self.machine.fetch(buffer);
+        assert_eq!((buffer.to_vec(), length, number), due);
+        assert_eq!(self.machine.look(), look);
+        (length, number)
+    }
+
+    /// A feed, and the same by take and draw: answer, list and machine are alike.
+    fn feed(&mut self, bytes: &[u8], list: &mut [Stroke]) -> Fed {
+        let mut machine = self.machine.clone();
+        let mut due = list.to_vec();
+        let (mut taken, mut stored) = (0, 0);
+        let number = loop {
+            if self.exact.waiting() > 0 {
+                if stored == due.len() {
+                    break 21;
+                }
+                if let Drawn::Stroke(stroke) = self.draw() {
+                    due[stored] = stroke;
+                    stored += 1;
+                }
+                continue;
+            }
+            let Some(&byte) = bytes.get(taken) else { break 0 };
+            let number = self.take(byte);
+            taken += usize::from(number != 20);
+            if number != 0 {
+                break number;
+            }
+        };
+        let fed = machine.feed(bytes, list);
+        assert_eq!((fed, &list[..]), (Fed { taken, stored, number }, &due[..]));
+        assert_eq!(format!("{machine:?}"), format!("{:?}", self.machine));
+        fed
+    }
+
+    fn machine(&self) -> &Machine {
+        &self.machine
     }
 }

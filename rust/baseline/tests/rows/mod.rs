@@ -11,14 +11,14 @@ use crate::outcomes::{self, events_text, Event, Step, LIMITS};
 use crate::pair::Pair;
 use baseline::{Drawn, Look};
 
-struct Row<'a> {
-    limits: [i64; 4],
-    bytes: &'a str,
-    events: &'a str,
-    look: &'a str,
+pub struct Row<'a> {
+    pub limits: [i64; 4],
+    pub bytes: &'a str,
+    pub events: &'a str,
+    pub look: &'a str,
 }
 
-fn rows(text: &str) -> Vec<Row<'_>> {
+pub fn rows(text: &str) -> Vec<Row<'_>> {
     text.lines().filter(|line| !line.starts_with('#')).map(row).collect()
 }
 
@@ -38,7 +38,7 @@ fn limits(text: &str) -> [i64; 4] {
     values.collect::<Vec<_>>().try_into().unwrap()
 }
 
-fn steps(text: &str) -> Vec<Step> {
+pub fn steps(text: &str) -> Vec<Step> {
     let mut parts = text.split('<');
     let mut bytes = parts.next().unwrap_or_default().as_bytes().to_vec();
     for part in parts {
@@ -49,7 +49,7 @@ fn steps(text: &str) -> Vec<Step> {
     bytes.into_iter().map(Step::Byte).collect()
 }
 
-fn look_text(look: &Look) -> String {
+pub fn look_text(look: &Look) -> String {
     let Look { x, y, pen, down, bytes } = look;
     format!("loc({x},{y}) {} pen{pen} by{bytes}", if *down { "dn" } else { "up" })
 }
@@ -67,7 +67,7 @@ fn typed_text(events: &[Event], types: &[u8]) -> String {
     let text = |event: &Event| {
         let told = match event {
             Event::Drawn(_) => format!(" t{}", types.next().expect("a type for each segment")),
-            Event::Refused(..) => String::new(),
+            _ => String::new(),
         };
         told + &events_text(std::slice::from_ref(event))
     };

@@ -7,13 +7,14 @@
 //! such, with two archives of the library.
 //!
 //! Both sides do the same job: all strokes, and refusals with the places of their bytes, into a
-//! lent list, block by block. They run in turns. A call takes some 0.1 ms, and the least time of each
+//! lent list, block by block; a reply is fetched where it stops them. They run in turns. A call takes some 0.1 ms, and the least time of each
 //! call counts, so that what disturbs one run does not show. Before that a checksum over every mark
-//! of both sides is compared.
+//! and reply of both sides is compared.
 
-use baseline::{number, Stroke};
+use baseline::{number, Stroke, LONGEST_REPLY};
 use differential::least::{Least, Times};
 use differential::loads::{Load, LIMITS, LOADS};
+use differential::partner::Partner;
 use std::hint::black_box;
 use std::io::Write;
 use std::process::ExitCode;
@@ -23,7 +24,10 @@ const BLOCK: usize = 1 << 16;
 const ROOM: usize = 4096;
 const ROUNDS: usize = 6;
 
-/// The columns; a mark is a stroke or a refusal. The last is how far the measurement repeats.
+/// The fetches whose time is taken at once.
+const FETCHES: usize = 32;
+
+/// The columns; a mark is a stroke, a refusal or a reply. The last is how far the measurement repeats.
 const HEADS: [&str; 10] = [
     "load", "bytes", "strokes", "refusals", "ns/byte", "baseline", "ns/mark", "baseline", "ratio",
     "repeats",
@@ -34,7 +38,14 @@ const HEADS: [&str; 10] = [
 struct Outcome {
     strokes: u64,
     refusals: u64,
+    replies: u64,
     sum: u64,
+}
+
+/// What a side makes of a load: marks, with the bytes before the call that stored them, and replies.
+enum Made<'a, T> {
+    Marks(usize, &'a [T]),
+    Reply(&'a [u8]),
 }
 
 impl Outcome {
@@ -43,7 +54,17 @@ impl Outcome {
         let b = if pen == 0 { b + base as i64 } else { b };
         self.refusals += u64::from(pen == 0);
         self.strokes += u64::from(pen != 0);
-        for value in [pen, a, b, c, d] {
+        self.sum([pen, a, b, c, d]);
+    }
+
+    /// Adds a reply.
+    fn tell(&mut self, reply: &[u8]) {
+        self.replies += u64::from(!reply.is_empty());
+        self.sum(reply.iter().map(|&byte| i64::from(byte)));
+    }
+
+    fn sum(&mut self, values: impl IntoIterator<Item = i64>) {
+        for value in values {
             self.sum = (self.sum ^ value as u64).wrapping_mul(0x0100_0000_01b3).rotate_left(23);
         }
     }
@@ -67,54 +88,80 @@ fn in_blocks(bytes: &[u8], mut plot: impl FnMut(usize, &[u8]) -> (usize, u8)) ->
     }
 }
 
-/// The proved library; `seen` gets the bytes before each call, and its marks.
-fn proved(bytes: &[u8], mut seen: impl FnMut(usize, &[vutaroi::Mark])) -> Times {
-    let [left, bottom, right, top] = LIMITS;
-    let (mut machine, _) = vutaroi::Machine::fresh(left, bottom, right, top);
+/// Calls of `plot` until one ends with another number than 20, and a fetch after each that does; with
+/// 20 after so many, so that its time is like that of a block without replies. `seen` gets the marks
+/// and the replies.
+fn block<M: Partner, T>(
+    machine: &mut M,
+    list: &mut [T],
+    (at, bytes): (usize, &[u8]),
+    plot: impl Fn(&mut M, &[u8], &mut [T]) -> (usize, usize, u8),
+    seen: &mut impl FnMut(Made<T>),
+) -> (usize, u8) {
+    let mut all = 0;
+    for _ in 0..FETCHES {
+        let (taken, stored, number) = plot(machine, &bytes[all..], list);
+        seen(Made::Marks(at + all, &list[..stored]));
+        all += taken;
+        if number != number::WAITS {
+            return (all, number);
+        }
+        let mut buffer = [0; LONGEST_REPLY];
+        let (length, _) = machine.fetch(&mut buffer);
+        seen(Made::Reply(&buffer[..length]));
+    }
+    (all, number::WAITS)
+}
+
+/// The proved library.
+fn proved(bytes: &[u8], mut seen: impl FnMut(Made<vutaroi::Mark>)) -> Times {
+    let mut machine = <vutaroi::Machine as Partner>::fresh(LIMITS).0;
     let mut list = vec![vutaroi::Mark::default(); ROOM];
-    in_blocks(bytes, |at, block| {
-        let fed = machine.plot(block, &mut list).expect("a machine of the calls");
-        seen(at, &list[..fed.stored]);
-        (fed.taken, fed.number)
+    in_blocks(bytes, |at, part| {
+        let plot = |machine: &mut vutaroi::Machine, bytes: &[u8], list: &mut [vutaroi::Mark]| {
+            let fed = machine.plot(bytes, list).expect("a machine of the calls");
+            (fed.taken, fed.stored, fed.number)
+        };
+        block(&mut machine, &mut list, (at, part), plot, &mut seen)
     })
 }
 
 /// The baseline, likewise; a refusal is a record without a pen.
-fn baseline(bytes: &[u8], mut seen: impl FnMut(usize, &[Stroke])) -> Times {
-    let [left, bottom, right, top] = LIMITS;
-    let (mut machine, _) = baseline::Machine::fresh(left, bottom, right, top);
+fn baseline(bytes: &[u8], mut seen: impl FnMut(Made<Stroke>)) -> Times {
+    let mut machine = <baseline::Machine as Partner>::fresh(LIMITS).0;
     let mut list = vec![Stroke::default(); ROOM];
-    in_blocks(bytes, |at, block| {
-        let fed = plot(&mut machine, block, &mut list);
-        seen(at, &list[..fed.stored]);
-        (fed.taken, fed.number)
-    })
+    in_blocks(bytes, |at, part| block(&mut machine, &mut list, (at, part), plot, &mut seen))
 }
 
 /// Feed that goes on after refusals. The last record is kept free for one.
-fn plot(machine: &mut baseline::Machine, bytes: &[u8], list: &mut [Stroke]) -> baseline::Fed {
+fn plot(machine: &mut baseline::Machine, bytes: &[u8], list: &mut [Stroke]) -> (usize, usize, u8) {
     let room = list.len() - 1;
-    let mut all = baseline::Fed::default();
-    while all.stored <= room {
-        let fed = machine.feed(&bytes[all.taken..], &mut list[all.stored..room]);
-        all.taken += fed.taken;
-        all.stored += fed.stored;
-        if fed.number == number::NONE || fed.number == number::FULL {
-            return baseline::Fed { number: fed.number, ..all };
+    let (mut taken, mut stored) = (0, 0);
+    while stored <= room {
+        let fed = machine.feed(&bytes[taken..], &mut list[stored..room]);
+        taken += fed.taken;
+        stored += fed.stored;
+        if matches!(fed.number, number::NONE | number::FULL | number::WAITS) {
+            return (taken, stored, fed.number);
         }
-        list[all.stored] =
-            Stroke { pen: 0, x0: i64::from(fed.number), y0: all.taken as i64, x1: 0, y1: 0 };
-        all.stored += 1;
+        list[stored] = Stroke { pen: 0, x0: i64::from(fed.number), y0: taken as i64, x1: 0, y1: 0 };
+        stored += 1;
     }
-    baseline::Fed { number: number::FULL, ..all }
+    (taken, stored, number::FULL)
 }
 
 /// The outcomes of both sides, if they are the same.
 fn outcome(bytes: &[u8]) -> Result<Outcome, String> {
     let (mut ours, mut theirs) = (Outcome::default(), Outcome::default());
-    proved(bytes, |base, marks| marks.iter().for_each(|mark| ours.add(base, mark.numbers)));
-    baseline(bytes, |base, marks| {
-        marks.iter().for_each(|s| theirs.add(base, [i64::from(s.pen), s.x0, s.y0, s.x1, s.y1]));
+    proved(bytes, |made| match made {
+        Made::Marks(base, marks) => marks.iter().for_each(|mark| ours.add(base, mark.numbers)),
+        Made::Reply(reply) => ours.tell(reply),
+    });
+    baseline(bytes, |made| match made {
+        Made::Marks(base, marks) => {
+            marks.iter().for_each(|s| theirs.add(base, [i64::from(s.pen), s.x0, s.y0, s.x1, s.y1]));
+        }
+        Made::Reply(reply) => theirs.tell(reply),
     });
     if ours == theirs {
         Ok(ours)
@@ -125,7 +172,7 @@ fn outcome(bytes: &[u8]) -> Result<Outcome, String> {
 
 /// The proved library, with nothing done about its marks.
 fn bare(bytes: &[u8]) -> Times {
-    proved(black_box(bytes), |_, marks| _ = black_box(marks))
+    proved(black_box(bytes), |made| _ = black_box(made))
 }
 
 /// The least of each call of both sides, in turns.
@@ -133,7 +180,7 @@ fn measure(bytes: &[u8]) -> [Least; 2] {
     let mut least = [Least::default(), Least::default()];
     for _ in 0..ROUNDS {
         least[0].add(&bare(bytes));
-        least[1].add(&baseline(black_box(bytes), |_, marks| _ = black_box(marks)));
+        least[1].add(&baseline(black_box(bytes), |made| _ = black_box(made)));
     }
     least
 }
@@ -143,7 +190,7 @@ fn row(load: &Load, markdown: bool) -> Result<String, String> {
     let seen = outcome(&bytes).map_err(|error| format!("{}: {error}", load.name))?;
     let least = measure(&bytes);
     let [ours, theirs] = [least[0].total(), least[1].total()];
-    let marks = seen.strokes + seen.refusals;
+    let marks = seen.strokes + seen.refusals + seen.replies;
     let each = |time: f64| match marks {
         0 => "–".to_string(),
         _ => format!("{:.1}", time / marks as f64),

@@ -3,8 +3,8 @@
 //! `record` writes a line for each stream with sums over all answers of the linked library;
 //! `record FILE` compares them with the lines that another build wrote. The streams have no arcs;
 //! with `--four-decimals` before FILE they have, and no number of more than four decimals; with
-//! `--quarter-turns` they have these too, and no RO by more than a quarter; with `--whole` they are all
-//! streams as they are.
+//! `--quarter-turns` they have these too, and no RO by more than a quarter; with `--no-replies` these
+//! too, and none of OA, OP, OW, OH and OE; with `--whole` they are all streams as they are.
 
 use differential::record::{lines, Without, BYTES};
 use std::process::ExitCode;
@@ -33,6 +33,7 @@ fn main() -> ExitCode {
     let without = match arguments.first().map(String::as_str) {
         Some("--four-decimals") => Without::FifthDecimals,
         Some("--quarter-turns") => Without::FurtherTurns,
+        Some("--no-replies") => Without::Replies,
         Some("--whole") => Without::Nothing,
         _ => Without::Arcs,
     };

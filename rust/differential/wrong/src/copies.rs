@@ -38,6 +38,9 @@ macro_rules! fault {
                 let wrong::$name::machine::Look { x, y, pen, down, bytes } = self.look();
                 Look { x, y, pen, down, bytes }
             }
+            fn fetch(&mut self, buffer: &mut [u8]) -> (usize, u8) {
+                self.fetch(buffer)
+            }
             fn feed(&mut self, bytes: &[u8], records: &mut [Record]) -> Fed {
                 let mut list = vec![Default::default(); records.len()];
                 let wrong::$name::feed::Fed { taken, stored, number } = self.feed(bytes, &mut list);

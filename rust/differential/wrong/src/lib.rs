@@ -12,4 +12,6 @@ mod decimals;
 #[cfg(test)]
 mod line_types;
 #[cfg(test)]
+mod replies;
+#[cfg(test)]
 mod turns;

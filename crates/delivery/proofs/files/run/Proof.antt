@@ -4,7 +4,7 @@ use mathlib.Core.Path.{_≡_, _∙_}
 use Rattle.clip.specs.declared.Rect.{Rect}
 use Rattle.hpgl.specs.Machine.{rect}
 use Rattle.machine.specs.Calls.{startedOf}
-use Rattle.plotting.specs.PlottedLaws.{started-usable, started-idle}
+use Rattle.plotting.specs.PlottedLaws.{started-usable, started-free}
 use Rattle.delivery.specs.RanLaws.{within-good, within-bad}
 use Rattle.delivery.proofs.files.run.Statement.{statement}
 use Rattle.delivery.proofs.files.run.Tie as tie
@@ -42,7 +42,7 @@ returns-2 c =
     rw (a .asked .given .1) (within-bad (hard a) (begun f) (t .if1 .taken) (c .unbegun2 .ensures))
 
 plot-file-requires : tie.Need-plot-file-requires
-plot-file-requires c κs = let e = c .before .before .before .fresh .ensures in (started-usable _ e, started-idle _ e)
+plot-file-requires c κs = let e = c .before .before .before .fresh .ensures in (started-usable _ e, started-free _ e)
 
 returns-3 : tie.Need-returns-3
 returns-3 c =

@@ -48,6 +48,21 @@ aa-rule-requires c κs = search needs
 ar-rule-requires : tie.Need-ar-rule-requires
 ar-rule-requires c κs = search needs
 
+oa-rule-requires : tie.Need-oa-rule-requires
+oa-rule-requires c κs = search needs
+
+op-rule-requires : tie.Need-op-rule-requires
+op-rule-requires c κs = search needs
+
+ow-rule-requires : tie.Need-ow-rule-requires
+ow-rule-requires c κs = search needs
+
+oh-rule-requires : tie.Need-oh-rule-requires
+oh-rule-requires c κs = search needs
+
+oe-rule-requires : tie.Need-oe-rule-requires
+oe-rule-requires c κs = search needs
+
 done-requires : tie.Need-done-requires
 done-requires c κs = search needs
 
@@ -109,10 +124,35 @@ returns-14 c = simp (c .ar-rule .ensures, c .before .match .keys14) refl
 
 returns-15 : tie.Need-returns-15
 unfolding endRule
-returns-15 c =
+returns-15 c = simp (c .oa-rule .ensures, c .before .match .keys15) refl
+
+returns-16 : tie.Need-returns-16
+unfolding endRule
+returns-16 c = simp (c .op-rule .ensures, c .before .match .keys16) refl
+
+returns-17 : tie.Need-returns-17
+unfolding endRule
+returns-17 c = simp (c .ow-rule .ensures, c .before .match .keys17) refl
+
+returns-18 : tie.Need-returns-18
+unfolding endRule
+returns-18 c = simp (c .oh-rule .ensures, c .before .match .keys18) refl
+
+returns-19 : tie.Need-returns-19
+unfolding endRule
+returns-19 c = simp (c .oe-rule .ensures, c .before .match .keys19) refl
+
+returns-20 : tie.Need-returns-20
+unfolding endRule
+returns-20 c =
     let k = c .before .match .rest in
     simp (
       c .done .ensures,
+      ne-eqb _ _ (k .0 .0 .0 .0 .0 .0 .0 .0 .0 .0 .0 .0 .0 .0 .0 .0 .0 .0 .1),
+      ne-eqb _ _ (k .0 .0 .0 .0 .0 .0 .0 .0 .0 .0 .0 .0 .0 .0 .0 .0 .0 .1),
+      ne-eqb _ _ (k .0 .0 .0 .0 .0 .0 .0 .0 .0 .0 .0 .0 .0 .0 .0 .0 .1),
+      ne-eqb _ _ (k .0 .0 .0 .0 .0 .0 .0 .0 .0 .0 .0 .0 .0 .0 .0 .1),
+      ne-eqb _ _ (k .0 .0 .0 .0 .0 .0 .0 .0 .0 .0 .0 .0 .0 .0 .1),
       ne-eqb _ _ (k .0 .0 .0 .0 .0 .0 .0 .0 .0 .0 .0 .0 .0 .1),
       ne-eqb _ _ (k .0 .0 .0 .0 .0 .0 .0 .0 .0 .0 .0 .0 .1),
       ne-eqb _ _ (k .0 .0 .0 .0 .0 .0 .0 .0 .0 .0 .0 .1),
@@ -148,6 +188,11 @@ end-rule-spec =
     er-rule-requires
     aa-rule-requires
     ar-rule-requires
+    oa-rule-requires
+    op-rule-requires
+    ow-rule-requires
+    oh-rule-requires
+    oe-rule-requires
     done-requires
     returns
     returns-2
@@ -163,4 +208,9 @@ end-rule-spec =
     returns-12
     returns-13
     returns-14
-    returns-15)
+    returns-15
+    returns-16
+    returns-17
+    returns-18
+    returns-19
+    returns-20)

@@ -29,10 +29,11 @@ returns c =
     let w : tie.After-waiting = search in
     let t : tie.Then1 = search in
     let r : tie.After-run = search in
-    ap taken (r .run .ensures ∙ run-one (s .args .self .state) (s .args .byte) (sym (w .waiting .ensures) ∙ t .if1 .taken))
+    let k = run-one (s .args .self .state) (s .args .byte) (sym (w .waiting .ensures) ∙ t .if1 .taken) in
+    ap taken (r .run .ensures) ∙ (λ i. record { machine = record { state = k .0 i }; number = k .1 i })
 
 returns-2 : tie.Need-returns-2
-unfolding takenOf M.takeState M.takeNumber
+unfolding takenOf M.takeState M.takeNumber M.occupied
 returns-2 c =
     let w : tie.After-waiting = search in
     rw (ne-eqb _ _ (λ e. c .if1 .left (w .waiting .ensures ∙ e))) refl

@@ -8,7 +8,7 @@ use denote.Ref.{now}
 use lib.ListN.{length, take, drop, length-drop}
 use lib.Seq.{take-length}
 use Rattle.feeding.specs.Feed.{feedOf}
-use Rattle.feeding.specs.FeedLaws.{feed-stored}
+use Rattle.feeding.specs.FeedLaws.{feed-stored, feed-usable}
 use Rattle.feed.specs.declared.Listed.{Listed}
 use Rattle.feed.specs.Fed.{listedOf}
 use Rattle.preview.specs.Drawing.{afterOf}
@@ -49,7 +49,7 @@ after-requires c κs =
     let l : tie.After-feed-list = search in
     let s : tie.Start = search in
     let long : length (now (s .args .block)) < 2 ^ 64 = search needs in
-    (few l, rw (listed l) (omega (arith, step-within (s .args .d) (now (s .args .block)) 0 (s .pre .1), long)))
+    (few l, rw (listed l) (omega (arith, step-within (s .args .d) (now (s .args .block)) 0 (s .pre .1), long)), rw (listed l) (feed-usable (s .args .d .machine .state) (drop (s .args .d .at) (now (s .args .block))) 0 64 (s .pre .0)))
 
 returns : tie.Need-returns
 returns c =

@@ -41,6 +41,13 @@ returns-4 : tie.Need-returns-4
 unfolding cornerOf
 returns-4 c = rw (c .enum-told3 .given .1) refl
 
+enum-told-4 : tie.Need-enum-told-4
+enum-told-4 c = search needs
+
+returns-5 : tie.Need-returns-5
+unfolding cornerOf
+returns-5 c = rw (c .enum-told4 .given .1) refl
+
 pub corner-spec : {M : Type 1} → statement M
 corner-spec =
     tie.close
@@ -50,7 +57,9 @@ corner-spec =
     enum-known-w
     vertex-requires
     enum-told-3
+    enum-told-4
     returns
     returns-2
     returns-3
-    returns-4)
+    returns-4
+    returns-5)

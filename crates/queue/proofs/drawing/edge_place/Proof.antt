@@ -39,6 +39,13 @@ returns-4 c = rw (c .enum-told3 .given .1) refl
 returns-5 : tie.Need-returns-5
 returns-5 c = rw (c .before .before .w .given .1) (sym (place-edge _ _ (c .if1 .left)))
 
+enum-told-4 : tie.Need-enum-told-4
+enum-told-4 c = search needs
+
+returns-6 : tie.Need-returns-6
+unfolding edgePlace
+returns-6 c = rw (c .enum-told4 .given .1) refl
+
 pub edge-place-spec : {M : Type 1} → statement M
 edge-place-spec =
     tie.close
@@ -49,7 +56,9 @@ edge-place-spec =
     enum-known-w
     returns
     cast-result
+    enum-told-4
     returns-2
     returns-3
     returns-4
-    returns-5)
+    returns-5
+    returns-6)

@@ -53,6 +53,13 @@ returns-5 : tie.Need-returns-5
 unfolding nextCornerOf
 returns-5 c = rw (c .enum-told3 .given .1) refl
 
+enum-told-4 : tie.Need-enum-told-4
+enum-told-4 c = search needs
+
+returns-6 : tie.Need-returns-6
+unfolding nextCornerOf
+returns-6 c = rw (c .enum-told4 .given .1) refl
+
 pub next-corner-spec : {M : Type 1} → statement M
 next-corner-spec =
     tie.close
@@ -64,7 +71,9 @@ next-corner-spec =
     add-vertex
     vertex-requires
     enum-told-3
+    enum-told-4
     returns-2
     returns-3
     returns-4
-    returns-5)
+    returns-5
+    returns-6)

@@ -58,6 +58,13 @@ returns-7 c =
     let e : tie.Else2 = search in
     rw (e .before .before .w3 .given .1) (sym (some-edge _ _ _ _ _ _ (e .if2 .left) ∙ rw (c .if3 .left) refl))
 
+enum-told-2 : tie.Need-enum-told-2
+enum-told-2 c = search needs
+
+returns-8 : tie.Need-returns-8
+unfolding segmentIn
+returns-8 c = rw (c .enum-told2 .given .1) refl
+
 pub segment-spec : {M : Type 1} → statement M
 segment-spec =
     tie.close
@@ -71,7 +78,9 @@ segment-spec =
     turned-by-requires
     turned-by-requires-2
     returns-3
+    enum-told-2
     returns-4
     returns-5
     returns-6
-    returns-7)
+    returns-7
+    returns-8)

@@ -58,6 +58,13 @@ returns-5 c = rw (c .before .before .w .given .1) (sym (more-chords _ _ _ (c .if
 returns-6 : tie.Need-returns-6
 returns-6 c = rw (c .before .before .w2 .given .1) (sym (more-edges _ _ (c .if2 .left)))
 
+enum-told-3 : tie.Need-enum-told-3
+enum-told-3 c = search needs
+
+returns-7 : tie.Need-returns-7
+unfolding workAfter
+returns-7 c = rw (c .enum-told3 .given .1) refl
+
 pub work-after-spec : {M : Type 1} → statement M
 work-after-spec =
     tie.close
@@ -72,7 +79,9 @@ work-after-spec =
     returns-2
     add-t12
     sub-t13
+    enum-told-3
     returns-3
     returns-4
     returns-5
-    returns-6)
+    returns-6
+    returns-7)

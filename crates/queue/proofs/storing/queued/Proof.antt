@@ -39,8 +39,8 @@ count c =
     let o : tie.After-a2 = search in
     c .parts .ensures ∙ ap (λ (x : ℤ). partsOf x (o .a2 .given .0 .0 .angle)) (val w64 (circle o .sweep) tt .is)
 
-cast-t10 : tie.Need-cast-t10
-cast-t10 c =
+cast-t11 : tie.Need-cast-t11
+cast-t11 c =
     let o : tie.After-a2 = search in
     let k : c .parts .result ≤ mostChords = rw (count c) (chords-most (circle o)) in
     record { fits = omega (arith, k) }
@@ -82,6 +82,13 @@ returns-7 : tie.Need-returns-7
 unfolding M.queued
 returns-7 c = λ t es. rw (c .before .before .a3 .given .1, c .if1 .left) refl
 
+enum-known-a-4 : tie.Need-enum-known-a-4
+enum-known-a-4 c = search needs
+
+returns-8 : tie.Need-returns-8
+unfolding M.queued
+returns-8 c = λ t es. rw (c .before .a4 .given .1) refl
+
 pub queued-spec : {M : Type 1} → statement M
 queued-spec =
     tie.close
@@ -91,14 +98,16 @@ queued-spec =
     enum-known-a-2
     cast-parts
     parts-requires
-    cast-t10
+    cast-t11
     enum-told-2
     enum-told-3
     enum-known-a-3
     returns
+    enum-known-a-4
     returns-2
     returns-3
     returns-4
     returns-5
     returns-6
-    returns-7)
+    returns-7
+    returns-8)

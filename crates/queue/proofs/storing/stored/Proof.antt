@@ -56,6 +56,13 @@ returns-6 : tie.Need-returns-6
 unfolding M.stored
 returns-6 c = rw (c .before .before .a2 .given .1) (c .rectangle-edges .ensures)
 
+enum-told-5 : tie.Need-enum-told-5
+enum-told-5 c = search needs
+
+returns-7 : tie.Need-returns-7
+unfolding M.stored
+returns-7 c = rw (c .enum-told5 .given .1) refl
+
 pub stored-spec : {M : Type 1} → statement M
 stored-spec =
     tie.close
@@ -68,9 +75,11 @@ stored-spec =
     enum-told-4
     enum-known-a-2
     rectangle-edges-requires
+    enum-told-5
     returns
     returns-2
     returns-3
     returns-4
     returns-5
-    returns-6)
+    returns-6
+    returns-7)

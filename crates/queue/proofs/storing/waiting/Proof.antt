@@ -36,6 +36,13 @@ returns-4 : tie.Need-returns-4
 unfolding M.waiting
 returns-4 c = rw (c .before .w2 .given .1) refl
 
+enum-told-3 : tie.Need-enum-told-3
+enum-told-3 c = search needs
+
+returns-5 : tie.Need-returns-5
+unfolding M.waiting
+returns-5 c = rw (c .enum-told3 .given .1) refl
+
 pub waiting-spec : {M : Type 1} → statement M
 waiting-spec =
     tie.close
@@ -45,7 +52,9 @@ waiting-spec =
     enum-known-w
     enum-known-w-2
     cast-result
+    enum-told-3
     returns
     returns-2
     returns-3
-    returns-4)
+    returns-4
+    returns-5)

@@ -17,6 +17,9 @@ flag-in-requires c κs = search needs
 polygon-of-requires : tie.Need-polygon-of-requires
 polygon-of-requires c κs = search needs
 
+memory-of-requires : tie.Need-memory-of-requires
+memory-of-requires c κs = search needs
+
 returns : tie.Need-returns
 unfolding carriageOf
 returns c =
@@ -24,9 +27,10 @@ returns c =
     let q : tie.After-pen-of = search in
     let r : tie.After-flag-in = search in
     let s : tie.After-polygon-of = search in
-    simp (p .position-of .ensures, q .pen-of .ensures, r .flag-in .ensures, s .polygon-of .ensures) refl
+    let t : tie.After-memory-of = search in
+    simp (p .position-of .ensures, q .pen-of .ensures, r .flag-in .ensures, s .polygon-of .ensures, t .memory-of .ensures) refl
 
 pub carriage-of-spec : {M : Type 1} → statement M
 carriage-of-spec =
     tie.close
-    (tie.spec position-of-requires pen-of-requires flag-in-requires polygon-of-requires returns)
+    (tie.spec position-of-requires pen-of-requires flag-in-requires polygon-of-requires memory-of-requires returns)

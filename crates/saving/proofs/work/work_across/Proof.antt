@@ -28,6 +28,12 @@ enum-told-3 c = search needs
 blank-row-requires-3 : tie.Need-blank-row-requires-3
 blank-row-requires-3 c κs = search needs
 
+enum-known-w-2 : tie.Need-enum-known-w-2
+enum-known-w-2 c = search needs
+
+count-row-requires : tie.Need-count-row-requires
+count-row-requires c κs = search needs
+
 returns : tie.Need-returns
 unfolding workAcross
 returns c =
@@ -52,6 +58,12 @@ returns-4 c =
     let e : tie.After-enum-told3 = search in
     rw (e .enum-told3 .given .1) (c .blank-row3 .ensures)
 
+returns-5 : tie.Need-returns-5
+unfolding workAcross
+returns-5 c =
+    let e : tie.After-w2 = search in
+    rw (e .w2 .given .1) (c .count-row .ensures)
+
 pub work-across-spec : {M : Type 1} → statement M
 work-across-spec =
     tie.close
@@ -64,7 +76,10 @@ work-across-spec =
     across-row-requires
     enum-told-3
     blank-row-requires-3
+    enum-known-w-2
+    count-row-requires
     returns
     returns-2
     returns-3
-    returns-4)
+    returns-4
+    returns-5)

@@ -5,7 +5,7 @@ use mathlib.Core.Path.{_≡_, refl, sym, ap, _∙_}
 use mir.Syntax.{w64}
 use Rattle.exact.specs.Fit.{arg}
 use Rattle.rows.specs.Rows.{smallOf, mostByte, mostShort}
-use Rattle.hpgl.specs.declared.Work.the-variants.{Line, Chords, Edges}
+use Rattle.hpgl.specs.declared.Work.the-variants.{Line, Chords, Edges, Answer}
 use Rattle.saved.specs.Saved.{smallIn, workOf}
 use Rattle.saving.proofs.work.work_of.Statement.{statement}
 use Rattle.saving.proofs.work.work_of.Tie as tie
@@ -72,13 +72,27 @@ returns-3 c =
     let n = c .byte-of3 .ensures ∙ ap (smallOf mostByte) (arg w64 {z = r .b} (search needs) .is) in
     rw (sym (tag a), ne-eqb _ 1 (e .if1 .left), ne-eqb _ 2 (f .if2 .left), eq-eqb _ 3 (t .if3 .taken)) (λ j. Edges (i j) (n j))
 
+reply-of-requires : tie.Need-reply-of-requires
+reply-of-requires c κs = search needs
+
 returns-4 : tie.Need-returns-4
 unfolding workOf
 returns-4 c =
     let a : tie.After-byte-of = search in
     let e : tie.Else1 = search in
     let f : tie.Else2 = search in
-    rw (sym (tag a), ne-eqb _ 1 (e .if1 .left), ne-eqb _ 2 (f .if2 .left), ne-eqb _ 3 (c .if3 .left)) refl
+    let g : tie.Else3 = search in
+    let t : tie.Then4 = search in
+    rw (sym (tag a), ne-eqb _ 1 (e .if1 .left), ne-eqb _ 2 (f .if2 .left), ne-eqb _ 3 (g .if3 .left), eq-eqb _ 4 (t .if4 .taken)) (ap Answer (c .reply-of .ensures))
+
+returns-5 : tie.Need-returns-5
+unfolding workOf
+returns-5 c =
+    let a : tie.After-byte-of = search in
+    let e : tie.Else1 = search in
+    let f : tie.Else2 = search in
+    let g : tie.Else3 = search in
+    rw (sym (tag a), ne-eqb _ 1 (e .if1 .left), ne-eqb _ 2 (f .if2 .left), ne-eqb _ 3 (g .if3 .left), ne-eqb _ 4 (c .if4 .left)) refl
 
 pub work-of-spec : {M : Type 1} → statement M
 work-of-spec =
@@ -95,4 +109,6 @@ work-of-spec =
     byte-of-requires-2
     byte-of-requires-3
     returns-3
-    returns-4)
+    reply-of-requires
+    returns-4
+    returns-5)

@@ -28,6 +28,12 @@ enum-known-w-3 c = search needs
 edges-row-requires : tie.Need-edges-row-requires
 edges-row-requires c κs = search needs
 
+enum-known-w-4 : tie.Need-enum-known-w-4
+enum-known-w-4 c = search needs
+
+reply-row-requires : tie.Need-reply-row-requires
+reply-row-requires c κs = search needs
+
 returns : tie.Need-returns
 unfolding workRow
 returns c =
@@ -52,6 +58,12 @@ returns-4 c =
     let e : tie.After-w3 = search in
     rw (e .w3 .given .1) (c .edges-row .ensures)
 
+returns-5 : tie.Need-returns-5
+unfolding workRow
+returns-5 c =
+    let e : tie.After-w4 = search in
+    rw (e .w4 .given .1) (c .reply-row .ensures)
+
 pub work-row-spec : {M : Type 1} → statement M
 work-row-spec =
     tie.close
@@ -64,7 +76,10 @@ work-row-spec =
     chords-row-requires
     enum-known-w-3
     edges-row-requires
+    enum-known-w-4
+    reply-row-requires
     returns
     returns-2
     returns-3
-    returns-4)
+    returns-4
+    returns-5)

@@ -110,10 +110,10 @@ refuse-requires c κs = search needs
 returns-2 : tie.Need-returns-2
 unfolding arcBy
 returns-2 c =
-    let w : tie.After-way-fits = search in
-    let t : tie.Then1 = search in
-    let f : tie.After-arc-fits = search in
     let u : tie.Else2 = search in
+    let f = u .before in
+    let t = tested f in
+    let w = t .before in
     rw (sym (way w) ∙ t .if1 .taken, sym (judged f) ∙ u .if2 .left) (c .refuse .ensures)
 
 refuse-requires-2 : tie.Need-refuse-requires-2

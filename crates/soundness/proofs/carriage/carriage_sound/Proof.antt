@@ -22,7 +22,7 @@ returns c =
     let s : tie.Start = search in
     let a1 : tie.After-parts-sound = search in
     let t1 : tie.Then1 = search in
-    let e1 : partsSound (s .args .place) (s .args .pen) (s .args .polygon) (s .args .first) (s .args .saved) ≡ true = sym (a1 .parts-sound .ensures) ∙ t1 .if1 .taken in
+    let e1 : partsSound (s .args .place) (s .args .pen) (s .args .polygon) (s .args .first) (s .args .saved) (s .args .memory) ≡ true = sym (a1 .parts-sound .ensures) ∙ t1 .if1 .taken in
     let a2 : tie.After-placed-row = search in
     let t2 : tie.Then2 = search in
     let e2 : placedOf (s .args .s) (positionOf (s .args .place)) ≡ true = sym (a2 .placed-row .ensures) ∙ t2 .if2 .taken in
@@ -34,7 +34,7 @@ returns-2 c =
     let s : tie.Start = search in
     let a1 : tie.After-parts-sound = search in
     let t1 : tie.Then1 = search in
-    let e1 : partsSound (s .args .place) (s .args .pen) (s .args .polygon) (s .args .first) (s .args .saved) ≡ true = sym (a1 .parts-sound .ensures) ∙ t1 .if1 .taken in
+    let e1 : partsSound (s .args .place) (s .args .pen) (s .args .polygon) (s .args .first) (s .args .saved) (s .args .memory) ≡ true = sym (a1 .parts-sound .ensures) ∙ t1 .if1 .taken in
     let a2 : tie.After-placed-row = search in
     let t2 : tie.Else2 = search in
     let e2 : placedOf (s .args .s) (positionOf (s .args .place)) ≡ false = sym (a2 .placed-row .ensures) ∙ t2 .if2 .left in
@@ -46,7 +46,7 @@ returns-3 c =
     let s : tie.Start = search in
     let a1 : tie.After-parts-sound = search in
     let t1 : tie.Else1 = search in
-    let e1 : partsSound (s .args .place) (s .args .pen) (s .args .polygon) (s .args .first) (s .args .saved) ≡ false = sym (a1 .parts-sound .ensures) ∙ t1 .if1 .left in
+    let e1 : partsSound (s .args .place) (s .args .pen) (s .args .polygon) (s .args .first) (s .args .saved) (s .args .memory) ≡ false = sym (a1 .parts-sound .ensures) ∙ t1 .if1 .left in
     rw (e1) refl
 
 pub carriage-sound-spec : {M : Type 1} → statement M

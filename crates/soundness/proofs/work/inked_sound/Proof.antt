@@ -30,6 +30,9 @@ f0 s = search needs
 f1 : (s : tie.Start) → SFits w64 (pos 1)
 f1 s = search needs
 
+f4 : (s : tie.Start) → SFits w64 (pos 4)
+f4 s = search needs
+
 returns : tie.Need-returns
 unfolding inkedSound
 returns c =
@@ -52,7 +55,7 @@ returns-3 c =
     let t1 : tie.Else1 = search in
     let t2 : tie.Else2 = search in
     let t3 : tie.Then3 = search in
-    rw (le?-is (num (pos 1)) (arg w64 (fpena s)) (t1 .if1 .left), eq64-f (s .args .work .e) (pos 0) (fworke s) (f0 s) (t2 .if2 .left), eq64-t (s .args .work .e) (pos 1) (fworke s) (f1 s) (t3 .if3 .taken)) refl
+    rw (le?-is (num (pos 1)) (arg w64 (fpena s)) (t1 .if1 .left), eq64-f (s .args .work .e) (pos 0) (fworke s) (f0 s) (t2 .if2 .left), eq64-t (s .args .work .e) (pos 4) (fworke s) (f4 s) (t3 .if3 .taken)) refl
 
 returns-4 : tie.Need-returns-4
 unfolding inkedSound
@@ -61,7 +64,18 @@ returns-4 c =
     let t1 : tie.Else1 = search in
     let t2 : tie.Else2 = search in
     let t3 : tie.Else3 = search in
-    rw (le?-is (num (pos 1)) (arg w64 (fpena s)) (t1 .if1 .left), eq64-f (s .args .work .e) (pos 0) (fworke s) (f0 s) (t2 .if2 .left), eq64-f (s .args .work .e) (pos 1) (fworke s) (f1 s) (t3 .if3 .left)) (zero-test (s .args .work .b) (fits-b s))
+    let t4 : tie.Then4 = search in
+    rw (le?-is (num (pos 1)) (arg w64 (fpena s)) (t1 .if1 .left), eq64-f (s .args .work .e) (pos 0) (fworke s) (f0 s) (t2 .if2 .left), eq64-f (s .args .work .e) (pos 4) (fworke s) (f4 s) (t3 .if3 .left), eq64-t (s .args .work .e) (pos 1) (fworke s) (f1 s) (t4 .if4 .taken)) refl
+
+returns-5 : tie.Need-returns-5
+unfolding inkedSound
+returns-5 c =
+    let s : tie.Start = search in
+    let t1 : tie.Else1 = search in
+    let t2 : tie.Else2 = search in
+    let t3 : tie.Else3 = search in
+    let t4 : tie.Else4 = search in
+    rw (le?-is (num (pos 1)) (arg w64 (fpena s)) (t1 .if1 .left), eq64-f (s .args .work .e) (pos 0) (fworke s) (f0 s) (t2 .if2 .left), eq64-f (s .args .work .e) (pos 4) (fworke s) (f4 s) (t3 .if3 .left), eq64-f (s .args .work .e) (pos 1) (fworke s) (f1 s) (t4 .if4 .left)) (zero-test (s .args .work .b) (fits-b s))
 
 pub inked-sound-spec : {M : Type 1} → statement M
-inked-sound-spec = tie.close (tie.spec returns returns-2 returns-3 returns-4)
+inked-sound-spec = tie.close (tie.spec returns returns-2 returns-3 returns-4 returns-5)

@@ -8,10 +8,10 @@ use Rattle.vectors.proofs.feeds.bytes_of.Statement.{statement}
 use Rattle.vectors.proofs.feeds.bytes_of.Tie as tie
 
 abbrev Inv-loop : tie.InvT-loop
-Inv-loop codes count bytes₀ i₀ bytes i = (length bytes ≡ length bytes₀) × ((i ≤ length bytes) × (i ≤ count))
+Inv-loop codes from kind bytes₀ at₀ i₀ i-end bytes at i = (length bytes ≡ length bytes₀) × (i ≤ length bytes)
 
 abbrev μ-loop : tie.MeasureT-loop
-μ-loop codes count bytes₀ i₀ bytes i = count - i
+μ-loop codes from kind bytes₀ at₀ i₀ i-end bytes at i = i-end - i
 
 loop-holds : tie.Need-loop-holds Inv-loop μ-loop
 loop-holds c = search needs
@@ -22,29 +22,26 @@ same-length c = search needs
 returns : tie.Need-returns Inv-loop μ-loop
 returns c = search needs
 
-same-length-2 : tie.Need-same-length-2 Inv-loop μ-loop
-same-length-2 c = search needs
-
-returns-2 : tie.Need-returns-2 Inv-loop μ-loop
-returns-2 c = search needs
-
 mul-code : tie.Need-mul-code Inv-loop μ-loop
 mul-code c = search needs
 
 element-copy-out-code : tie.Need-element-copy-out-code Inv-loop μ-loop
 element-copy-out-code c = search needs
 
-same-length-3 : tie.Need-same-length-3 Inv-loop μ-loop
-same-length-3 c = search needs
+same-length-2 : tie.Need-same-length-2 Inv-loop μ-loop
+same-length-2 c = search needs
 
-returns-3 : tie.Need-returns-3 Inv-loop μ-loop
-returns-3 c = search needs
+returns-2 : tie.Need-returns-2 Inv-loop μ-loop
+returns-2 c = search needs
 
 cast-bytes : tie.Need-cast-bytes Inv-loop μ-loop
 cast-bytes c = search needs
 
 slice-write-bytes : tie.Need-slice-write-bytes Inv-loop μ-loop
 slice-write-bytes c = search needs
+
+add-at : tie.Need-add-at Inv-loop μ-loop
+add-at c = search needs
 
 add-i : tie.Need-add-i Inv-loop μ-loop
 add-i c = search needs
@@ -55,11 +52,11 @@ loop-less c = search needs
 loop-again : tie.Need-loop-again Inv-loop μ-loop
 loop-again c = simp length-set (omega arith)
 
-same-length-4 : tie.Need-same-length-4 Inv-loop μ-loop
-same-length-4 c = search needs
+same-length-3 : tie.Need-same-length-3 Inv-loop μ-loop
+same-length-3 c = search needs
 
-returns-4 : tie.Need-returns-4 Inv-loop μ-loop
-returns-4 c = search needs
+returns-3 : tie.Need-returns-3 Inv-loop μ-loop
+returns-3 c = search needs
 
 pub bytes-of-spec : {M : Type 1} → statement M
 bytes-of-spec =
@@ -70,16 +67,15 @@ bytes-of-spec =
     loop-holds
     same-length
     returns
-    same-length-2
-    returns-2
     mul-code
     element-copy-out-code
-    same-length-3
-    returns-3
+    same-length-2
+    returns-2
     cast-bytes
     slice-write-bytes
+    add-at
     add-i
     loop-less
     loop-again
-    same-length-4
-    returns-4)
+    same-length-3
+    returns-3)

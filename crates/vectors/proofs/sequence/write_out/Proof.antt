@@ -23,9 +23,12 @@ loop-less c = search needs
 loop-again : tie.Need-loop-again Inv-loop μ-loop
 loop-again c = search needs
 
+put-code-requires : tie.Need-put-code-requires Inv-loop μ-loop
+put-code-requires c κs = search needs
+
 returns : tie.Need-returns Inv-loop μ-loop
 returns c = search needs
 
 pub write-out-spec : {M : Type 1} → statement M
 write-out-spec =
-    tie.close (tie.spec Inv-loop μ-loop loop-holds put-piece-requires loop-less loop-again returns)
+    tie.close (tie.spec Inv-loop μ-loop loop-holds put-piece-requires loop-less loop-again put-code-requires returns)

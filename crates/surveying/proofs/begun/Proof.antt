@@ -1,0 +1,30 @@
+-- Nothing is read.
+use borrow.Author.Needs.{needs}
+use mathlib.Core.Path.{_≡_}
+use Rattle.surveying.proofs.begun.Statement.{statement}
+use Rattle.surveying.proofs.begun.Tie as tie
+
+no-letters-requires : tie.Need-no-letters-requires
+no-letters-requires c κs = search needs
+
+nothing-requires : tie.Need-nothing-requires
+nothing-requires c κs = search needs
+
+none-requires : tie.Need-none-requires
+none-requires c κs = search needs
+
+returns : tie.Need-returns
+returns c =
+    let s : tie.Start = search in
+    let l : tie.After-no-letters = search in
+    let t : tie.After-nothing = search in
+    let o : tie.After-none = search in
+    (λ i. record {
+      drawing = record { machine = s .args .machine; before = 0; letters = l .no-letters .ensures i; tally = t .nothing .ensures i; refusals = o .none .ensures i; replies = 0 };
+      mode = 0;
+      lost = 0;
+      first = 0;
+    })
+
+pub begun-spec : {M : Type 1} → statement M
+begun-spec = tie.close (tie.spec no-letters-requires nothing-requires none-requires returns)

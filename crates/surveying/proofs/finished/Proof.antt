@@ -1,0 +1,15 @@
+-- What is open is told by one more byte.
+use borrow.Author.Needs.{needs}
+use Rattle.surveying.specs.Drawing.{finishedOf}
+use Rattle.surveying.proofs.finished.Statement.{statement}
+use Rattle.surveying.proofs.finished.Tie as tie
+
+open-end-requires : tie.Need-open-end-requires
+open-end-requires c κs = search needs
+
+returns : tie.Need-returns
+unfolding finishedOf
+returns c = rw (c .open-end .ensures)
+
+pub finished-spec : {M : Type 1} → statement M
+finished-spec = tie.close (tie.spec open-end-requires returns)
