@@ -33,6 +33,8 @@
  *   20  take while a segment or a reply waits
  *   21  list of records full
  *   31  buffer shorter than the reply
+ *   32  a stroke to be written has a pen other than 1 to 8, or an end out of range
+ *   33  output too short for the text
  *   40  no machine
  *   41  a list is too short
  */
@@ -119,6 +121,12 @@ uint8_t vutaroi_feed(vutaroi_machine *machine, size_t machine_count, const uint8
  * among `bytes`, counted from 1, 0, 0. (No stroke has pen 0.) A byte waits for a free record too, since it may be refused; without one: 21.
  * It too stops before a byte that a waiting reply refuses, with 20: that one is neither stored nor taken. */
 uint8_t vutaroi_plot(vutaroi_machine *machine, size_t machine_count, const uint8_t *bytes, size_t bytes_count, int64_t *records, size_t records_count, uint64_t *answer, size_t answer_count);
+
+/* Writes strokes as HP-GL from the start of `out` on: `numbers` has five for each, pen (1 to 8), x0, y0, x1, y1 (each -32768 to 32767); those that are
+ * left after the last whole five count for nothing. answer[0] is how many bytes were written; the bytes of `out` after them stay. Fed to a fresh machine
+ * whose hard limits contain all ends, they give just these strokes. It has no machine. 0; 32 where a stroke has another pen or end; 33 where `out` is too
+ * short: 3 bytes and at most 36 for each stroke will do; 41 where `answer` is empty. After 32 and 33 answer[0] is 0 and `out` as it was. */
+uint8_t vutaroi_write(const int64_t *numbers, size_t numbers_count, uint8_t *out, size_t out_count, uint64_t *answer, size_t answer_count);
 
 #ifdef __cplusplus
 }

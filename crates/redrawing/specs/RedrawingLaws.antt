@@ -1,6 +1,6 @@
 -- Laws for the code: how long the parts of the text are, the strokes of a list of numbers one by one, the answer by its two tests, and a text that is put from the start of
 -- the output on.
-use mathlib.Core.Bool.{true, false, _&&_}
+use mathlib.Core.Bool.{true, false}
 use mathlib.Core.List.{List, [], _∷_, _++_}
 use mathlib.Core.Path.{_≡_, refl, sym, ap, _∙_}
 use Prim.Native.Char.{code}
@@ -17,7 +17,7 @@ use Rattle.decimals.specs.DecimalLaws.{decimal-one, more-length, decimal-length
 use Rattle.decimals.specs.Puts.{Puts}
 use Rattle.hpgl.specs.declared.Stroke.{Stroke}
 use Rattle.redrawn.specs.declared.Written.{Written}
-use Rattle.redrawn.specs.Redrawn.{notWritable, tooShort, fitsIn, numberOf, writtenOf, outputOf, writable, allWritable, penText, moveText, lineText, changeText, strokeText, strokesText, textOf, strokeAt, strokesFrom, strokesIn}
+use Rattle.redrawn.specs.Redrawn.{notWritable, tooShort, fitsIn, numberOf, writtenOf, outputOf, allWritable, penText, moveText, lineText, changeText, strokeText, textOf, strokeAt, strokesFrom, strokesIn}
 use Rattle.redrawn.specs.RedrawnLaws.{Writable, natural-long, whole-long}
 
 -- ---- lengths
@@ -100,23 +100,9 @@ module _ (numbers : List ℤ) where
   unfolding strokesFrom
   left-none {i} h = let e : length numbers / 5 - i ≡ 0 = omega arith in ap (strokesFrom numbers i) e
 
-  module _ {i : ℕ} (h : i < length numbers / 5) where
-    pub left-some : left i ≡ strokeAt numbers i ∷ left (i + 1)
-    unfolding strokesFrom
-    left-some = let e : length numbers / 5 - i ≡ suc (length numbers / 5 - (i + 1)) = omega arith in ap (strokesFrom numbers i) e
-
-    -- what is asked of them, and their text
-    pub left-writable : allWritable (left i) ≡ writable (strokeAt numbers i) && allWritable (left (i + 1))
-    unfolding allWritable
-    left-writable = ap allWritable left-some
-
-    pub left-text : (before : ℕ) → strokesText before (left i) ≡ strokeText before (strokeAt numbers i) ++ strokesText (strokeAt numbers i .pen) (left (i + 1))
-    unfolding strokesText
-    left-text before = ap (strokesText before) left-some
-
-    pub left-long : (before : ℕ) →
-        length (strokesText before (left i)) ≡ length (strokeText before (strokeAt numbers i)) + length (strokesText (strokeAt numbers i .pen) (left (i + 1)))
-    left-long before = ap length (left-text before) ∙ length-append (strokeText before (strokeAt numbers i)) (strokesText (strokeAt numbers i .pen) (left (i + 1)))
+  pub left-some : {i : ℕ} → i < length numbers / 5 → left i ≡ strokeAt numbers i ∷ left (i + 1)
+  unfolding strokesFrom
+  left-some {i} h = let e : length numbers / 5 - i ≡ suc (length numbers / 5 - (i + 1)) = omega arith in ap (strokesFrom numbers i) e
 
 -- ---- the answer and the output, by the two tests
 

@@ -2,13 +2,14 @@
 // output, and proves that a fresh machine reads the strokes back.
 ghost use mathlib.Core.Bool.{true};
 ghost use mathlib.Core.Path.{_≡_};
-ghost use Prim.Native.Nat.{_+_, _*_, _≤_, _<_};
+ghost use Prim.Native.Nat.{_+_, _*_, _^_, _≤_, _<_};
 ghost use lib.IntN.{natAbs};
 ghost use lib.ListN.{length};
 ghost use Rattle.decimals.specs.Decimal.{decimal};
 ghost use Rattle.decimals.specs.Puts.{Puts};
-ghost use Rattle.redrawn.specs.Redrawn.{startText, moveText, changeText, strokeText, strokesText, strokeAt, strokesIn, fitsIn, writtenOf, outputOf};
+ghost use Rattle.redrawn.specs.Redrawn.{startText, moveText, changeText, strokeText, strokeAt, strokesIn, writtenOf, outputOf};
 ghost use Rattle.redrawn.specs.Redrawn as R;
+ghost use Rattle.redrawing.specs.Drafts.{addedOf, judgedOf, begun, nextOf, nextOut, turnedOf, turnedOut, RoomFor, RoomToStart};
 ghost use Rattle.redrawing.specs.RedrawingLaws.{bytesOf};
 use decimals::put_byte;
 use decimals::put_natural;
@@ -33,6 +34,9 @@ const TOO_SHORT: u8 = 33;
 
 // The numbers of a stroke: pen and ends.
 const NUMBERS: usize = 5;
+
+// The bytes of IN and its semicolon.
+const START: usize = 3;
 
 // ---- which strokes can be written
 
@@ -78,22 +82,6 @@ fn stroke_at(numbers: &[i64], i: usize) -> Stroke
         x1: row.d,
         y1: row.e,
     }
-}
-
-// Whether all strokes can be written.
-fn all_writable(numbers: &[i64]) -> bool
-    ensures { λ r. ⌜ r ≡ R.allWritable (strokesIn (now (numbers .entry))) ⌝ }
-{
-    let count = numbers.len() / NUMBERS;
-    let mut i = 0;
-    while i < count {
-        let s = stroke_at(numbers, i);
-        if !writable(s) {
-            return false;
-        }
-        i += 1;
-    }
-    true
 }
 
 // ---- how long the text is
@@ -142,31 +130,6 @@ fn stroke_length(before: u8, s: Stroke) -> usize
     8 + start + end
 }
 
-// Whether an output of so many bytes has room for the text.
-fn text_fits(numbers: &[i64], room: usize) -> bool
-    requires { ⌜ R.allWritable (strokesIn (now numbers)) ≡ true ⌝ }
-    ensures { λ r. ⌜ r ≡ fitsIn (strokesIn (now (numbers .entry))) room ⌝ }
-{
-    if room < 3 {
-        return false;
-    }
-    let count = numbers.len() / NUMBERS;
-    let mut left = room - 3;
-    let mut before = 0;
-    let mut i = 0;
-    while i < count {
-        let s = stroke_at(numbers, i);
-        let n = stroke_length(before, s);
-        if left < n {
-            return false;
-        }
-        left -= n;
-        before = s.pen;
-        i += 1;
-    }
-    true
-}
-
 // ---- the text
 
 // IN, which makes the machine as fresh.
@@ -213,22 +176,118 @@ fn put_stroke(out: &mut [u8], at: usize, before: u8, s: Stroke) -> usize
     put_move(out, down, b'D', s.x1, s.y1)
 }
 
-// All strokes. Before the first there is no pen, 0.
-fn put_strokes(out: &mut [u8], at: usize, numbers: &[i64]) -> usize
-    requires { ⌜ at + length (strokesText 0 (strokesIn (now numbers))) ≤ length (now out) ⌝ }
-    ensures { λ r. ⌜ Puts (strokesText 0 (strokesIn (now (numbers .entry)))) (now (out .entry)) (now (out .exit)) at r ⌝ }
+// ---- the list, judged and then written
+
+// How far a list is: whether it is judged or written, which stroke is next, the pen before it (0 before the first), and the answer so far.
+pub struct Draft {
+    pub judging: bool,
+    pub at: usize,
+    pub before: u8,
+    pub written: Written,
+}
+
+// So many bytes more, if the output has room.
+fn added(length: usize, more: usize, room: usize) -> Written
+    requires { ⌜ length ≤ room ⌝ }
+    ensures { λ r. ⌜ r ≡ addedOf length more room ⌝ }
 {
-    let count = numbers.len() / NUMBERS;
-    let mut end = at;
-    let mut before = 0;
-    let mut i = 0;
-    while i < count {
-        let s = stroke_at(numbers, i);
-        end = put_stroke(out, end, before, s);
-        before = s.pen;
-        i += 1;
+    if room - length < more {
+        return Written {
+            length: 0,
+            number: TOO_SHORT,
+        };
     }
-    end
+    Written {
+        length: length + more,
+        number: 0,
+    }
+}
+
+// The answer with a stroke more.
+fn judged(w: Written, before: u8, s: Stroke, room: usize) -> Written
+    requires { ⌜ w .length ≤ room ⌝ }
+    ensures { λ r. ⌜ r ≡ judgedOf w before s room ⌝ }
+{
+    if !writable(s) {
+        return Written {
+            length: 0,
+            number: NOT_WRITABLE,
+        };
+    }
+    if w.number != 0 {
+        return w;
+    }
+    let n = stroke_length(before, s);
+    added(w.length, n, room)
+}
+
+// A list of which nothing is judged yet: its text has IN.
+pub fn begin(room: usize) -> Draft
+    ensures { λ r. ⌜ r ≡ begun room ⌝ }
+{
+    let start = added(0, START, room);
+    Draft {
+        judging: true,
+        at: 0,
+        before: 0,
+        written: start,
+    }
+}
+
+// The next stroke is judged, or written.
+pub fn next(d: Draft, s: Stroke, out: &mut [u8]) -> Draft
+    requires { ⌜ (d .at + 1 < 2 ^ 64) × RoomFor d s (length (now out)) ⌝ }
+    ensures { λ r. ⌜ r ≡ nextOf d s (length (now (out .entry))) ⌝ }
+    ensures { λ _. ⌜ now (out .exit) ≡ nextOut d s (now (out .entry)) ⌝ }
+{
+    let at = d.at + 1;
+    let w = d.written;
+    if d.judging {
+        let sum = judged(w, d.before, s, out.len());
+        return Draft {
+            judging: true,
+            at: at,
+            before: s.pen,
+            written: sum,
+        };
+    }
+    let end = put_stroke(out, w.length, d.before, s);
+    Draft {
+        judging: false,
+        at: at,
+        before: s.pen,
+        written: Written {
+            length: end,
+            number: w.number,
+        },
+    }
+}
+
+// The whole list is judged: it is refused, or begun again with its text.
+pub fn turned(d: Draft, out: &mut [u8]) -> Draft
+    requires { ⌜ RoomToStart d (length (now out)) ⌝ }
+    ensures { λ r. ⌜ r ≡ turnedOf d ⌝ }
+    ensures { λ _. ⌜ now (out .exit) ≡ turnedOut d (now (out .entry)) ⌝ }
+{
+    let w = d.written;
+    if w.number != 0 {
+        return Draft {
+            judging: false,
+            at: d.at,
+            before: d.before,
+            written: w,
+        };
+    }
+    let end = put_start(out, 0);
+    Draft {
+        judging: false,
+        at: 0,
+        before: 0,
+        written: Written {
+            length: end,
+            number: 0,
+        },
+    }
 }
 
 // Writes strokes, five numbers for each, as HP-GL into the output from its start on.
@@ -236,22 +295,16 @@ pub fn write(numbers: &[i64], out: &mut [u8]) -> Written
     ensures { λ r. ⌜ r ≡ writtenOf (strokesIn (now (numbers .entry))) (length (now (out .entry))) ⌝ }
     ensures { λ _. ⌜ now (out .exit) ≡ outputOf (strokesIn (now (numbers .entry))) (now (out .entry)) ⌝ }
 {
-    if !all_writable(numbers) {
-        return Written {
-            length: 0,
-            number: NOT_WRITABLE,
-        };
-    }
-    if !text_fits(numbers, out.len()) {
-        return Written {
-            length: 0,
-            number: TOO_SHORT,
-        };
-    }
-    let first = put_start(out, 0);
-    let end = put_strokes(out, first, numbers);
-    Written {
-        length: end,
-        number: 0,
+    let count = numbers.len() / NUMBERS;
+    let mut d = begin(out.len());
+    loop {
+        if d.at < count {
+            let s = stroke_at(numbers, d.at);
+            d = next(d, s, out);
+        } else if d.judging {
+            d = turned(d, out);
+        } else {
+            return d.written;
+        }
     }
 }

@@ -11,6 +11,7 @@ use Rattle.hpgl.specs.Machine.{freshState, freshNumber, takeState, takeNumber, 
 use Rattle.feeding.specs.Feed.{feedOf, laidNumbers}
 use Rattle.feeding.specs.Plot.{plotFrom, laidMarks}
 use Rattle.answers.specs.Answers.{drawnKind, drawnNumbers, lookNumbers, countsOf, markCountsOf}
+use Rattle.redrawn.specs.Redrawn.{writtenOf, outputOf, strokesIn}
 use Rattle.readiness.specs.Ready.{tooShort, listNumbers, listOf, machineIn, readyOf}
 
 -- where a call is refused, every list is as it was
@@ -84,3 +85,15 @@ plotCall zs bytes records answer =
     cond (eqb (readyOf zs 2 (length answer)) 0)
     (record { number = f .number; state = listOf (f .state); records = laidMarks (f .marks) records; answer = over answer 0 (markCountsOf f) })
     (record { number = readyOf zs 2 (length answer); state = zs; records = records; answer = answer })
+
+pub record WriteLeft : Type 0 where
+  pub number : ℕ
+  pub out : List ℕ
+  pub answer : List ℕ
+
+-- strokes as HP-GL (document 02, CR 6): five numbers for each stroke; the answer has the length of the text
+unfoldable pub writeCall : List ℤ → List ℕ → List ℕ → WriteLeft
+writeCall numbers out answer =
+    let w = writtenOf (strokesIn numbers) (length out) in
+    cond (eqb (length answer) 0) (record { number = tooShort; out = out; answer = answer })
+    (record { number = w .number; out = outputOf (strokesIn numbers) out; answer = over answer 0 (w .length ∷ []) })

@@ -3,7 +3,7 @@
 // specs/Calls.antt has one definition for what each call leaves; the crate readiness has that each list which the calls leave is a machine. include/vutaroi.h is the same in C's words.
 ghost use mathlib.Core.Path.{_≡_};
 ghost use Rattle.hpgl.specs.Machine.{rect};
-ghost use Rattle.vutaroi.specs.Calls.{freshCall, takeCall, drawCall, lookCall, fetchCall, feedCall, plotCall};
+ghost use Rattle.vutaroi.specs.Calls.{freshCall, takeCall, drawCall, lookCall, fetchCall, feedCall, plotCall, writeCall};
 use calling::draw_in;
 use calling::feed_in;
 use calling::fetch_in;
@@ -15,6 +15,7 @@ use readiness::HEADER;
 use readiness::LIST;
 use readiness::TOO_SHORT;
 use readiness::ready;
+use redrawing::write;
 use seal::seal;
 
 // The version of the library: 0.1.0.
@@ -145,4 +146,18 @@ pub extern "C" fn vutaroi_plot(
         return number;
     }
     status
+}
+
+#[no_mangle]
+pub extern "C" fn vutaroi_write(numbers: &[i64], out: &mut [u8], answer: &mut [u64]) -> u8
+    ensures { λ r. ⌜ r ≡ writeCall (now (numbers .entry)) (now (out .entry)) (now (answer .entry)) .number ⌝ }
+    ensures { λ _. ⌜ now (out .exit) ≡ writeCall (now (numbers .entry)) (now (out .entry)) (now (answer .entry)) .out ⌝ }
+    ensures { λ _. ⌜ now (answer .exit) ≡ writeCall (now (numbers .entry)) (now (out .entry)) (now (answer .entry)) .answer ⌝ }
+{
+    if answer.len() == 0 {
+        return TOO_SHORT;
+    }
+    let written = write(numbers, out);
+    answer[0] = written.length as u64;
+    written.number
 }

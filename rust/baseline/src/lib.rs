@@ -2,9 +2,9 @@
 //!
 //! This crate is a plain Rust implementation of document 01, the specification of the
 //! project, with change requests 1 (arcs), 2 (the fifth decimal), 3 (half and three-quarter turns),
-//! 4 (line types) and 5 (replies) of document 02, written from these texts alone.
-//! It serves two ends: a partner that another
-//! implementation is compared with byte by byte, and a baseline of speed.
+//! 4 (line types), 5 (replies) and 6 (strokes back into HP-GL) of document 02, written from these
+//! texts alone. It serves two ends: a partner that another implementation is compared with byte by
+//! byte, and a baseline of speed.
 //!
 //! Four layers stand one above another:
 //!
@@ -12,6 +12,8 @@
 //! * [`geometry`]: rounding, scaling, the turns, the clip and the manual's line types.
 //! * [`Machine`]: settings, position, pen, polygon, waiting segments.
 //! * [`Machine::feed`] and [`drive`]: bytes in, strokes out; strokes to moves of the drive.
+//!
+//! The way back, [`write`](write()), needs none of them: strokes in, bytes out.
 //!
 //! Beside them, [`exact`] is a slow model in exact arithmetic that checks the painted
 //! strokes against the exact lines (condition 3). It shares nothing with the machine but
@@ -38,11 +40,13 @@ pub mod reader;
 mod reply;
 pub mod sines;
 mod wide;
+mod write;
 
 pub use drive::{drive, Move, Moves, Place};
 pub use feed::Fed;
 pub use machine::{Drawn, Look, Machine, Stroke};
 pub use reply::LONGEST_REPLY;
+pub use write::{write, Record};
 
 /// The numbers of document 01, "Causes and numbers".
 pub mod number {
@@ -70,4 +74,8 @@ pub mod number {
     pub const FULL: u8 = 21;
     /// Fetch: the buffer is shorter than the reply.
     pub const SHORT: u8 = 31;
+    /// Write: a stroke with another pen than 1 to 8, or an end of more than 16 bits.
+    pub const STROKE: u8 = 32;
+    /// Write: the output is shorter than the text.
+    pub const OUTPUT: u8 = 33;
 }

@@ -1,6 +1,7 @@
 //! The loads of the benchmark.
 
 use crate::dice::Dice;
+use crate::partner::{Partner, Record};
 
 /// The hard limits of all loads: the widest.
 pub const LIMITS: [i64; 4] = [-32_768, -32_768, 32_767, 32_767];
@@ -23,6 +24,19 @@ const WINDOW: &str = "IN;SP1;IW-5000,-3500,5000,3500;";
 /// A rink that Inkscape wrote.
 const RINK: &[u8] = include_bytes!("../../../crates/drawings/data/inkscape_rink.hpgl");
 
+/// The strokes of the load of write: so many pens in turn, each with so many strokes.
+const PENS: usize = 1_250;
+const STROKES_OF_A_PEN: usize = 8;
+
+/// The load of write: not its bytes are plotted, but what they paint is written.
+const REDRAW: Load = Load {
+    name: "redraw",
+    about: "10,000 strokes to HP-GL",
+    setup: "IN;",
+    size: "IN;".len() + 1,
+    part: drawing,
+};
+
 /// A load: its name, what it is, and its bytes.
 pub struct Load {
     /// A short name.
@@ -36,7 +50,7 @@ pub struct Load {
 }
 
 /// Every load.
-pub const LOADS: [Load; 15] = [
+pub const LOADS: [Load; 16] = [
     Load { name: "pd", about: "PD moves", setup: "IN;SP1;", size: MOVES, part: pen_down },
     Load { name: "pu", about: "PU moves", setup: "IN;SP1;", size: MOVES, part: pen_up },
     Load {
@@ -112,6 +126,7 @@ pub const LOADS: [Load; 15] = [
         size: MOVES,
         part: drawn_then_asked,
     },
+    REDRAW,
 ];
 
 impl Load {
@@ -123,6 +138,17 @@ impl Load {
             text.extend((self.part)(&mut dice).bytes());
         }
         text
+    }
+
+    /// The strokes of its bytes, if it is the load of write; they are written as its bytes.
+    pub fn strokes(&self) -> Option<Vec<Record>> {
+        if self.name != REDRAW.name {
+            return None;
+        }
+        let mut list = vec![[0; 5]; PENS * STROKES_OF_A_PEN];
+        let mut machine = <baseline::Machine as Partner>::fresh(LIMITS).0;
+        Partner::feed(&mut machine, &self.bytes(), &mut list);
+        Some(list)
     }
 }
 
@@ -225,6 +251,18 @@ fn asked(dice: &mut Dice) -> String {
         _ => String::new(),
     };
     format!("{before}OA;OP;OW;OH;OE;")
+}
+
+/// Strokes of one pen after another.
+fn drawing(dice: &mut Dice) -> String {
+    let mut text = String::new();
+    for pen in (1..=8).cycle().take(PENS) {
+        text += &format!("SP{pen};");
+        for _ in 0..STROKES_OF_A_PEN {
+            text += &format!("PU{};PD{};", pair(dice), pair(dice));
+        }
+    }
+    text
 }
 
 /// A package that draws, and asks where the pen is or what was refused.

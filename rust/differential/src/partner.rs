@@ -1,6 +1,6 @@
 //! The calls of document 01, with plain numbers as answers.
 
-use baseline::{Drawn, Fed, Look, Stroke};
+use baseline::{number, Drawn, Fed, Look, Stroke};
 
 /// Five numbers: a stroke (pen, x0, y0, x1, y1), or a refusal (0, number, byte, 0, 0).
 pub type Record = [i64; 5];
@@ -21,6 +21,33 @@ pub trait Partner: Sized {
     fn feed(&mut self, bytes: &[u8], records: &mut [Record]) -> Fed;
     /// Bytes in, strokes and refusals out.
     fn plot(&mut self, bytes: &[u8], records: &mut [Record]) -> Fed;
+}
+
+/// The proved library's own form of five numbers.
+pub fn own(&[pen, x0, y0, x1, y1]: &Record) -> vutaroi::Stroke {
+    vutaroi::Stroke { pen, x0, y0, x1, y1 }
+}
+
+/// Writes strokes as HP-GL; the bytes written, and 0, 32 or 33.
+pub fn write(strokes: &[Record], out: &mut [u8]) -> (usize, u8) {
+    let list: Vec<vutaroi::Stroke> = strokes.iter().map(own).collect();
+    write_own(&list, out)
+}
+
+/// The same of strokes in the library's form.
+#[cfg(feature = "writing")]
+pub fn write_own(strokes: &[vutaroi::Stroke], out: &mut [u8]) -> (usize, u8) {
+    match vutaroi::write(strokes, out) {
+        Ok(length) => (length, number::NONE),
+        Err(vutaroi::NotWritten::Stroke) => (0, number::STROKE),
+        Err(vutaroi::NotWritten::Short) => (0, number::OUTPUT),
+    }
+}
+
+/// A library from before change request 6 has no such call.
+#[cfg(not(feature = "writing"))]
+pub fn write_own(_: &[vutaroi::Stroke], _: &mut [u8]) -> (usize, u8) {
+    (0, number::NONE)
 }
 
 /// A stroke of the proved library; a pen that no machine has becomes 255.
@@ -76,8 +103,7 @@ impl Partner for vutaroi::Machine {
     }
 
     fn feed(&mut self, bytes: &[u8], records: &mut [Record]) -> Fed {
-        let lent = |&[pen, x0, y0, x1, y1]: &Record| vutaroi::Stroke { pen, x0, y0, x1, y1 };
-        let mut list: Vec<vutaroi::Stroke> = records.iter().map(lent).collect();
+        let mut list: Vec<vutaroi::Stroke> = records.iter().map(own).collect();
         let answer = vutaroi::Machine::feed(self, bytes, &mut list).expect(OWN);
         for (record, s) in records.iter_mut().zip(&list) {
             *record = [s.pen, s.x0, s.y0, s.x1, s.y1];

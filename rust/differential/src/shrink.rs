@@ -6,7 +6,7 @@ pub fn shrink(input: &[u8], mut fails: impl FnMut(&[u8]) -> bool) -> Vec<u8> {
     let mut shortest = input.to_vec();
     loop {
         let before = shortest.clone();
-        leave_out(&mut shortest, &mut fails);
+        shorten(&mut shortest, &mut fails);
         simplify(&mut shortest, &mut fails);
         if shortest == before {
             return shortest;
@@ -14,8 +14,8 @@ pub fn shrink(input: &[u8], mut fails: impl FnMut(&[u8]) -> bool) -> Vec<u8> {
     }
 }
 
-/// Leaves out chunks, half of the input at first and single bytes at last.
-fn leave_out(input: &mut Vec<u8>, fails: &mut impl FnMut(&[u8]) -> bool) {
+/// Leaves out chunks, half of the input at first and single bytes, or other parts of it, at last.
+pub(crate) fn shorten<T: Clone>(input: &mut Vec<T>, fails: &mut impl FnMut(&[T]) -> bool) {
     let mut size = input.len().div_ceil(2);
     while size > 0 {
         leave_out_chunks(input, size, fails);
@@ -23,7 +23,11 @@ fn leave_out(input: &mut Vec<u8>, fails: &mut impl FnMut(&[u8]) -> bool) {
     }
 }
 
-fn leave_out_chunks(input: &mut Vec<u8>, size: usize, fails: &mut impl FnMut(&[u8]) -> bool) {
+fn leave_out_chunks<T: Clone>(
+    input: &mut Vec<T>,
+    size: usize,
+    fails: &mut impl FnMut(&[T]) -> bool,
+) {
     let mut at = 0;
     while at < input.len() {
         let end = (at + size).min(input.len());

@@ -303,3 +303,73 @@ fn limits_accepted() {
     let finding = found_within::<Accepted>(Family::Drawings, 0);
     assert_ne!(finding.limits, differential::hunt::USUAL);
 }
+
+/// Faults in the texts of strokes.
+#[cfg(feature = "writing")]
+mod redraw {
+    use baseline::number;
+    use differential::partner::{write, Record};
+    use differential::redraw::{hunt, Write};
+    use vutaroi::Machine;
+
+    /// The fault is found in lists of strokes, and shown with at most so many of them.
+    fn found_within(write: Write, most: usize) {
+        let Err(finding) = hunt::<Machine>(write, 1, 8_000) else {
+            panic!("the fault was not found");
+        };
+        println!("{finding}");
+        assert!(finding.list.len() <= most, "not shrunk: {finding}");
+        assert!(finding.calls.contains("// due "), "no calls: {finding}");
+    }
+
+    fn byte_past(strokes: &[Record], out: &mut [u8]) -> (usize, u8) {
+        let answer = write(strokes, out);
+        if let (number::NONE, Some(past)) = (answer.1, out.get_mut(answer.0)) {
+            *past = 0;
+        }
+        answer
+    }
+
+    #[test]
+    fn byte_past_a_text() {
+        found_within(byte_past, 0);
+    }
+
+    /// 33 before 32: a list that is refused is so with 33 where one of its length would not fit.
+    fn short_first(strokes: &[Record], out: &mut [u8]) -> (usize, u8) {
+        match write(strokes, out) {
+            (0, number::STROKE) if out.len() < 19 => (0, number::OUTPUT),
+            answer => answer,
+        }
+    }
+
+    #[test]
+    fn short_before_other() {
+        found_within(short_first, 1);
+    }
+
+    /// A stroke that is refused, with those before it written.
+    fn up_to_it(strokes: &[Record], out: &mut [u8]) -> (usize, u8) {
+        let answer = write(strokes, out);
+        if let (0, number::STROKE, [first, _, ..]) = (answer.0, answer.1, strokes) {
+            write(&[*first], out);
+        }
+        answer
+    }
+
+    #[test]
+    fn bad_stroke_in_the_middle() {
+        found_within(up_to_it, 2);
+    }
+
+    /// A text whose last byte is not counted.
+    fn counted_short(strokes: &[Record], out: &mut [u8]) -> (usize, u8) {
+        let (length, number) = write(strokes, out);
+        (length.saturating_sub(usize::from(strokes.len() > 2)), number)
+    }
+
+    #[test]
+    fn text_counted_short() {
+        found_within(counted_short, 3);
+    }
+}

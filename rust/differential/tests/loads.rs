@@ -1,4 +1,5 @@
-//! The loads that are named after a line type have segments of that type alone, and all of them show.
+//! The loads that are named after a line type have segments of that type alone, and all of them show; the
+//! load of write has the text of its strokes.
 
 use baseline::{Drawn, Machine};
 use differential::loads::{LIMITS, LOADS};
@@ -21,4 +22,15 @@ fn line_types_of_loads() {
         println!("{name}: {strokes} strokes of type {due}");
         assert!(strokes > 3_000, "{name}: {strokes}");
     }
+}
+
+#[test]
+fn text_of_a_load() {
+    let load = LOADS.into_iter().find(|load| load.name == "redraw").expect("a load of write");
+    let (list, mut out) = (load.strokes().expect("strokes"), load.bytes());
+    assert_eq!(list.len(), 10_000);
+    out.fill(0);
+    assert_eq!(baseline::write(&list, &mut out), (out.len(), 0));
+    assert!(out == load.bytes());
+    assert_eq!(LOADS.iter().filter(|load| load.strokes().is_some()).count(), 1);
 }

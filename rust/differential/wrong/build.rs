@@ -1,12 +1,16 @@
 //! Writes copies of the baseline, each with one fault: in its arcs for `src/arcs.rs`, in the rounding of
 //! numbers for `src/decimals.rs`, in its turns for `src/turns.rs`, in what becomes of a segment by its
-//! type for `src/line_types.rs`, in its replies for `src/replies.rs`.
+//! type for `src/line_types.rs`, in its replies for `src/replies.rs`, in its texts of strokes for
+//! `src/redraw.rs`.
 
 use std::path::Path;
 use std::{env, fs};
 
 /// The parts of the baseline that its machine is made of.
 const PARTS: [&str; 5] = ["geometry", "reader", "reply", "machine", "feed"];
+
+/// What writes strokes as text, by itself.
+const WRITER: [&str; 1] = ["write"];
 
 /// A fault: its name, the part, what is there once, and what it becomes.
 type Fault = (&'static str, &'static str, &'static str, &'static str);
@@ -383,6 +387,123 @@ const REPLIES: [Fault; 25] = [
     ("minus_zero", "reply", SIGN, "if value <= 0 {"),
 ];
 
+/// What judges a list, and what makes up the text of a stroke.
+const JUDGED_FIRST: &str = "if !strokes.iter().all(is_allowed) {";
+const ROOM: &str = "let Some(room) = out.get_mut(..length) else { return (0, number::OUTPUT) };";
+const DONE: &str = "(length, number::NONE)";
+const PENS: &str = "(1..=8).contains(pen)";
+const ENDS: &str = "i16::try_from(end).is_ok()";
+const EACH: &str = "for &[pen, x0, y0, x1, y1] in strokes {";
+const CHANGE: &str = "if pen != before {";
+const FROM: &str = "self.pair(b\"PU\", x0, y0);";
+const UP_TO_FROM: &str = "\
+let mut before = NO_PEN;
+        for &[pen, x0, y0, x1, y1] in strokes {
+            if pen != before {
+                self.bytes(b\"SP\");
+                self.whole(pen);
+                self.bytes(b\";\");
+            }
+            self.pair(b\"PU\", x0, y0);";
+const TO: &str = "self.pair(b\"PD\", x1, y1);";
+
+const REDRAW: [Fault; 28] = [
+    (
+        "short_before_other",
+        "write",
+        JUDGED_FIRST,
+        "let mut text = Length(0);\n    text.strokes(strokes);\n    if text.0 > out.len() {\n        return (0, number::OUTPUT);\n    }\n    if !strokes.iter().all(is_allowed) {",
+    ),
+    (
+        "written_up_to_a_bad_stroke",
+        "write",
+        JUDGED_FIRST,
+        "if let Some(at) = strokes.iter().position(|stroke| !is_allowed(stroke)) {\n        write(&strokes[..at], out);",
+    ),
+    ("only_the_first_judged", "write", JUDGED_FIRST, "if !strokes.iter().take(1).all(is_allowed) {"),
+    (
+        "last_not_judged",
+        "write",
+        JUDGED_FIRST,
+        "if !strokes.iter().rev().skip(1).all(is_allowed) {",
+    ),
+    (
+        "length_with_a_refusal",
+        "write",
+        "return (0, number::STROKE);",
+        "return (3, number::STROKE);",
+    ),
+    (
+        "short_output_written",
+        "write",
+        ROOM,
+        "let Some(room) = out.get_mut(..length) else {\n        if let Some(start) = out.get_mut(..3) {\n            start.copy_from_slice(b\"IN;\");\n        }\n        return (0, number::OUTPUT);\n    };",
+    ),
+    (
+        "fitting_output_refused",
+        "write",
+        ROOM,
+        "if out.len() == length {\n        return (0, number::OUTPUT);\n    }\n    let Some(room) = out.get_mut(..length) else { return (0, number::OUTPUT) };",
+    ),
+    (
+        "byte_past_the_text",
+        "write",
+        DONE,
+        "if let Some(past) = out.get_mut(length) {\n        *past = 0;\n    }\n    (length, number::NONE)",
+    ),
+    ("counted_one_more", "write", DONE, "(length + usize::from(strokes.len() > 2), number::NONE)"),
+    ("pen_0_allowed", "write", PENS, "(0..=8).contains(pen)"),
+    ("pen_9_allowed", "write", PENS, "(1..=9).contains(pen)"),
+    ("pen_8_refused", "write", PENS, "(1..=7).contains(pen)"),
+    ("pen_by_its_lowest_byte", "write", PENS, "(1..=8).contains(&(*pen as u8))"),
+    ("end_32768_allowed", "write", ENDS, "(-32_768..=32_768).contains(&end)"),
+    ("least_end_refused", "write", ENDS, "i16::try_from(end).is_ok_and(|end| end > i16::MIN)"),
+    ("end_by_its_lower_half", "write", ENDS, "i16::try_from(end as i32).is_ok()"),
+    ("in_without_its_semicolon", "write", "self.bytes(b\"IN;\");", "self.bytes(b\"IN\");"),
+    (
+        "no_sp_where_the_pen_comes_back",
+        "write",
+        CHANGE,
+        "if pen != before && (before == NO_PEN || pen != strokes[0][0]) {",
+    ),
+    ("sp_before_each", "write", CHANGE, "if pen != NO_PEN || before == NO_PEN {"),
+    ("no_sp_before_the_first", "write", "const NO_PEN: i64 = 0;", "const NO_PEN: i64 = 1;"),
+    ("pd_from_the_last_end", "write", FROM, "if before == NO_PEN {\n                self.pair(b\"PU\", x0, y0);\n            }"),
+    (
+        "strokes_joined",
+        "write",
+        UP_TO_FROM,
+        "\
+let (mut before, mut last) = (NO_PEN, None);
+        for &[pen, x0, y0, x1, y1] in strokes {
+            if pen != before {
+                self.bytes(b\"SP\");
+                self.whole(pen);
+                self.bytes(b\";\");
+            }
+            if last != Some([x0, y0]) {
+                self.pair(b\"PU\", x0, y0);
+            }
+            last = Some([x1, y1]);",
+    ),
+    ("from_end_to_start", "write", "b\"PU\", x0, y0);\n            self.pair(b\"PD\", x1, y1)", "b\"PU\", x1, y1);\n            self.pair(b\"PD\", x0, y0)"),
+    (
+        "dot_left_out",
+        "write",
+        TO,
+        "if (x0, y0) != (x1, y1) {\n                self.pair(b\"PD\", x1, y1);\n            }",
+    ),
+    (
+        "equal_strokes_once",
+        "write",
+        EACH,
+        "let mut once = strokes.to_vec();\n        once.dedup();\n        for [pen, x0, y0, x1, y1] in once {",
+    ),
+    ("minus_zero", "write", "if value < 0 {", "if value <= 0 {"),
+    ("plus_sign", "write", "if value < 0 {", "if value > 0 {\n            self.bytes(b\"+\");\n        }\n        if value < 0 {"),
+    ("digits_in_front", "write", "fold(1,", "fold(2,"),
+];
+
 /// The text of a part with the fault in it, if it is the one.
 fn part(source: &Path, part: &str, (name, at, right, wrong): Fault) -> String {
     let file = source.join(part).with_extension("rs");
@@ -395,10 +516,10 @@ fn part(source: &Path, part: &str, (name, at, right, wrong): Fault) -> String {
     text.replace(right, wrong)
 }
 
-/// The copy as a module; the numbers and the sines are the baseline's own.
-fn copy(source: &Path, fault: Fault) -> String {
-    let parts = PARTS.map(|name| format!("pub mod {name} {{\n{}}}\n", part(source, name, fault)));
-    let text = parts.concat().replace("crate::", "super::");
+/// The copy of these parts as a module; the numbers and the sines are the baseline's own.
+fn copy(source: &Path, parts: &[&str], fault: Fault) -> String {
+    let module = |name: &&str| format!("pub mod {name} {{\n{}}}\n", part(source, name, fault));
+    let text = parts.iter().map(module).collect::<String>().replace("crate::", "super::");
     format!("pub mod {} {{\npub use baseline::{{number, sines}};\n{text}}}\n", fault.0)
 }
 
@@ -409,14 +530,15 @@ fn main() {
     println!("cargo:rerun-if-changed={}", source.display());
     let out = env::var_os("OUT_DIR").expect("cargo says where to write");
     let files = [
-        ("wrong_arcs.rs", &ARCS[..]),
-        ("wrong_decimals.rs", &DECIMALS[..]),
-        ("wrong_turns.rs", &TURNS[..]),
-        ("wrong_line_types.rs", &LINE_TYPES[..]),
-        ("wrong_replies.rs", &REPLIES[..]),
+        ("wrong_arcs.rs", &PARTS[..], &ARCS[..]),
+        ("wrong_decimals.rs", &PARTS, &DECIMALS),
+        ("wrong_turns.rs", &PARTS, &TURNS),
+        ("wrong_line_types.rs", &PARTS, &LINE_TYPES),
+        ("wrong_replies.rs", &PARTS, &REPLIES),
+        ("wrong_redraw.rs", &WRITER, &REDRAW),
     ];
-    for (file, faults) in files {
-        let copies: String = faults.iter().map(|&fault| copy(&source, fault)).collect();
+    for (file, parts, faults) in files {
+        let copies: String = faults.iter().map(|&fault| copy(&source, parts, fault)).collect();
         fs::write(Path::new(&out).join(file), copies).expect("the folder of the build");
     }
 }

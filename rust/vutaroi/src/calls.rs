@@ -63,6 +63,14 @@ extern "C" {
         answer: *mut u64,
         answer_len: usize,
     ) -> u8;
+    fn vutaroi_write(
+        numbers: *const i64,
+        numbers_len: usize,
+        out: *mut u8,
+        out_len: usize,
+        answer: *mut u64,
+        answer_len: usize,
+    ) -> u8;
 }
 
 type State = [i64; NUMBERS];
@@ -153,6 +161,23 @@ pub fn plot(state: &mut State, bytes: &[u8], marks: &mut [Mark]) -> Result<Fed, 
         )
     };
     fed(answer, number)
+}
+
+/// The bytes written, and the number.
+pub fn write(strokes: &[Stroke], out: &mut [u8]) -> (usize, u8) {
+    let mut answer = [0u64; 1];
+    // SAFETY: the counts are the lists'; a stroke is five numbers, and any will do.
+    let number = unsafe {
+        vutaroi_write(
+            strokes.as_ptr().cast(),
+            strokes.len() * RECORD_NUMBERS,
+            out.as_mut_ptr(),
+            out.len(),
+            answer.as_mut_ptr(),
+            answer.len(),
+        )
+    };
+    (answer[0] as usize, number)
 }
 
 fn fed([taken, stored]: [u64; 2], number: u8) -> Result<Fed, NoMachine> {

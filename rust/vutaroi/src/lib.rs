@@ -72,6 +72,41 @@ pub struct Stroke {
     pub y1: i64,
 }
 
+/// Why [`write`] wrote nothing.
+#[derive(Clone, Copy, Debug, PartialEq, Eq, Hash)]
+pub enum NotWritten {
+    /// 32: a stroke has a pen other than 1 to 8, or an end outside -32768 to 32767.
+    Stroke,
+    /// 33: the output is shorter than the text.
+    Short,
+}
+
+impl fmt::Display for NotWritten {
+    fn fmt(&self, f: &mut fmt::Formatter<'_>) -> fmt::Result {
+        f.write_str(match self {
+            NotWritten::Stroke => "a stroke has a pen other than 1 to 8, or an end outside -32768 to 32767",
+            NotWritten::Short => "the output is too short",
+        })
+    }
+}
+
+impl Error for NotWritten {}
+
+/// The most bytes of HP-GL that so many strokes can take.
+pub fn most_bytes(strokes: usize) -> usize {
+    3 + 36 * strokes
+}
+
+/// Strokes as HP-GL, from the start of the output on: how many bytes it has; the bytes after them keep
+/// their content. A fresh machine whose hard limits contain all ends makes just these strokes of it.
+pub fn write(strokes: &[Stroke], out: &mut [u8]) -> Result<usize, NotWritten> {
+    match calls::write(strokes, out) {
+        (length, 0) => Ok(length),
+        (_, 32) => Err(NotWritten::Stroke),
+        _ => Err(NotWritten::Short),
+    }
+}
+
 /// A refused byte.
 #[derive(Clone, Copy, Debug, PartialEq, Eq, Hash)]
 pub struct Refusal {
@@ -282,6 +317,95 @@ mod tests {
             bad[i] ^= 1;
             assert_eq!(Machine::from_numbers(bad).err(), Some(NoMachine), "number {i}");
         }
+    }
+
+    fn stroke(pen: i64, x0: i64, y0: i64, x1: i64, y1: i64) -> Stroke {
+        Stroke { pen, x0, y0, x1, y1 }
+    }
+
+    /// The outcomes of document 02's CR 6; the output holds sevens where nothing was written.
+    #[test]
+    fn strokes_as_hpgl() {
+        let one = stroke(1, 0, 0, 5, 5);
+        let edge = stroke(8, -32768, 32767, 32767, -32768);
+        let dot = stroke(3, 0, 0, 0, 0);
+        let rows: [(&[Stroke], usize, Result<&str, NotWritten>); 16] = [
+            (&[], 3, Ok("IN;")),
+            (&[], 2, Err(NotWritten::Short)),
+            (&[one], 100, Ok("IN;SP1;PU0,0;PD5,5;")),
+            (&[one], 19, Ok("IN;SP1;PU0,0;PD5,5;")),
+            (&[one], 18, Err(NotWritten::Short)),
+            (&[one, stroke(1, 5, 5, 9, 9)], 100, Ok("IN;SP1;PU0,0;PD5,5;PU5,5;PD9,9;")),
+            (
+                &[one, stroke(2, 5, 5, 9, 9), stroke(1, 0, 0, 1, 1)],
+                100,
+                Ok("IN;SP1;PU0,0;PD5,5;SP2;PU5,5;PD9,9;SP1;PU0,0;PD1,1;"),
+            ),
+            (&[edge], 100, Ok("IN;SP8;PU-32768,32767;PD32767,-32768;")),
+            (&[stroke(3, 7, -7, 7, -7)], 100, Ok("IN;SP3;PU7,-7;PD7,-7;")),
+            (&[dot, dot], 100, Ok("IN;SP3;PU0,0;PD0,0;PU0,0;PD0,0;")),
+            (&[stroke(0, 0, 0, 5, 5)], 100, Err(NotWritten::Stroke)),
+            (&[stroke(9, 0, 0, 5, 5)], 0, Err(NotWritten::Stroke)),
+            (&[one, stroke(1, 32768, 0, 5, 5)], 100, Err(NotWritten::Stroke)),
+            (&[stroke(1, 0, -32769, 5, 5)], 100, Err(NotWritten::Stroke)),
+            (&[stroke(1, 0, 0, 5, 40000)], 100, Err(NotWritten::Stroke)),
+            (&[stroke(-1, 0, 0, 5, 5)], 100, Err(NotWritten::Stroke)),
+        ];
+        for (strokes, room, said) in rows {
+            let mut out = vec![7; room];
+            let written = write(strokes, &mut out);
+            assert_eq!(written, said.map(str::len), "{strokes:?}, {room}");
+            let text = said.unwrap_or("");
+            let mut whole = text.as_bytes().to_vec();
+            whole.resize(room, 7);
+            assert_eq!(out, whole, "{strokes:?}, {room}");
+        }
+    }
+
+    /// The text in a machine: with a record for each stroke, with one too few, and with limits that do
+    /// not contain all ends, of which CR 6 says nothing.
+    #[test]
+    fn a_text_in_a_machine() {
+        let line = stroke(1, 0, 0, 10, 10);
+        let both = [line, stroke(2, 5, 5, 5, 5)];
+        let rows: [(&[Stroke], i64, usize, Fed, &[Stroke]); 3] = [
+            (&both, 10, 2, Fed { taken: 37, stored: 2, number: 0 }, &both),
+            (&both, 10, 1, Fed { taken: 37, stored: 1, number: 21 }, &both[..1]),
+            (&both[..1], 5, 2, Fed { taken: 21, stored: 1, number: 0 }, &[stroke(1, 0, 0, 5, 5)]),
+        ];
+        for (strokes, limit, records, said, painted) in rows {
+            let mut out = vec![0; most_bytes(strokes.len())];
+            let length = write(strokes, &mut out).expect("pens and ends are in range");
+            let (mut machine, _) = Machine::fresh(0, 0, limit, limit);
+            let mut back = vec![Stroke::default(); records];
+            assert_eq!(machine.feed(&out[..length], &mut back), Ok(said), "{strokes:?}");
+            assert_eq!(&back[..said.stored], painted);
+        }
+    }
+
+    /// Strokes of every pen, over the whole range and at its ends, come back.
+    #[test]
+    fn strokes_come_back() {
+        let mut seed = 1u64;
+        let mut next = |below: u64| {
+            seed = seed.wrapping_mul(6364136223846793005).wrapping_add(1442695040888963407);
+            ((seed >> 33) % below) as i64
+        };
+        let mut end = |k: i64| match k % 5 {
+            0 => -32768,
+            1 => 32767,
+            2 => next(21) - 10,
+            _ => next(65536) - 32768,
+        };
+        let strokes: Vec<Stroke> =
+            (0..20_000).map(|i| stroke(end(3).rem_euclid(8) + 1, end(i), end(i + 1), end(i / 3), end(i / 7))).collect();
+        let mut out = vec![0; most_bytes(strokes.len())];
+        let length = write(&strokes, &mut out).expect("pens and ends are in range");
+        let (mut machine, _) = Machine::fresh(-32768, -32768, 32767, 32767);
+        let mut back = vec![Stroke::default(); strokes.len()];
+        let fed = machine.feed(&out[..length], &mut back);
+        assert_eq!(fed, Ok(Fed { taken: length, stored: strokes.len(), number: 0 }));
+        assert_eq!(back, strokes);
     }
 
     #[test]

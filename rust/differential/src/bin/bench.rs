@@ -9,12 +9,13 @@
 //! Both sides do the same job: all strokes, and refusals with the places of their bytes, into a
 //! lent list, block by block; a reply is fetched where it stops them. They run in turns. A call takes some 0.1 ms, and the least time of each
 //! call counts, so that what disturbs one run does not show. Before that a checksum over every mark
-//! and reply of both sides is compared.
+//! and reply of both sides is compared. The load of write is a list of strokes that both sides write as
+//! text, the same list in each call of a run.
 
 use baseline::{number, Stroke, LONGEST_REPLY};
 use differential::least::{Least, Times};
 use differential::loads::{Load, LIMITS, LOADS};
-use differential::partner::Partner;
+use differential::partner::{own, write_own, Partner, Record};
 use std::hint::black_box;
 use std::io::Write;
 use std::process::ExitCode;
@@ -23,6 +24,9 @@ use std::time::Instant;
 const BLOCK: usize = 1 << 16;
 const ROOM: usize = 4096;
 const ROUNDS: usize = 6;
+
+/// Calls of write in a run.
+const WRITES: usize = 100;
 
 /// The fetches whose time is taken at once.
 const FETCHES: usize = 32;
@@ -170,25 +174,90 @@ fn outcome(bytes: &[u8]) -> Result<Outcome, String> {
     }
 }
 
-/// The proved library, with nothing done about its marks.
-fn bare(bytes: &[u8]) -> Times {
-    proved(black_box(bytes), |made| _ = black_box(made))
+/// Writes a list again and again into one output, and answers the nanoseconds of each call.
+fn writes(length: usize, write: impl Fn(&mut [u8]) -> (usize, u8)) -> Times {
+    let mut out = vec![0; length];
+    let time = |_| {
+        let start = Instant::now();
+        black_box(write(black_box(&mut out)));
+        start.elapsed().as_nanos() as u64
+    };
+    (0..WRITES).map(time).collect()
 }
 
-/// The least of each call of both sides, in turns.
-fn measure(bytes: &[u8]) -> [Least; 2] {
-    let mut least = [Least::default(), Least::default()];
-    for _ in 0..ROUNDS {
-        least[0].add(&bare(bytes));
-        least[1].add(&baseline(black_box(bytes), |made| _ = black_box(made)));
+/// The outcome of writing a list, if both sides write this text.
+fn written(list: &[Record], ours: &[vutaroi::Stroke], text: &[u8]) -> Result<Outcome, String> {
+    let mut outs = [vec![0; text.len()], vec![0; text.len()]];
+    let answers = [write_own(ours, &mut outs[0]), baseline::write(list, &mut outs[1])];
+    if answers != [(text.len(), number::NONE); 2] || outs.iter().any(|out| out != text) {
+        return Err(format!("the texts differ: {answers:?}"));
     }
-    least
+    Ok(Outcome { strokes: (list.len() * WRITES) as u64, ..Outcome::default() })
+}
+
+/// A load made ready: bytes that are plotted; or strokes, in the forms of both sides, that are written
+/// as a text.
+enum Job {
+    Plot(Vec<u8>),
+    Write(Vec<Record>, Vec<vutaroi::Stroke>, Vec<u8>),
+}
+
+impl Job {
+    fn of(load: &Load) -> Job {
+        match load.strokes() {
+            None => Job::Plot(load.bytes()),
+            Some(list) => Job::Write(list.clone(), list.iter().map(own).collect(), load.bytes()),
+        }
+    }
+
+    fn outcome(&self) -> Result<Outcome, String> {
+        match self {
+            Job::Plot(bytes) => outcome(bytes),
+            Job::Write(list, ours, text) => written(list, ours, text),
+        }
+    }
+
+    /// The bytes that a run takes or writes.
+    fn bytes(&self) -> usize {
+        match self {
+            Job::Plot(bytes) => bytes.len(),
+            Job::Write(_, _, text) => text.len() * WRITES,
+        }
+    }
+
+    /// The proved library, with nothing done about what it makes.
+    fn ours(&self) -> Times {
+        match self {
+            Job::Plot(bytes) => proved(black_box(bytes), |made| _ = black_box(made)),
+            Job::Write(_, ours, text) => writes(text.len(), |out| write_own(black_box(ours), out)),
+        }
+    }
+
+    /// The baseline, likewise.
+    fn theirs(&self) -> Times {
+        match self {
+            Job::Plot(bytes) => baseline(black_box(bytes), |made| _ = black_box(made)),
+            Job::Write(list, _, text) => {
+                writes(text.len(), |out| baseline::write(black_box(list), out))
+            }
+        }
+    }
+
+    /// The least of each call of both sides, in turns.
+    fn measure(&self) -> [Least; 2] {
+        let mut least = [Least::default(), Least::default()];
+        for _ in 0..ROUNDS {
+            least[0].add(&self.ours());
+            least[1].add(&self.theirs());
+        }
+        least
+    }
 }
 
 fn row(load: &Load, markdown: bool) -> Result<String, String> {
-    let bytes = load.bytes();
-    let seen = outcome(&bytes).map_err(|error| format!("{}: {error}", load.name))?;
-    let least = measure(&bytes);
+    let job = Job::of(load);
+    let seen = job.outcome().map_err(|error| format!("{}: {error}", load.name))?;
+    let least = job.measure();
     let [ours, theirs] = [least[0].total(), least[1].total()];
     let marks = seen.strokes + seen.refusals + seen.replies;
     let each = |time: f64| match marks {
@@ -197,11 +266,11 @@ fn row(load: &Load, markdown: bool) -> Result<String, String> {
     };
     let cells = [
         load.about.to_string(),
-        bytes.len().to_string(),
+        job.bytes().to_string(),
         seen.strokes.to_string(),
         seen.refusals.to_string(),
-        format!("{:.2}", ours / bytes.len() as f64),
-        format!("{:.2}", theirs / bytes.len() as f64),
+        format!("{:.2}", ours / job.bytes() as f64),
+        format!("{:.2}", theirs / job.bytes() as f64),
         each(ours),
         each(theirs),
         format!("{:.2}", ours / theirs),
@@ -235,13 +304,13 @@ fn table(names: &[String], markdown: bool) -> Result<(), String> {
 }
 
 /// Runs the proved library once for each line that is read.
-fn turns(bytes: &[u8]) -> std::io::Result<()> {
+fn turns(job: &Job) -> std::io::Result<()> {
     let mut out = std::io::stdout().lock();
-    writeln!(out, "{}", bytes.len())?;
+    writeln!(out, "{}", job.bytes())?;
     out.flush()?;
     for line in std::io::stdin().lines() {
         line?;
-        let times: Vec<String> = bare(bytes).iter().map(u64::to_string).collect();
+        let times: Vec<String> = job.ours().iter().map(u64::to_string).collect();
         writeln!(out, "{}", times.join(" "))?;
         out.flush()?;
     }
@@ -265,8 +334,9 @@ fn run(mut arguments: Vec<String>) -> Result<(), String> {
     let [name] = &arguments[..] else {
         return Err("--write and --turns ask for one load".to_string());
     };
-    let bytes = LOADS.into_iter().find(|load| load.name == name).expect("a load").bytes();
-    let done = if write { std::io::stdout().write_all(&bytes) } else { turns(&bytes) };
+    let load = LOADS.into_iter().find(|load| load.name == name).expect("a load");
+    let done =
+        if write { std::io::stdout().write_all(&load.bytes()) } else { turns(&Job::of(&load)) };
     done.map_err(|error| error.to_string())
 }
 

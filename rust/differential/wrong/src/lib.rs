@@ -12,6 +12,8 @@ mod decimals;
 #[cfg(test)]
 mod line_types;
 #[cfg(test)]
+mod redraw;
+#[cfg(test)]
 mod replies;
 #[cfg(test)]
 mod turns;
