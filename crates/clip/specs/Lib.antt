@@ -1,4 +1,5 @@
 pub mod Line
+pub mod Fractions
 pub mod Clip
 pub mod Reach
 pub mod Axis

@@ -8,7 +8,7 @@ use lib.ListN.{set, getD, replicate}
 use Rattle.exact.specs.Whole.{_≡?_}
 use Rattle.clip.specs.declared.Point.{Point}
 use Rattle.clip.specs.declared.Rect.{Rect}
-use Rattle.plane.specs.Turn.{lesserOf, greaterOf, orderedOf}
+use Rattle.turns.specs.Turn.{lesserOf, greaterOf, orderedOf}
 use Rattle.hpgl.specs.declared.Stroke.{Stroke}
 use Rattle.hpgl.specs.declared.Drawn.{Drawn}
 use Rattle.hpgl.specs.declared.Drawn.the-variants as drawn

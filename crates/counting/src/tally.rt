@@ -8,9 +8,9 @@ use hpgl::Drawn;
 use hpgl::Segment;
 use hpgl::Stroke;
 use measure::length;
-use plane::turn::greater;
-use plane::turn::lesser;
-use plane::turn::ordered;
+use turns::turn::greater;
+use turns::turn::lesser;
+use turns::turn::ordered;
 
 // A box that may be none: with no box the area means nothing.
 pub struct Extent {

@@ -53,6 +53,11 @@ module _ (m : State) (t r : ℕ) (idle : waiting (m .work) ≡ 0) where
   pub at-refused : (b : ℕ) (bs : List ℕ) → (takeNumber m b ≡ 0 → ⊥) → feedFrom m (b ∷ bs) t r ≡ stop (takeState m b) (counted (takeNumber m b) t) (takeNumber m b)
   at-refused b bs h = by-idle (b ∷ bs) ∙ rw (ne-eqb (takeNumber m b) 0 h) refl
 
+  -- "it counts as taken", a byte that is refused with another number than 20
+  pub refused-counts : (b : ℕ) (bs : List ℕ) → (takeNumber m b ≡ 0 → ⊥) → (takeNumber m b ≡ 20 → ⊥) → feedFrom m (b ∷ bs) t r ≡ stop (takeState m b) (t + 1) (takeNumber m b)
+  unfolding counted untaken
+  refused-counts b bs h k = at-refused b bs h ∙ rw (ne-eqb (takeNumber m b) busy k) refl
+
   -- "feed stops there and does not count it"
   pub at-held : (b : ℕ) (bs : List ℕ) → occupied (m .work) ≡ true → feedFrom m (b ∷ bs) t r ≡ stop m t busy
   unfolding counted untaken

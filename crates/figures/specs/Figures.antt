@@ -12,11 +12,11 @@ use Rattle.reader.specs.Inside.{inside}
 use Rattle.sines.specs.Table.{sines, sineAt}
 use Rattle.sines.specs.Angle.{restOf, sineOf, cosineOf, sineIn, cosineIn}
 use Rattle.clip.specs.Clip.{extent, steps, axisEntry, larger, entry, toward, axisPlace, place, clip}
-use Rattle.plane.specs.Turn.{turns, degreesOf, turnFrom, findTurn, turnOf, turnedOf, turnedBackOf, rebasedOf, lesserOf, greaterOf, orderedOf, turnedBoxOf, turnedBackBoxOf, turnedExact}
+use Rattle.turns.specs.Turn.{turns, degreesOf, turnFrom, findTurn, turnOf, turnedOf, turnedBackOf, rebasedOf, lesserOf, greaterOf, orderedOf, turnedBoxOf, turnedBackBoxOf, turnedExact}
 use Rattle.plane.specs.Position.{axisOf, absoluteOf, relativeOf, locationOf, inRangeOf}
 use Rattle.plane.specs.Circle.{chordsOf, angleOf, rotatedOf, vertexOf, vertexPointOf, splitOf, centreOf, fromCentre, pointFromCentre}
 use Rattle.plane.specs.Arc.{wayOf, wayFits, partsOf, towards, bendOf, arcPoint, bothInRange, fitsFrom, arcFits}
-use Rattle.plane.specs.Limits.{intersectionOf, limitsOf}
+use Rattle.turns.specs.Limits.{intersectionOf, limitsOf}
 use Rattle.hpgl.specs.Place.{axisX, axisY, exactPosition, location, inRange, absolutePosition, relativePosition, restAt, pagePoint, limits}
 use Rattle.hpgl.specs.Rules.{done, refuse, freshSettings, noPolygon, freshCarriage, freshCore, letters, nameRule, rebased, inRule, dfRule, int16, goodCorners, setCorners, carried, ipRule, scRule, setTurn, turnTo, roRule, setWindow, iwRule, setPen, spRule, inked, moveTo, pointCost, longer, edgeTo, storePoint, aimed, goTo, pairRule, begun, pm0, differ, closes, endedWith, ended, pm1In, pm1, leave, pm2In, pm2, pmRule, epRule, rectangular, rectangleTo, eaRule, erRule, circleFits, circle, circleWith, chordAngle, ciRule, sweptAngle, goodSweep, arcAngle, wayFrom, arc, lastVertex, follow, arcBy, arcAbout, aaRule, arRule, oaRule, opRule, owRule, ohRule, oeRule, noting, noted, endRule, actOn}
 use Rattle.decimals.specs.Decimal.{digitsWithin, decimal, natural, whole}

@@ -4,8 +4,8 @@ use lib.IntN.{ℤ, negℤ}
 use Rattle.exact.specs.Fit.{Bd, bd-neg}
 use Rattle.exact.specs.Steps.{floor-size}
 use Rattle.clip.specs.Reach.{reach, SmallPoint}
-use Rattle.plane.specs.Turn.{lesserOf}
-use Rattle.plane.specs.BoxLaws.{lesser-by, greater-by}
+use Rattle.turns.specs.Turn.{lesserOf}
+use Rattle.turns.specs.BoxLaws.{lesser-by, greater-by}
 use Rattle.filling.specs.Filling.{lower, upper, rowFrom, firstRow, pastRow}
 use Rattle.filling.specs.declared.Side.{Side}
 

@@ -15,8 +15,8 @@ use Rattle.exact.specs.Laws.{≤-total, sub-nonneg, mul-≤}
 use Rattle.exact.specs.Divide.{floorDiv}
 use Rattle.exact.specs.Nearest.{floor-law}
 use Rattle.clip.specs.Line.{Frac}
-use Rattle.plane.specs.Turn.{lesserOf, greaterOf}
-use Rattle.plane.specs.BoxLaws.{lesser-by, lesser-≤, greater-≥}
+use Rattle.turns.specs.Turn.{lesserOf, greaterOf}
+use Rattle.turns.specs.BoxLaws.{lesser-by, lesser-≤, greater-≥}
 use Rattle.filling.specs.Filling.{Pair, rowAt, lower, upper, meets, crossings, rowPairs, rowFrom, firstRow, pastRow, leastRow, pastRows, pairsFrom, fillPairs, rowsMet, allMet, pairCount, metBelow, allBelow, pairsBelow}
 use Rattle.filling.specs.RingLaws.{one, one-more, none-crosses, Closed, all-paired}
 use Rattle.filling.specs.declared.Side.{Side}

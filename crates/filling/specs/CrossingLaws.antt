@@ -14,8 +14,8 @@ use Rattle.exact.specs.Nearest.{nearest-mono, nearest-only}
 use Rattle.clip.specs.Line.{whole, based, nearestWhole}
 use Rattle.clip.specs.Based.{based-nearest}
 use Rattle.clip.specs.Reach.{reach}
-use Rattle.plane.specs.Turn.{lesserOf, greaterOf}
-use Rattle.plane.specs.BoxLaws.{lesser-by, greater-by, lesser-≤, greater-≥}
+use Rattle.turns.specs.Turn.{lesserOf, greaterOf}
+use Rattle.turns.specs.BoxLaws.{lesser-by, greater-by, lesser-≤, greater-≥}
 use Rattle.filling.specs.Filling.{meets, crossing}
 use Rattle.filling.specs.RingLaws.{differ, meets-by}
 use Rattle.filling.specs.Bounds.{SmallSide}

@@ -5,7 +5,7 @@ use lib.IntN.{ℤ, pos, negsuc}
 use Rattle.exact.specs.Whole.{_<?_, _≤?_}
 use Rattle.exact.specs.Divide.{nearestDiv}
 use Rattle.clip.specs.declared.Point.{Point}
-use Rattle.plane.specs.Turn.{lesserOf, greaterOf}
+use Rattle.turns.specs.Turn.{lesserOf, greaterOf}
 use Rattle.filling.specs.Filling.{
   Pair,
   sidesFrom,

@@ -7,7 +7,7 @@ use Rattle.exact.specs.Whole.{_<?_, _≤?_, up}
 use Rattle.exact.specs.Divide.{floorDiv}
 use Rattle.clip.specs.Line.{Frac, based, nearestWhole}
 use Rattle.clip.specs.declared.Point.{Point}
-use Rattle.plane.specs.Turn.{lesserOf, greaterOf}
+use Rattle.turns.specs.Turn.{lesserOf, greaterOf}
 use Rattle.filling.specs.declared.Side.{Side}
 
 -- ---- sides: "all subpolygons count together, each closed by its first point if need be. .. Edges join the turned locations of the points."

@@ -10,8 +10,8 @@ use lib.ListN.{length}
 use Rattle.exact.specs.Whole.{_≤ᶻ_, _<ᶻ_, ord, _≤?_, ≤?-true, ≤?-false, le-≤?, lt-≤?, _<?_, lt-<?, le-<?}
 use Rattle.clip.specs.Line.{Frac}
 use Rattle.clip.specs.declared.Point.{Point}
-use Rattle.plane.specs.Turn.{lesserOf, greaterOf}
-use Rattle.plane.specs.BoxLaws.{lesser-by, greater-by, lesser-≤, greater-≥}
+use Rattle.turns.specs.Turn.{lesserOf, greaterOf}
+use Rattle.turns.specs.BoxLaws.{lesser-by, greater-by, lesser-≤, greater-≥}
 use Rattle.filling.specs.Filling.{sidesFrom, ringSides, allSides, lower, upper, meets, crossing, crossings, insertBy, sortBy, atMost, paired, rowPairs}
 use Rattle.filling.specs.declared.Side.{Side}
 

@@ -12,8 +12,8 @@ use Rattle.exact.specs.Nearest.{nearest-mono, nearest-times}
 use Rattle.exact.specs.Laws.{mul-posᶻ}
 use Rattle.exact.specs.Steps.{not-zero}
 use Rattle.clip.specs.Line.{Frac, nearestWhole}
-use Rattle.plane.specs.Turn.{lesserOf, greaterOf}
-use Rattle.plane.specs.BoxLaws.{lesser-≤}
+use Rattle.turns.specs.Turn.{lesserOf, greaterOf}
+use Rattle.turns.specs.BoxLaws.{lesser-≤}
 use Rattle.filling.specs.Filling.{Pair, crossings, insertBy, sortBy, atMost, paired, rounded, rowPairs}
 use Rattle.filling.specs.declared.Side.{Side}
 use Rattle.filling.specs.Sink.{sink}

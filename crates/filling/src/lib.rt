@@ -13,8 +13,8 @@ ghost use Rattle.filling.specs.Bounds.{SmallSide, mostRow};
 use clip::Point;
 use exact::floor_div;
 use exact::nearest_div;
-use plane::turn::greater;
-use plane::turn::lesser;
+use turns::turn::greater;
+use turns::turn::lesser;
 
 // A side of a polygon, between two page points.
 pub struct Side {

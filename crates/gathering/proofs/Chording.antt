@@ -8,8 +8,8 @@ use lib.IntN.{ℤ}
 use lib.ListN.{length, getD}
 use borrow.Author.Tests.{ne-eqb}
 use Rattle.clip.specs.declared.Rect.{Rect}
-use Rattle.plane.specs.declared.turn.Rows.{Rows}
-use Rattle.plane.specs.Turn.{rowsOf}
+use Rattle.turns.specs.declared.turn.Rows.{Rows}
+use Rattle.turns.specs.Turn.{rowsOf}
 use Rattle.reader.specs.declared.Reader.{Reader}
 use Rattle.clip.specs.declared.Point.{Point}
 use Rattle.hpgl.specs.declared.Edge.{Edge}

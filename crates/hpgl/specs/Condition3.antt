@@ -15,7 +15,7 @@ use Rattle.clip.specs.Line.{Exact, exactly, at, Close, Within}
 use Rattle.clip.specs.declared.Point.{Point}
 use Rattle.clip.specs.declared.Rect.{Rect}
 use Rattle.clip.specs.declared.Clipped.the-variants as clipped
-use Rattle.plane.specs.Turn.{turnedBoxOf}
+use Rattle.turns.specs.Turn.{turnedBoxOf}
 use Rattle.hpgl.specs.declared.Settings.{Settings}
 use Rattle.hpgl.specs.declared.State.{State}
 use Rattle.hpgl.specs.declared.Stroke.{Stroke}

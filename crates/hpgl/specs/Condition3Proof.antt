@@ -29,7 +29,6 @@ use Rattle.hpgl.specs.Rules.{freshCore, freshCarriage, noPolygon, noting
 use Rattle.hpgl.specs.Machine.{hardLimits, noEdge, freshState, waiting, replied, replying, occupied, queued, readerAfter, applied, acted, takeState, shown, chordShown, edgeShown, workAfter, drawWork, drawState, drawAnswer, fetchState, fetchText}
 use Rattle.hpgl.specs.ExactModel.{ExactPolygon, ExactSegment, Model, noPoints, freshModel, coreAfter, numberOf, taken, takeWhen, takeModel, rest, drawModel, fetchWhen, fetchModel}
 use Rattle.hpgl.specs.Replies.{noReply, replyText}
-use Rattle.hpgl.specs.Answers.{answerOf, queued-reply, answeredBy, answers}
 use Rattle.hpgl.specs.Condition3.{Call, take, draw, fetch, stateAfter, modelAfter, Holds, HoldsAt, HoldsAll, Condition3}
 use Rattle.hpgl.specs.Valid.{Knows}
 use Rattle.hpgl.specs.Related.{edgesFrom, polygonEdges, edgesOf, allEdges, PageSegment, turnedEdges, chordsFrom, view, onPage, AllLocated, none, more, Related}
@@ -37,6 +36,7 @@ use Rattle.hpgl.specs.Near.{keeps-promise}
 use Rattle.hpgl.specs.SegmentsLocated.{located-by}
 use Rattle.hpgl.specs.OpenInstruction.{knows-after, ends-known}
 use Rattle.hpgl.specs.Steps.{polygonBy, addedBy, Keeps, keeps, keeps-noted, sound-fresh}
+use Rattle.hpgl.specs.Told.{answerOf, queued-reply, answeredBy, answers}
 
 -- ---- draw
 

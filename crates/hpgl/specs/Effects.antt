@@ -12,7 +12,7 @@ use Rattle.reader.specs.declared.Numbers.{Numbers}
 use Rattle.reader.specs.declared.Event.{Event}
 use Rattle.reader.specs.declared.Event.the-variants as event
 use Rattle.mnemonics.specs.Table as code
-use Rattle.plane.specs.Turn.{turnedBackOf, orderedOf}
+use Rattle.turns.specs.Turn.{turnedBackOf, orderedOf}
 use Rattle.plane.specs.Circle.{vertexPointOf}
 use Rattle.hpgl.specs.declared.Position.{Position}
 use Rattle.hpgl.specs.declared.Scale.{Scale}

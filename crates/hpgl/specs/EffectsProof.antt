@@ -15,9 +15,9 @@ use Rattle.reader.specs.declared.Event.{Event}
 use Rattle.mnemonics.specs.Table as code
 use Rattle.mnemonics.specs.Table.{knownInPolygon}
 use Rattle.plane.specs.Bounds.{mostAngle}
-use Rattle.plane.specs.Turn.{turnCount, findTurn, turnedBackOf}
-use Rattle.plane.specs.TurnLaws.{back-forth}
-use Rattle.plane.specs.TurnsSaid.{quarters-found}
+use Rattle.turns.specs.Turn.{turnCount, findTurn, turnedBackOf}
+use Rattle.turns.specs.TurnLaws.{back-forth}
+use Rattle.turns.specs.TurnsSaid.{quarters-found}
 use Rattle.plane.specs.CircleLaws.{vertex-point-split}
 use Rattle.hpgl.specs.Cases.{pick, choose, whether}
 use Rattle.hpgl.specs.declared.Position.{Position}

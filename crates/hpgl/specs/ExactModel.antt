@@ -17,7 +17,7 @@ use Rattle.reader.specs.declared.Event.the-variants.{Nothing, Named, Pair, Ende
 use Rattle.reader.specs.Reader.{freshReader}
 use Rattle.reader.specs.Step.{stepOf}
 use Rattle.mnemonics.specs.Table.{IN, EP, PM, CI, EA, ER, AA, AR}
-use Rattle.plane.specs.Turn.{turnedOf, turnedExact}
+use Rattle.turns.specs.Turn.{turnedOf, turnedExact}
 use Rattle.plane.specs.declared.circle.Way.{Way}
 use Rattle.plane.specs.Circle.{chordsOf, angleOf, rotatedOf, exactVertex}
 use Rattle.plane.specs.Arc.{partsOf, bendOf, exactArc}

@@ -21,7 +21,7 @@ pub mod Near
 pub mod Steps
 pub mod SegmentsLocated
 pub mod OpenInstruction
-pub mod Answers
+pub mod Told
 pub mod Condition3Proof
 pub mod LineTypes
 pub mod Instruction

@@ -14,7 +14,7 @@ use Rattle.clip.specs.declared.Clipped.the-variants as clipped
 use Rattle.reader.specs.declared.Reader.{Reader}
 use Rattle.reader.specs.Reader.{freshReader}
 use Rattle.reader.specs.Step.{stepOf, passedOver}
-use Rattle.plane.specs.Turn.{turnedOf}
+use Rattle.turns.specs.Turn.{turnedOf}
 use Rattle.plane.specs.Arc.{partsOf, arcPoint}
 use Rattle.hpgl.specs.declared.Settings.{Settings}
 use Rattle.hpgl.specs.declared.Core.{Core}

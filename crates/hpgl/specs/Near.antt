@@ -11,9 +11,9 @@ use Rattle.clip.specs.declared.Point.{Point}
 use Rattle.clip.specs.declared.Rect.{Rect}
 use Rattle.clip.specs.declared.Clipped.{Clipped}
 use Rattle.clip.specs.declared.Clipped.the-variants as clipped
-use Rattle.plane.specs.Turn.{turnedBoxOf}
-use Rattle.plane.specs.Limits.{limitsOf}
-use Rattle.plane.specs.LimitsLaws.{intersection-within}
+use Rattle.turns.specs.Turn.{turnedBoxOf}
+use Rattle.turns.specs.Limits.{limitsOf}
+use Rattle.turns.specs.LimitsLaws.{intersection-within}
 use Rattle.hpgl.specs.Cases.{never}
 use Rattle.hpgl.specs.declared.Settings.{Settings}
 use Rattle.hpgl.specs.declared.Core.{Core}

@@ -26,6 +26,11 @@ busy = 20
 abbrev pub shortBuffer : ℕ
 shortBuffer = 31
 
+-- ---- the bytes of the longest reply: four numbers of seven digits with their signs, three commas, 13 and 10 (ReplyLaws.antt, `reply-short`)
+
+abbrev pub mostReply : ℕ
+mostReply = 37
+
 -- ---- "Bytes, at most 1024: 2 for PM0 and PM1, 9 for each point, 2 when the point is the first of a PU or PD that itself changed the pen"; "49 bytes by definition"
 
 abbrev pub polygonBytes : ℕ

@@ -22,7 +22,7 @@ use Rattle.reader.specs.Sizes.{isCause, Caused}
 use Rattle.reader.specs.CauseLaws.{step-caused}
 use Rattle.reader.specs.Reader.{goOnOf, quietOf, labelEnd}
 use Rattle.reader.specs.Step.{labelOf, byMode, stepOf}
-use Rattle.plane.specs.Turn.{turnCount, findTurn}
+use Rattle.turns.specs.Turn.{turnCount, findTurn}
 use Rattle.plane.specs.Bounds.{mostAngle}
 use Rattle.hpgl.specs.Cases.{pick}
 use Rattle.hpgl.specs.declared.Position.{Position}

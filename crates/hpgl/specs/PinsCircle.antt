@@ -16,7 +16,7 @@ use Rattle.reader.specs.declared.Numbers.{Numbers}
 use Rattle.sines.specs.Angle.{sineOf, cosineOf}
 use Rattle.plane.specs.declared.position.ExactPosition.{ExactPosition}
 use Rattle.plane.specs.Position.{axisOf, exactOf}
-use Rattle.plane.specs.Turn.{turnedExact}
+use Rattle.turns.specs.Turn.{turnedExact}
 use Rattle.plane.specs.Circle.{chordsOf, angleOf, rotatedOf, exactVertex}
 use Rattle.plane.specs.CircleLaws.{chords-law, angle-law}
 use Rattle.hpgl.specs.declared.Range.{Range}

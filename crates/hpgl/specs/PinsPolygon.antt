@@ -17,7 +17,7 @@ use Rattle.reader.specs.declared.Numbers.{Numbers}
 use Rattle.reader.specs.declared.Event.{Event}
 use Rattle.reader.specs.declared.Event.the-variants.{Nothing, Named, Pair, Ended, Refused}
 use Rattle.mnemonics.specs.Table.{IN, DF, EP, IP, SC, IW, RO, SP, PM, CI, EA, ER, PU, PD, PA, PR, AA, AR, knownInPolygon}
-use Rattle.plane.specs.Turn.{turnCount, findTurn}
+use Rattle.turns.specs.Turn.{turnCount, findTurn}
 use Rattle.plane.specs.Bounds.{mostAngle}
 use Rattle.hpgl.specs.Cases.{never, pick, choose, cond-true}
 use Rattle.hpgl.specs.declared.Position.{Position}

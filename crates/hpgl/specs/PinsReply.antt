@@ -11,7 +11,7 @@ use Rattle.reader.specs.declared.Event.{Event}
 use Rattle.reader.specs.declared.Event.the-variants.{Ended}
 use Rattle.reader.specs.Step.{stepOf}
 use Rattle.mnemonics.specs.Table.{OA, OP, OW, OH, OE}
-use Rattle.plane.specs.Turn.{turnedBoxOf}
+use Rattle.turns.specs.Turn.{turnedBoxOf}
 use Rattle.hpgl.specs.declared.Core.{Core}
 use Rattle.hpgl.specs.declared.Reply.{Reply}
 use Rattle.hpgl.specs.declared.State.{State}

@@ -17,10 +17,10 @@ use Rattle.reader.specs.declared.Numbers.{Numbers}
 use Rattle.mnemonics.specs.Table.{IN, DF, IP, SC, RO}
 use Rattle.plane.specs.declared.position.Axis.{Axis}
 use Rattle.plane.specs.Position.{locationOf}
-use Rattle.plane.specs.Turn.{turnCount, findTurn, turnedOf, turnedBackOf, orderedOf, turnedBoxOf}
-use Rattle.plane.specs.TurnLaws.{back-forth, forth-back}
-use Rattle.plane.specs.TurnsSaid.{turned-none}
-use Rattle.plane.specs.Limits.{intersectionOf, limitsOf}
+use Rattle.turns.specs.Turn.{turnCount, findTurn, turnedOf, turnedBackOf, orderedOf, turnedBoxOf}
+use Rattle.turns.specs.TurnLaws.{back-forth, forth-back}
+use Rattle.turns.specs.TurnsSaid.{turned-none}
+use Rattle.turns.specs.Limits.{intersectionOf, limitsOf}
 use Rattle.hpgl.specs.Cases.{pick, whether}
 use Rattle.hpgl.specs.declared.Position.{Position}
 use Rattle.hpgl.specs.declared.Settings.{Settings}

@@ -1,5 +1,5 @@
 -- Where the pen is: exact position, location, page point, limits (document 01, "Position" and "Strokes"), over the settings.
--- The arithmetic of one axis, of the turn and of boxes is the crate plane's.
+-- The arithmetic of one axis is the crate plane's, that of the turn and of boxes the crate turns'.
 use mathlib.Core.Bool.{Bool, cond, _&&_}
 use lib.IntN.{ℤ, pos, negℤ, _+ℤ_, _-ℤ_}
 use Rattle.exact.specs.Divide.{nearestDiv}
@@ -10,8 +10,8 @@ use Rattle.reader.specs.declared.Coordinates.{Coordinates}
 use Rattle.plane.specs.declared.position.Axis.{Axis}
 use Rattle.plane.specs.declared.position.ExactPosition.{ExactPosition}
 use Rattle.plane.specs.Position.{axisOf, absoluteOf, relativeOf, locationOf, exactOf, inRangeOf}
-use Rattle.plane.specs.Turn.{turnedOf}
-use Rattle.plane.specs.Limits.{limitsOf}
+use Rattle.turns.specs.Turn.{turnedOf}
+use Rattle.turns.specs.Limits.{limitsOf}
 use Rattle.hpgl.specs.declared.Position.{Position}
 use Rattle.hpgl.specs.declared.Settings.{Settings}
 use Rattle.hpgl.specs.Numbers.{one}

@@ -14,7 +14,7 @@ use Rattle.mnemonics.specs.Table as code
 use Rattle.plane.specs.declared.circle.Way.{Way}
 use Rattle.plane.specs.Circle.{vertexPointOf}
 use Rattle.plane.specs.Arc.{exactWay, partsOf, bendOf}
-use Rattle.plane.specs.TurnsSaid.{Said}
+use Rattle.turns.specs.TurnsSaid.{Said}
 use Rattle.hpgl.specs.declared.Position.{Position}
 use Rattle.hpgl.specs.declared.Core.{Core}
 use Rattle.hpgl.specs.Place.{axisX, axisY, location, absolutePosition, relativePosition}
@@ -128,7 +128,7 @@ Arc c q n t =
     (Needs (Vertices c q w s (natAbs a)) 6 t
     (t ≡ 0))))
 
--- ---- the numbers of an instruction that ends. RO's are those that 01 and 02 say, 0, 90, 180 and 270: `Said` in TurnsSaid.antt of plane
+-- ---- the numbers of an instruction that ends. RO's are those that 01 and 02 say, 0, 90, 180 and 270: `Said` in TurnsSaid.antt of turns
 
 abbrev pub Judged : {op : ℕ} → Instruction op → Core → Numbers → ℕ → Type 0
 Judged IN c n t = t ≡ 0

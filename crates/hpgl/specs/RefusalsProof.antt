@@ -21,8 +21,8 @@ use Rattle.mnemonics.specs.Among.{among, none, _⨾_, listed}
 use Rattle.mnemonics.specs.Said as said
 use Rattle.mnemonics.specs.Said.{known-said}
 use Rattle.plane.specs.declared.position.ExactPosition.{ExactPosition}
-use Rattle.plane.specs.Turn.{turnCount, findTurn}
-use Rattle.plane.specs.TurnsSaid.{Said, said-found}
+use Rattle.turns.specs.Turn.{turnCount, findTurn}
+use Rattle.turns.specs.TurnsSaid.{Said, said-found}
 use Rattle.plane.specs.Position.{relativeOf, locationOf, inRangeOf}
 use Rattle.plane.specs.declared.position.Axis.{Axis}
 use Rattle.plane.specs.declared.circle.Way.{Way}

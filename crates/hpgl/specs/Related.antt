@@ -11,7 +11,7 @@ use Rattle.clip.specs.declared.Point.{Point}
 use Rattle.reader.specs.declared.Reader.{Reader}
 use Rattle.mnemonics.specs.Table.{knownInPolygon}
 use Rattle.reader.specs.Inside.{inside}
-use Rattle.plane.specs.Turn.{turnCount, turnedOf}
+use Rattle.turns.specs.Turn.{turnCount, turnedOf}
 use Rattle.hpgl.specs.declared.Position.{Position}
 use Rattle.hpgl.specs.declared.Settings.{Settings}
 use Rattle.hpgl.specs.declared.Polygon.{Polygon}

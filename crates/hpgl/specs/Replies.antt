@@ -10,7 +10,7 @@ use Rattle.decimals.specs.Decimal.{whole}
 use Rattle.clip.specs.declared.Point.{Point}
 use Rattle.clip.specs.declared.Rect.{Rect}
 use Rattle.mnemonics.specs.Table.{OA, OP, OW, OH, OE}
-use Rattle.plane.specs.Turn.{turnedBackBoxOf}
+use Rattle.turns.specs.Turn.{turnedBackBoxOf}
 use Rattle.hpgl.specs.declared.Settings.{Settings}
 use Rattle.hpgl.specs.declared.Memory.{Memory}
 use Rattle.hpgl.specs.declared.Core.{Core}

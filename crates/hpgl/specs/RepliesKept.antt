@@ -9,8 +9,8 @@ use lib.IntN.{ℤ, pos}
 use Rattle.exact.specs.Fit.{Bd, bd-lit, bd-le}
 use Rattle.clip.specs.declared.Rect.{Rect}
 use Rattle.clip.specs.Reach.{reach, SmallRect}
-use Rattle.plane.specs.Turn.{turnedBackBoxOf}
-use Rattle.plane.specs.BoxLaws.{back-box-small}
+use Rattle.turns.specs.Turn.{turnedBackBoxOf}
+use Rattle.turns.specs.BoxLaws.{back-box-small}
 use Rattle.hpgl.specs.declared.Core.{Core}
 use Rattle.hpgl.specs.declared.Reply.{Reply}
 use Rattle.hpgl.specs.declared.Action.the-variants.{Answer}

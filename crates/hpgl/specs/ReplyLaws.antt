@@ -15,14 +15,15 @@ use Rattle.exact.specs.Fit.{Bd}
 use Rattle.decimals.specs.Decimal.{digit, decimal, natural, whole}
 use Rattle.decimals.specs.DecimalLaws.{decimal-one, decimal-more, decimal-length}
 use Rattle.clip.specs.Reach.{reach}
-use Rattle.plane.specs.Turn.{turnedBoxOf, turnedBackBoxOf}
-use Rattle.plane.specs.BoxLaws.{Ordered, box-home}
+use Rattle.turns.specs.Turn.{turnedBoxOf, turnedBackBoxOf}
+use Rattle.turns.specs.BoxLaws.{Ordered, box-home}
 use Rattle.hpgl.specs.declared.Settings.{Settings}
 use Rattle.hpgl.specs.declared.Reply.{Reply}
 use Rattle.hpgl.specs.declared.Work.{Work}
 use Rattle.hpgl.specs.declared.Work.the-variants as work
 use Rattle.hpgl.specs.declared.State.{State}
 use Rattle.hpgl.specs.Replies.{noReply, windowShown, numbersTold, textOf, replyText}
+use Rattle.hpgl.specs.Numbers.{mostReply}
 use Rattle.hpgl.specs.Machine.{replied}
 use Rattle.hpgl.specs.Valid.{ValidSettings, ValidReply, ValidWork, Every, none, more, Valid}
 
@@ -36,7 +37,7 @@ pub ow-turns-back : (s : Settings) → ValidSettings s → s .window .set ≡ fa
 unfolding windowShown
 ow-turns-back s v e = rw e (box-home (s .hard) (s .turn) (v .turn) (record { x = weak (v .hard-x); y = weak (v .hard-y) }))
 
--- ---- no reply is longer than 37 bytes
+-- ---- no reply is longer than `mostReply`, 37 bytes
 
 -- a sign, seven digits, and the byte after them
 whole-short : (z : ℤ) (byte : ℕ) → Bd z reach → length (whole z byte) ≤ 9
@@ -64,14 +65,14 @@ take-length zero zs = omega arith
 take-length (suc k) [] = omega arith
 take-length (suc k) (z ∷ zs) = omega (arith, take-length k zs)
 
-pub short : (r : Reply) → ValidReply r → length (replyText r) ≤ 37
+pub short : (r : Reply) → ValidReply r → length (replyText r) ≤ mostReply
 unfolding replyText numbersTold Small
 short r v =
     let zs : List ℤ = r .first ∷ r .second ∷ r .third ∷ r .fourth ∷ [] in
     let h : Every Small zs = more (v .first) (more (v .second) (more (v .third) (more (v .fourth) none))) in
     omega (arith, text-short (take (r .count) zs) (every-take (r .count) zs h), take-length (r .count) zs)
 
-work-short : (w : Work) → ValidWork w → length (replyText (replied w)) ≤ 37
+work-short : (w : Work) → ValidWork w → length (replyText (replied w)) ≤ mostReply
 unfolding replied replyText numbersTold textOf
 work-short work.Nothing h = omega arith
 work-short (work.Line a b) h = omega arith
@@ -79,7 +80,7 @@ work-short (work.Chords o i n) h = omega arith
 work-short (work.Edges i n) h = omega arith
 work-short (work.Answer r) h = short r h
 
-pub reply-short : {m : State} → Valid m → length (replyText (replied (m .work))) ≤ 37
+pub reply-short : {m : State} → Valid m → length (replyText (replied (m .work))) ≤ mostReply
 reply-short {m} v = work-short (m .work) (v .work)
 
 -- ---- a reply's text read as numbers

@@ -16,7 +16,7 @@ use Rattle.reader.specs.declared.Event.{Event}
 use Rattle.reader.specs.declared.Event.the-variants.{Nothing, Named, Pair, Ended, Refused}
 use Rattle.mnemonics.specs.Table.{IN, DF, EP, IP, SC, IW, RO, SP, PM, CI, EA, ER, PU, PD, PA, PR, AA, AR, OA, OP, OW, OH, OE, knownInPolygon}
 use Rattle.plane.specs.declared.position.ExactPosition.{ExactPosition}
-use Rattle.plane.specs.Turn.{turnCount, upright, findTurn, turnedBackOf, orderedOf}
+use Rattle.turns.specs.Turn.{turnCount, upright, findTurn, turnedBackOf, orderedOf}
 use Rattle.plane.specs.Bounds.{mostAngle}
 use Rattle.plane.specs.Circle.{centreOf, pointFromCentre}
 use Rattle.plane.specs.Arc.{wayOf, wayFits, arcFits}

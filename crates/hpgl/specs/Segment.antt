@@ -9,8 +9,8 @@ use Rattle.clip.specs.Reach.{SmallPoint}
 use Rattle.clip.specs.declared.Rect.{Rect}
 use Rattle.clip.specs.declared.Clipped.{Clipped}
 use Rattle.clip.specs.declared.Clipped.the-variants as clipped
-use Rattle.plane.specs.Turn.{turnedOf}
-use Rattle.plane.specs.TurnLaws.{turned-small}
+use Rattle.turns.specs.Turn.{turnedOf}
+use Rattle.turns.specs.TurnLaws.{turned-small}
 use Rattle.hpgl.specs.declared.Settings.{Settings}
 use Rattle.hpgl.specs.declared.Edge.{Edge}
 use Rattle.hpgl.specs.declared.Circle.{Circle}

@@ -12,8 +12,8 @@ use Rattle.reader.specs.declared.Numbers.{Numbers}
 use Rattle.reader.specs.declared.Event.{Event}
 use Rattle.reader.specs.declared.Event.the-variants.{Nothing, Named, Pair, Ended, Refused}
 use Rattle.mnemonics.specs.Table.{EP, CI, EA, ER, AA, AR}
-use Rattle.plane.specs.Turn.{turnCount}
-use Rattle.plane.specs.BoxLaws.{turned-rounds}
+use Rattle.turns.specs.Turn.{turnCount}
+use Rattle.turns.specs.BoxLaws.{turned-rounds}
 use Rattle.hpgl.specs.Cases.{pick}
 use Rattle.hpgl.specs.declared.Position.{Position}
 use Rattle.hpgl.specs.declared.Core.{Core}

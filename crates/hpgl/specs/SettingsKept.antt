@@ -16,9 +16,9 @@ use Rattle.clip.specs.Reach.{SmallRect}
 use Rattle.reader.specs.declared.Numbers.{Numbers}
 use Rattle.reader.specs.Sizes.{Small}
 use Rattle.mnemonics.specs.Table.{PU, PD, PA, PR, knownInPolygon}
-use Rattle.plane.specs.Turn.{turnCount, findTurn}
+use Rattle.turns.specs.Turn.{turnCount, findTurn}
 use Rattle.plane.specs.Bounds.{mostPoint}
-use Rattle.plane.specs.BoxLaws.{ordered-small}
+use Rattle.turns.specs.BoxLaws.{ordered-small}
 use Rattle.hpgl.specs.declared.Position.{Position}
 use Rattle.hpgl.specs.declared.Scale.{Scale}
 use Rattle.hpgl.specs.declared.Window.{Window}

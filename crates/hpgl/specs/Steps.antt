@@ -19,7 +19,7 @@ use Rattle.reader.specs.declared.Event.the-variants.{Nothing, Named, Pair, Ende
 use Rattle.mnemonics.specs.Table.{IN, DF, EP, IP, SC, IW, RO, SP, PM, CI, EA, ER, PU, PD, PA, PR, AA, AR, OA, OP, OW, OH, OE, cellOf, knownInPolygon}
 use Rattle.plane.specs.Bounds.{mostAngle}
 use Rattle.plane.specs.Position.{axisOf, exactOf, relativeOf, locationOf}
-use Rattle.plane.specs.Turn.{turnCount, findTurn, turnedOf, orderedOf}
+use Rattle.turns.specs.Turn.{turnCount, findTurn, turnedOf, orderedOf}
 use Rattle.plane.specs.declared.circle.Way.{Way}
 use Rattle.plane.specs.declared.circle.Centre.{Centre}
 use Rattle.plane.specs.Circle.{chordsOf, angleOf, rotatedOf, vertexPointOf, centreOf, pointFromCentre}

@@ -18,7 +18,7 @@ use Rattle.reader.specs.declared.Reader.{Reader}
 use Rattle.mnemonics.specs.Table.{rows, knownInPolygon}
 use Rattle.reader.specs.Inside.{inside}
 use Rattle.reader.specs.Sizes.{Readable, SmallPair, Fitting}
-use Rattle.plane.specs.Turn.{turnCount}
+use Rattle.turns.specs.Turn.{turnCount}
 use Rattle.plane.specs.Bounds.{mostNumber, mostPoint, mostAngle, mostSweep, mostProduct, Locatable, Storable, WayBounds, CentreBounds}
 use Rattle.plane.specs.Arc.{partsOf}
 use Rattle.hpgl.specs.declared.Position.{Position}

@@ -15,16 +15,16 @@ use Rattle.clip.specs.declared.Point.{Point}
 use Rattle.clip.specs.Reach.{reach, SmallPoint, SmallRect}
 use Rattle.reader.specs.declared.Coordinates.{Coordinates}
 use Rattle.reader.specs.Sizes.{SmallPair}
-use Rattle.plane.specs.Turn.{turnCount, turnedBackOf, rebasedOf}
+use Rattle.turns.specs.Turn.{turnCount, turnedBackOf, rebasedOf}
 use Rattle.plane.specs.Position.{axisOf, inRangeOf}
 use Rattle.plane.specs.Bounds.{mostNumber, mostPoint, mostProduct, mostAngle, mostSweep, AxisBounds}
 use Rattle.plane.specs.Circle.{centreOf, pointFromCentre}
 use Rattle.plane.specs.Arc.{partsOf, bendOf, wayFits, arcFits, arcPoint}
-use Rattle.plane.specs.TurnLaws.{turned-small, rebased-small}
+use Rattle.turns.specs.TurnLaws.{turned-small, rebased-small}
 use Rattle.plane.specs.PositionLaws as axis
 use Rattle.plane.specs.CircleLaws as round
 use Rattle.plane.specs.ArcLaws as curve
-use Rattle.plane.specs.LimitsLaws as box
+use Rattle.turns.specs.LimitsLaws as box
 use Rattle.hpgl.specs.declared.Position.{Position}
 use Rattle.hpgl.specs.declared.Range.{Range}
 use Rattle.hpgl.specs.declared.Settings.{Settings}
@@ -171,7 +171,7 @@ rest-placed {s} {p} w h = record {
   };
 }
 
--- a page point, and that point turned back by another turn: what plane's `turned_back` asks, and what it gives
+-- a page point, and that point turned back by another turn: what `turned_back` of turns asks, and what it gives
 pub page-small : {s : Settings} {p : Position} → ValidSettings s → Placed s p → SmallPoint (pagePoint s p)
 unfolding pagePoint
 page-small w h = turned-small (h .near) (w .turn)

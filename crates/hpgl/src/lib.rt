@@ -7,6 +7,9 @@ use plane::circle::Way;
 use plane::position::ExactPosition;
 use reader::Reader;
 
+// The bytes of the longest reply: `mostReply` of specs/Numbers.antt.
+pub const MOST_REPLY: usize = 37;
+
 // The exact position: base and offset on each axis.
 pub struct Position {
     pub x: ExactPosition,

@@ -5,7 +5,6 @@ use lib.IntN.{pos, natAbs, _*ℤ_}
 use Rattle.exact.specs.Whole.{_<ᶻ_}
 use Rattle.exact.specs.Fit.{Bd}
 use Rattle.clip.specs.Reach.{reach}
-use Rattle.plane.specs.declared.turn.Rows.{Rows}
 use Rattle.plane.specs.declared.position.Axis.{Axis}
 use Rattle.plane.specs.declared.position.ExactPosition.{ExactPosition}
 use Rattle.plane.specs.declared.circle.Way.{Way}
@@ -40,13 +39,6 @@ mostAngle = 1200
 -- a swept angle, in tenths of a degree, either way
 abbrev pub mostSweep : ℕ
 mostSweep = 3600
-
--- the table of a turn
-pub record UnitRows (r : Rows) : Type 0 where
-  pub xx : Bd (r .xx) 1
-  pub xy : Bd (r .xy) 1
-  pub yx : Bd (r .yx) 1
-  pub yy : Bd (r .yy) 1
 
 -- an axis as the settings make it
 pub record AxisBounds (a : Axis) : Type 0 where

@@ -6,12 +6,10 @@ use lib.IntN.{ℤ, pos, negsuc}
 use Rattle.exact.specs.Whole.{_<?_}
 use Rattle.exact.specs.Divide.{nearestDiv}
 use Rattle.clip.specs.declared.Point.{Point}
-use Rattle.clip.specs.declared.Rect.{Rect}
 use Rattle.sines.specs.Table.{sines, sineAt}
 use Rattle.sines.specs.Angle.{sineIn, restOf, sineOf, cosineOf}
 use Rattle.plane.specs.declared.position.Axis.{Axis}
 use Rattle.plane.specs.declared.circle.Way.{Way}
-use Rattle.plane.specs.Turn.{turns, turnOf, turnedOf, lesserOf, greaterOf, orderedOf, turnedBoxOf}
 use Rattle.plane.specs.Position.{axisOf, absoluteOf, relativeOf, locationOf}
 use Rattle.plane.specs.declared.position.ExactPosition.{ExactPosition}
 use Rattle.plane.specs.Circle.{chordsOf, angleOf, rotatedOf, vertexOf, vertexPointOf, splitOf, centreOf, fromCentre, pointFromCentre}
@@ -51,11 +49,6 @@ pub figure-d : locationOf mirrored (absoluteOf mirrored (pos 10000)) ≡ pos 667
 unfolding axisOf absoluteOf locationOf nearestDiv
 figure-d = refl
 
--- (i) RO90, (0,100) is page (−100,0).
-pub figure-i : turnedOf (record { x = pos 0; y = pos 100 }) 1 ≡ record { x = negsuc 99; y = pos 0 }
-unfolding turnedOf turnOf turns
-figure-i = refl
-
 -- (k) Chord angle 7: 52 chords.
 pub figure-k : chordsOf 70 ≡ 52
 unfolding chordsOf
@@ -76,21 +69,6 @@ pub halves : let one = axisOf true (pos 0) (pos 1) (pos 0) (negsuc 9999) in
     (locationOf two (absoluteOf two (pos 5000)) ≡ pos 1)
 unfolding axisOf absoluteOf locationOf nearestDiv
 halves = (refl, refl, refl, refl, refl)
-
--- A location is rounded before it is turned: RO90;PA0,2.5 is page x −3, not −2.
-pub turned-half : turnedOf (record { x = locationOf plain (absoluteOf plain (pos 0)); y = locationOf plain (absoluteOf plain (pos 25000)) }) 1 ≡ record { x = negsuc 2; y = pos 0 }
-unfolding axisOf absoluteOf locationOf nearestDiv turnedOf turnOf turns
-turned-half = refl
-
--- A turned window is put in order again: IW0,0,5,10 and RO90, RO180, RO270.
-abbrev window : ℕ → Rect
-window t = turnedBoxOf (record { left = pos 0; bottom = pos 0; right = pos 5; top = pos 10 }) t
-
-pub turned-window : (window 1 ≡ record { left = negsuc 9; bottom = pos 0; right = pos 0; top = pos 5 }) ×
-    (window 2 ≡ record { left = negsuc 4; bottom = negsuc 9; right = pos 0; top = pos 0 }) ×
-    (window 3 ≡ record { left = pos 0; bottom = negsuc 4; right = pos 10; top = pos 0 })
-unfolding turnedBoxOf orderedOf lesserOf greaterOf turnedOf turnOf turns _<?_
-turned-window = (refl, refl, refl)
 
 -- A vertex is rounded once: CI.5,90 at (0,0) has the vertices (1,0), (0,1), (0,0), (0,0), and (1,0) again.
 abbrev small : ℕ → Point

@@ -1,16 +1,8 @@
-pub mod Fractions
-pub mod Turn
 pub mod Position
 pub mod Bounds
 pub mod Circle
 pub mod Arc
-pub mod Limits
-pub mod FractionLaws
-pub mod TurnLaws
-pub mod TurnsSaid
-pub mod BoxLaws
 pub mod PositionLaws
 pub mod CircleLaws
 pub mod ArcLaws
-pub mod LimitsLaws
 pub mod Figures

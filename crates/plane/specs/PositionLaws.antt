@@ -17,7 +17,7 @@ use Rattle.clip.specs.Halves.{rounds}
 use Rattle.clip.specs.Reach.{reach}
 use Rattle.plane.specs.declared.position.Axis.{Axis}
 use Rattle.plane.specs.declared.position.ExactPosition.{ExactPosition}
-use Rattle.plane.specs.Fractions.{sumF, Same}
+use Rattle.clip.specs.Fractions.{sumF, Same}
 use Rattle.plane.specs.Position.{axisOf, absoluteOf, relativeOf, exactOf, locationOf, inRangeOf}
 use Rattle.plane.specs.Bounds.{mostNumber, mostPoint, mostProduct, AxisBounds, Locatable, Storable}
 

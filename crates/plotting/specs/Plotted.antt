@@ -10,7 +10,8 @@ use Rattle.machine.specs.declared.Fetched.{Fetched}
 use Rattle.textlines.specs.Text.{longest}
 use Rattle.decimals.specs.Puts.{Puts}
 use Rattle.plotting.specs.declared.Plot.{Plot}
-use Rattle.printed.specs.Printed.{mostReply, printed}
+use Rattle.hpgl.specs.Numbers.{mostReply}
+use Rattle.printed.specs.Printed.{printed}
 
 -- what is still to be printed, where `later` are the bytes of the blocks to come
 abbrev pub due : Plot → List ℕ → List ℕ → List ℕ

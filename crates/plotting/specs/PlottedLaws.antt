@@ -28,7 +28,8 @@ use Rattle.machine.specs.Calls.{startedOf, fetchedFrom}
 use Rattle.textlines.specs.Text.{marksBelow}
 use Rattle.decimals.specs.Puts.{Puts, puts-nothing, puts-then}
 use Rattle.plotting.specs.declared.Plot.{Plot}
-use Rattle.printed.specs.Printed.{mostReply, printed}
+use Rattle.hpgl.specs.Numbers.{mostReply}
+use Rattle.printed.specs.Printed.{printed}
 use Rattle.plotting.specs.Plotted.{begunOf, emptiedOf, movedOf, due, Ready, Plotted}
 use Rattle.printed.specs.PlotPrinted.{markLines, fetched-end, reply-prints, plot-prints, Ended, plot-ended, numbers-lines, lines-some}
 

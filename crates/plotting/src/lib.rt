@@ -4,12 +4,13 @@ ghost use mathlib.Core.Bool.{true};
 ghost use mathlib.Core.Path.{_≡_};
 ghost use Prim.Native.Nat.{_+_, _*_, _^_, _≤_, _<_};
 ghost use lib.ListN.{length};
+ghost use Rattle.hpgl.specs.Numbers.{mostReply};
 ghost use Rattle.hpgl.specs.Machine.{fetchText};
 ghost use Rattle.hpgl.specs.Valid.{Usable};
 ghost use Rattle.decimals.specs.Puts.{Puts};
 ghost use Rattle.machine.specs.Calls.{fetchedFrom};
-ghost use Rattle.printed.specs.Printed.{mostReply};
 ghost use Rattle.plotting.specs.Plotted.{Ready, Plotted, begunOf, emptiedOf, movedOf, mostMarks, most};
+use hpgl::MOST_REPLY;
 use machine::Fetched;
 use machine::Machine;
 use textlines::LONGEST;
@@ -20,11 +21,8 @@ const MARKS: usize = 256;
 
 const NUMBERS: usize = MARKS * 5;
 
-// A reply has at most so many bytes.
-const REPLY: usize = 37;
-
 // The bytes of their lines, and of a reply after them.
-const MOST: usize = MARKS * LONGEST + REPLY;
+const MOST: usize = MARKS * LONGEST + MOST_REPLY;
 
 // How far the printing of a block is: the machine; the bytes of the blocks before; the place in this one; the bytes of text in the buffer; and
 // whether some of the block is still to be printed.
@@ -86,7 +84,7 @@ fn put_reply(machine: Machine, text: &mut [u8], at: usize) -> Fetched
     ensures { λ r. ⌜ Puts (fetchText (machine .state) mostReply) (now (text .entry)) (now (text .exit)) at (at + r .length) ⌝ }
     ensures { λ r. ⌜ at + r .length < 2 ^ 64 ⌝ }
 {
-    let end = at + REPLY;
+    let end = at + MOST_REPLY;
     machine.fetch(&mut text[at..end])
 }
 

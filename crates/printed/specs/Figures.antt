@@ -16,9 +16,9 @@ use Rattle.reader.specs.Reader.{eventNumber, noneOf, storedOf, pairOf, freshRea
 use Rattle.reader.specs.Step.{foundOf, nameOf, keptOf, judgedOf, closedOf, endOf, completeOf, endingOf, afterNumberOf, closeWith, closeOf, idleOf, firstOf, parametersOf, inNumberOf, passOverOf, byMode, stepOf, passedMode, passedOver}
 use Rattle.reader.specs.Inside.{inside}
 use Rattle.clip.specs.Clip.{extent, steps, axisEntry, larger, entry, toward, axisPlace, place, clip}
-use Rattle.plane.specs.Turn.{turns, turnOf, turnedOf}
+use Rattle.turns.specs.Turn.{turns, turnOf, turnedOf}
 use Rattle.plane.specs.Position.{axisOf, absoluteOf, locationOf, inRangeOf}
-use Rattle.plane.specs.Limits.{intersectionOf, limitsOf}
+use Rattle.turns.specs.Limits.{intersectionOf, limitsOf}
 use Rattle.hpgl.specs.Place.{axisX, axisY, exactPosition, location, inRange, absolutePosition, restAt, pagePoint, limits}
 use Rattle.hpgl.specs.Rules.{done, refuse, freshSettings, noPolygon, freshCarriage, freshCore, letters, nameRule, int16, setPen, spRule, inked, moveTo, aimed, goTo, pairRule, oaRule, oeRule, noting, noted, endRule, actOn}
 use Rattle.hpgl.specs.Replies.{placeTold, refusalTold, numbersTold, textOf, replyText, remembered, remembering}

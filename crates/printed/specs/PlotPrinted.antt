@@ -17,7 +17,7 @@ use Rattle.hpgl.specs.declared.Drawn.{Drawn}
 use Rattle.hpgl.specs.declared.Drawn.the-variants as drawn
 use Rattle.hpgl.specs.declared.Work.{Work}
 use Rattle.hpgl.specs.declared.Work.the-variants as work
-use Rattle.hpgl.specs.Numbers.{busy}
+use Rattle.hpgl.specs.Numbers.{busy, mostReply}
 use Rattle.hpgl.specs.Cases.{never, whether}
 use Rattle.hpgl.specs.Machine.{waiting, replied, replying, occupied, takeState, takeNumber, drawState, drawAnswer, fetchState, fetchText}
 use Rattle.hpgl.specs.WhatTakeDoes.{free-is}
@@ -29,7 +29,7 @@ use Rattle.hpgl.specs.Valid.{Every, more}
 use Rattle.feeding.specs.WhatMarksTell.{Told}
 use Rattle.textlines.specs.Text.{strokeText, refusalText, markAt, marksBelow}
 use Rattle.textlines.specs.TextLaws.{mark-refusal, mark-stroke, stroke-some, refusal-some}
-use Rattle.printed.specs.Printed.{strokeLine, drawnLine, byteLine, drawnLines, takenLine, mostReply, replyLine, printed}
+use Rattle.printed.specs.Printed.{strokeLine, drawnLine, byteLine, drawnLines, takenLine, replyLine, printed}
 
 -- a mark's line, where the plot has `before` bytes before it
 unfoldable pub markLine : ℕ → Mark → List ℕ

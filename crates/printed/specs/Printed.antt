@@ -7,6 +7,7 @@ use Rattle.hpgl.specs.declared.State.{State}
 use Rattle.hpgl.specs.declared.Stroke.{Stroke}
 use Rattle.hpgl.specs.declared.Drawn.{Drawn}
 use Rattle.hpgl.specs.declared.Drawn.the-variants as drawn
+use Rattle.hpgl.specs.Numbers.{mostReply}
 use Rattle.hpgl.specs.Machine.{waiting, takeState, takeNumber, drawState, drawAnswer, fetchState, fetchText}
 use Rattle.textlines.specs.Text.{strokeText, refusalText}
 
@@ -33,11 +34,8 @@ drawnLines (suc k) m idle = drawnLine (drawAnswer m) ++ drawnLines k (drawState 
 abbrev pub takenLine : ℕ → ℕ → State → (State → List ℕ) → List ℕ
 takenLine b n m next = byteLine (takeNumber m b) (n + 1) ++ next (takeState m b)
 
--- a buffer that takes every reply (`reply-short` in ReplyLaws.antt of hpgl)
-abbrev pub mostReply : ℕ
-mostReply = 37
-
--- "The program *strokes* fetches and prints each reply as soon as it is made": once no segment waits, and before another byte is taken; `next` goes on then
+-- "The program *strokes* fetches and prints each reply as soon as it is made": once no segment waits, and before another byte is taken; `next` goes on then. The
+-- buffer takes every reply (`reply-short` in ReplyLaws.antt of hpgl)
 abbrev pub replyLine : State → (State → List ℕ) → List ℕ
 replyLine m next = fetchText m mostReply ++ next (fetchState m mostReply)
 

@@ -4,7 +4,7 @@ use Prim.Native.Nat.{ℕ, zero, suc, _+_, _-_, _<_, _≤_}
 use native.Mathlib.Omega.{arith}
 use borrow.Author.Tests.{eq-eqb, ne-eqb}
 use Rattle.clip.specs.declared.Point.{Point}
-use Rattle.plane.specs.declared.turn.Rows.{Rows}
+use Rattle.turns.specs.declared.turn.Rows.{Rows}
 use Rattle.hpgl.specs.declared.Edge.{Edge}
 use Rattle.hpgl.specs.declared.Circle.{Circle}
 use Rattle.hpgl.specs.declared.Work.the-variants.{Nothing, Chords, Edges}

@@ -4,8 +4,8 @@ use mathlib.Core.Bool.{cond}
 use Prim.Native.Nat.{ℕ, zero, suc, _+_}
 use lib.ListN.{getD}
 use Rattle.clip.specs.declared.Point.{Point}
-use Rattle.plane.specs.declared.turn.Rows.{Rows}
-use Rattle.plane.specs.Turn.{rowsOf, turnedBy, turnedOf}
+use Rattle.turns.specs.declared.turn.Rows.{Rows}
+use Rattle.turns.specs.Turn.{rowsOf, turnedBy, turnedOf}
 use Rattle.hpgl.specs.declared.Settings.{Settings}
 use Rattle.hpgl.specs.declared.Circle.{Circle}
 use Rattle.hpgl.specs.declared.Edge.{Edge}

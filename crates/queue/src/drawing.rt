@@ -2,7 +2,7 @@
 ghost use mathlib.Core.Path.{_≡_};
 ghost use Rattle.clip.specs.Reach.{SmallRect};
 ghost use Rattle.sines.specs.Table as T;
-ghost use Rattle.plane.specs.Bounds.{UnitRows};
+ghost use Rattle.turns.specs.Turn.{UnitRows};
 ghost use Rattle.hpgl.specs.Machine as M;
 ghost use Rattle.hpgl.specs.Place as P;
 ghost use Rattle.hpgl.specs.Segment as G;
@@ -22,10 +22,10 @@ use hpgl::Stroke;
 use hpgl::Work;
 use plane::arc::bend;
 use plane::circle::vertex_point;
-use plane::turn::Rows;
-use plane::turn::rows_of;
-use plane::turn::turned_by;
 use rulekit::places::limits_of;
+use turns::turn::Rows;
+use turns::turn::rows_of;
+use turns::turn::turned_by;
 
 fn stroke_of(pen: u8, c: Clipped) -> Drawn
     ensures { λ r. ⌜ r ≡ M.strokeOf pen c ⌝ }

@@ -20,9 +20,9 @@ use Rattle.reader.specs.declared.Event.the-variants.{Named, Pair, Ended}
 use Rattle.reader.specs.Reader.{noneOf, storedOf}
 use Rattle.plane.specs.Position.{axisOf, absoluteOf, locationOf}
 use Rattle.plane.specs.PositionLaws.{in-range-of}
-use Rattle.plane.specs.Turn.{turns, turnOf, turnedOf}
-use Rattle.plane.specs.TurnLaws.{east, north, coord-is}
-use Rattle.plane.specs.Limits.{limitsOf}
+use Rattle.turns.specs.Turn.{turns, turnOf, turnedOf}
+use Rattle.turns.specs.TurnLaws.{east, north, coord-is}
+use Rattle.turns.specs.Limits.{limitsOf}
 use Rattle.hpgl.specs.declared.Action.the-variants.{Keep, Line}
 use Rattle.hpgl.specs.declared.Core.{Core}
 use Rattle.hpgl.specs.declared.Position.{Position}

@@ -10,11 +10,11 @@ use hpgl::Core;
 use hpgl::Memory;
 use hpgl::Reply;
 use hpgl::Settings;
-use plane::turn::turned_back_box;
 use rulekit::acts::done;
 use rulekit::changes::with_carriage;
 use rulekit::changes::with_memory;
 use rulekit::places::located;
+use turns::turn::turned_back_box;
 
 // The location, and 1 for pen down or 0 for up.
 fn place_told(c: Core) -> Reply

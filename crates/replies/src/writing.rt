@@ -10,6 +10,7 @@ ghost use Rattle.hpgl.specs.Valid.{ValidReply, ValidWork};
 ghost use Rattle.replies.specs.Fetch.{Fetches};
 use decimals::put_byte;
 use decimals::put_whole;
+use hpgl::MOST_REPLY;
 use hpgl::Reply;
 use hpgl::Work;
 use rulekit::numbers::SHORT_BUFFER;
@@ -19,9 +20,6 @@ const COMMA: u8 = 44;
 const CLOSING: u8 = 13;
 
 const LINE_FEED: u8 = 10;
-
-// The longest reply has 37 bytes: Reply laws of the crate hpgl.
-const LONGEST: usize = 37;
 
 // The last number.
 fn put_one(out: &mut [u8], at: usize, z: i64) -> usize
@@ -82,7 +80,7 @@ fn write_reply(r: Reply, out: &mut [u8]) -> Written
     requires { ⌜ ValidReply r ⌝ }
     ensures { λ w. ⌜ Fetches r (now (out .entry)) (now (out .exit)) w ⌝ }
 {
-    let mut aside = [0; LONGEST];
+    let mut aside = [0; MOST_REPLY];
     let length = put_reply(&mut aside, r);
     if length <= out.len() {
         let written = put_reply(out, r);

@@ -7,8 +7,8 @@ use lib.Dec.{eqb}
 use Rattle.clip.specs.declared.Point.{Point}
 use Rattle.mnemonics.specs.Table.{knownInPolygon}
 use Rattle.plane.specs.Position.{locationOf}
-use Rattle.plane.specs.Turn.{rowsOf, turnedBy}
-use Rattle.plane.specs.TurnLaws.{by-rows}
+use Rattle.turns.specs.Turn.{rowsOf, turnedBy}
+use Rattle.turns.specs.TurnLaws.{by-rows}
 use Rattle.hpgl.specs.declared.Position.{Position}
 use Rattle.hpgl.specs.declared.Settings.{Settings}
 use Rattle.hpgl.specs.declared.Polygon.{Polygon}

@@ -7,8 +7,9 @@ use Rattle.clip.specs.Reach.{SmallPoint}
 use Rattle.reader.specs.declared.Coordinates.{Coordinates}
 use Rattle.reader.specs.declared.Numbers.{Numbers}
 use Rattle.reader.specs.Sizes.{Small, SmallPair}
-use Rattle.plane.specs.Bounds.{AxisBounds, Locatable, UnitRows, mostProduct}
-use Rattle.plane.specs.TurnLaws.{rows-unit}
+use Rattle.plane.specs.Bounds.{AxisBounds, Locatable, mostProduct}
+use Rattle.turns.specs.Turn.{UnitRows}
+use Rattle.turns.specs.TurnLaws.{rows-unit}
 use Rattle.hpgl.specs.declared.Position.{Position}
 use Rattle.hpgl.specs.declared.Polygon.{Polygon}
 use Rattle.hpgl.specs.declared.Core.{Core}

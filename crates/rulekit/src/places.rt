@@ -13,7 +13,6 @@ use clip::Rect;
 use exact::nearest_div;
 use hpgl::Position;
 use hpgl::Settings;
-use plane::limits::limits;
 use plane::position::Axis;
 use plane::position::ExactPosition;
 use plane::position::absolute;
@@ -21,10 +20,11 @@ use plane::position::axis_of;
 use plane::position::in_range;
 use plane::position::location;
 use plane::position::relative;
-use plane::turn::Rows;
-use plane::turn::rows_of;
-use plane::turn::turned;
 use reader::Coordinates;
+use turns::limits::limits;
+use turns::turn::Rows;
+use turns::turn::rows_of;
+use turns::turn::turned;
 
 // What the settings make of a pair, made once for many pairs: the axes, the table of the turn, the limits.
 pub struct Frame {

@@ -27,7 +27,6 @@ use mnemonics::PD;
 use mnemonics::PR;
 use mnemonics::PU;
 use mnemonics::known_in_polygon;
-use plane::turn::turned_by;
 use reader::Coordinates;
 use rulekit::hand::Hand;
 use rulekit::hand::Pointed;
@@ -44,6 +43,7 @@ use rulekit::places::located;
 use rulekit::places::located_in;
 use rulekit::places::reachable;
 use rulekit::places::relative_position;
+use turns::turn::turned_by;
 
 // The pen's mark is spent by a pair, and by PA and PR.
 fn spent(p: Pen) -> Pen

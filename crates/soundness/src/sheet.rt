@@ -2,8 +2,8 @@
 ghost use mathlib.Core.Path.{_≡_};
 ghost use Rattle.wellformed.specs.Sound as S;
 use super::tests::between;
-use plane::turn::TURN_COUNT;
 use rows::Row;
+use turns::turn::TURN_COUNT;
 
 // The last turn of the table.
 const LAST_TURN: i64 = TURN_COUNT as i64 - 1;

@@ -16,7 +16,7 @@ use lib.Seq.{drop-drop, getD-drop, drop-at, take-add, length-take-le, take-suc-s
 use Rattle.numerals.specs.declared.bytes.Class.the-variants as class
 use Rattle.numerals.specs.Bytes.{lowClassOf, classOf}
 use Rattle.clip.specs.declared.Point.{Point}
-use Rattle.plane.specs.Turn.{turnedOf}
+use Rattle.turns.specs.Turn.{turnedOf}
 use Rattle.reader.specs.Reader.{unknown}
 use Rattle.hpgl.specs.declared.State.{State}
 use Rattle.hpgl.specs.declared.Work.{Work}

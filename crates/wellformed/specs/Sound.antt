@@ -12,7 +12,7 @@ use Rattle.plane.specs.declared.position.ExactPosition.{ExactPosition}
 use Rattle.plane.specs.Bounds.{mostProduct}
 use Rattle.plane.specs.Position.{inRangeOf}
 use Rattle.plane.specs.Arc.{fitsFrom}
-use Rattle.plane.specs.Turn.{turnCount}
+use Rattle.turns.specs.Turn.{turnCount}
 use Rattle.hpgl.specs.declared.Position.{Position}
 use Rattle.hpgl.specs.declared.Settings.{Settings}
 use Rattle.hpgl.specs.declared.Circle.{Circle}

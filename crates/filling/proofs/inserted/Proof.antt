@@ -11,7 +11,7 @@ use lib.Seq.{take-suc-set}
 use mir.Syntax.{w64}
 use mir.Val.{SFits, toZ, ofZ}
 use Rattle.exact.specs.Fit.{arg, got}
-use Rattle.plane.specs.Turn.{lesserOf, greaterOf}
+use Rattle.turns.specs.Turn.{lesserOf, greaterOf}
 use Rattle.filling.specs.Sink.{sink}
 use Rattle.filling.proofs.inserted.Statement.{statement}
 use Rattle.filling.proofs.inserted.Tie as tie

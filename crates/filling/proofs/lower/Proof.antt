@@ -4,7 +4,7 @@ use mathlib.Core.Path.{_∙_}
 use mir.Syntax.{w64}
 use mir.Val.{SFits}
 use Rattle.exact.specs.Fit.{arg, got}
-use Rattle.plane.specs.Turn.{lesserOf}
+use Rattle.turns.specs.Turn.{lesserOf}
 use Rattle.filling.specs.Filling.{lower}
 use Rattle.filling.proofs.lower.Statement.{statement}
 use Rattle.filling.proofs.lower.Tie as tie

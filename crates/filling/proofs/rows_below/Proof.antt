@@ -7,7 +7,7 @@ use mir.Syntax.{w64}
 use mir.Val.{SFits}
 use Rattle.exact.specs.Whole.{ltZ-true, ltZ-false}
 use Rattle.exact.specs.Fit.{Num, m64, arg, val, num, put, fit, ret, lt-is, _⊖_}
-use Rattle.plane.specs.Turn.{lesserOf}
+use Rattle.turns.specs.Turn.{lesserOf}
 use Rattle.filling.specs.Filling.{firstRow, pastRow, metBelow}
 use Rattle.filling.specs.Bounds.{mostRow, first-size, past-size, less-size}
 use Rattle.filling.specs.CountLaws.{natural, no-natural}

@@ -4,7 +4,7 @@ use mathlib.Core.Path.{_∙_}
 use mir.Syntax.{w64}
 use mir.Val.{SFits}
 use Rattle.exact.specs.Fit.{arg, got}
-use Rattle.plane.specs.Turn.{greaterOf}
+use Rattle.turns.specs.Turn.{greaterOf}
 use Rattle.filling.specs.Filling.{upper}
 use Rattle.filling.proofs.upper.Statement.{statement}
 use Rattle.filling.proofs.upper.Tie as tie

@@ -5,8 +5,8 @@ use Prim.Native.Nat.{ℕ, _+_, _/_, _≤_, _<_}
 use native.Mathlib.Omega.{arith}
 use lib.ListN.{length}
 use Rattle.clip.specs.Reach.{SmallRect}
-use Rattle.plane.specs.Bounds.{UnitRows}
-use Rattle.plane.specs.TurnLaws.{rows-unit}
+use Rattle.turns.specs.Turn.{UnitRows}
+use Rattle.turns.specs.TurnLaws.{rows-unit}
 use Rattle.hpgl.specs.declared.Work.{Work}
 use Rattle.hpgl.specs.declared.Work.the-variants.{Chords}
 use Rattle.hpgl.specs.declared.Segment.the-variants as segment

@@ -14,7 +14,7 @@ use lib.IntN.{ℤ}
 use lib.ListN.{length, getD, set, drop}
 use Rattle.clip.specs.Reach.{SmallRect}
 use Rattle.clip.specs.declared.Rect.{Rect}
-use Rattle.plane.specs.Turn.{rowsOf}
+use Rattle.turns.specs.Turn.{rowsOf}
 use Rattle.sines.specs.Rules.{entries}
 use Rattle.reader.specs.declared.Coordinates.{Coordinates}
 use Rattle.reader.specs.declared.Event.{Event}

@@ -9,7 +9,7 @@ use Rattle.decimals.specs.Puts.{Puts}
 use Rattle.machine.specs.declared.Fetched.{Fetched}
 use Rattle.machine.specs.Calls.{fetchedFrom}
 use Rattle.plotting.specs.PlottedLaws.{reply-fits, puts-at, part-length, reply-put}
-use Rattle.printed.specs.Printed.{mostReply}
+use Rattle.hpgl.specs.Numbers.{mostReply}
 use Rattle.plotting.proofs.put_reply.Statement.{statement}
 use Rattle.plotting.proofs.put_reply.Tie as tie
 
@@ -39,7 +39,7 @@ returns c =
     let m = s .args .machine .state in
     let text = s .args .text .now in
     let at = s .args .at in
-    let n : at + 37 - at ≡ mostReply = omega arith in
+    let n : at + mostReply - at ≡ mostReply = omega arith in
     let is = f .fetch .ensures .0 ∙ ap (fetchedFrom m) (part-length m text at _ (s .pre .1) n) in
     let long : f .fetch .result .length ≡ length (fetchText m mostReply) = ap (λ (r : Fetched). r .length) is in
     (is, (puts-at (ap (λ (k : ℕ). at + k) (sym long)) (reply-put m text at _ (s .pre .1) n (f .fetch .ensures .1)), omega (arith, add-end (search), long, reply-fits m)))

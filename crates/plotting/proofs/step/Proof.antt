@@ -18,7 +18,7 @@ use Rattle.decimals.specs.Puts.{Puts, puts-same, puts-length, puts-then}
 use Rattle.plotting.specs.Plotted.{movedOf, mostMarks}
 use Rattle.printed.specs.PlotPrinted.{markLines}
 use Rattle.plotting.specs.PlottedLaws.{marked, puts-at, usable-got, marks-lines, steps}
-use Rattle.printed.specs.Printed.{mostReply}
+use Rattle.hpgl.specs.Numbers.{mostReply}
 use borrow.Author.Needs.{needs}
 use Rattle.plotting.proofs.step.Statement.{statement}
 use Rattle.plotting.proofs.step.Tie as tie

@@ -5,7 +5,7 @@ use mathlib.Core.Path.{_≡_, refl, sym, ap, _∙_}
 use mir.Syntax.{w64}
 use mir.Val.{SFits}
 use Rattle.exact.specs.Fit.{arg}
-use Rattle.plane.specs.Turn.{findTurn}
+use Rattle.turns.specs.Turn.{findTurn}
 use Rattle.hpgl.specs.Rules.{turnTo}
 use Rattle.settings.proofs.turn_to.Statement.{statement}
 use Rattle.settings.proofs.turn_to.Tie as tie

@@ -4,7 +4,7 @@ use mathlib.Core.Path.{_∙_}
 use mir.Syntax.{w64}
 use mir.Val.{SFits}
 use Rattle.exact.specs.Fit.{arg, got}
-use Rattle.plane.specs.Turn.{lesserOf, greaterOf}
+use Rattle.turns.specs.Turn.{lesserOf, greaterOf}
 use Rattle.counting.specs.Tally.{joinedOf}
 use Rattle.counting.proofs.tally.joined.Statement.{statement}
 use Rattle.counting.proofs.tally.joined.Tie as tie

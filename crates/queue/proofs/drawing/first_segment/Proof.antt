@@ -1,6 +1,6 @@
 -- The proof of `first_segment`: the table is that of the settings, and the corners are those of the work.
 use mathlib.Core.Path.{_∙_}
-use Rattle.plane.specs.TurnLaws.{rows-unit}
+use Rattle.turns.specs.TurnLaws.{rows-unit}
 use Rattle.queue.specs.Corners.{cornerOf, nextCornerOf, segmentIn, firstSegment}
 use Rattle.queue.proofs.drawing.first_segment.Statement.{statement}
 use Rattle.queue.proofs.drawing.first_segment.Tie as tie

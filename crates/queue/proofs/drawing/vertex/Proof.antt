@@ -6,7 +6,7 @@ use native.Mathlib.Omega.{arith}
 use lib.IntN.{ℤ}
 use mir.Syntax.{w64}
 use Rattle.exact.specs.Fit.{val, sized, got}
-use Rattle.plane.specs.Turn.{turnedBy}
+use Rattle.turns.specs.Turn.{turnedBy}
 use Rattle.plane.specs.Circle.{pointFromCentre}
 use Rattle.plane.specs.Arc.{bendOf, arcPoint}
 use Rattle.hpgl.specs.Machine.{vertexIn}

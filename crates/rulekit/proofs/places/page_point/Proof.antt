@@ -2,7 +2,7 @@
 use mathlib.Core.Path.{sym, subst, ap, _∙_}
 use Rattle.clip.specs.Reach.{SmallPoint}
 use Rattle.clip.specs.declared.Point.{Point}
-use Rattle.plane.specs.Turn.{turnedOf}
+use Rattle.turns.specs.Turn.{turnedOf}
 use Rattle.hpgl.specs.Place.{pagePoint}
 use Rattle.hpgl.specs.ValidFacts.{placed-locatable}
 use Rattle.rulekit.proofs.places.page_point.Statement.{statement}

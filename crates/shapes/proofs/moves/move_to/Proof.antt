@@ -2,7 +2,7 @@
 use mathlib.Core.Path.{refl, sym, subst, ap, _∙_}
 use borrow.Author.Needs.{needs}
 use Rattle.clip.specs.Reach.{SmallPoint}
-use Rattle.plane.specs.Turn.{turnedBy}
+use Rattle.turns.specs.Turn.{turnedBy}
 use Rattle.hpgl.specs.Rules.{done, inked, moveTo}
 use Rattle.rulekit.specs.declared.hand.Hand.{Hand}
 use Rattle.rulekit.specs.Hand.{lineOf, location-in, page-in}
