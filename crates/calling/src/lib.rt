@@ -1,4 +1,4 @@
-// Each call on a machine that is kept as numbers, those that `save` writes: it is loaded, called and saved again.
+// Each call on a machine that is kept as numbers, those that `save` writes: it is loaded, called and saved again, but for fetch.
 // The crate vutaroi has the calls for programs in C and Rust, with the header before these numbers.
 ghost use mathlib.Core.Path.{_≡_};
 ghost use mathlib.Core.List.{[], _∷_};
@@ -14,8 +14,12 @@ ghost use Rattle.answers.specs.Answers.{drawnKind, drawnNumbers, lookNumbers, c
 use answers::look_row;
 use answers::put_counts;
 use answers::put_drawn;
+use hpgl::Work;
 use machine::Machine;
+use replies::writing::fetch;
 use rows::put_row;
+use saving::work::put_work;
+use saving::work::work_at;
 
 pub fn fresh_in(left: i64, bottom: i64, right: i64, top: i64, numbers: &mut [i64]) -> u8
     requires { ⌜ length (now numbers) ≡ stateNumbers ⌝ }
@@ -63,19 +67,21 @@ pub fn look_in(numbers: &[i64], seen: &mut [i64])
     put_row(seen, 0, look_row(look));
 }
 
+// A fetch asks for the waiting work alone, and changes nothing else: so only the work's rows are read and written. What save writes, the other rows have already.
 pub fn fetch_in(numbers: &mut [i64], out: &mut [u8], answer: &mut [u64]) -> u8
-    requires { ⌜ Loadable (now numbers) × (1 ≤ length (now answer)) ⌝ }
+    requires { ⌜ Loadable (now numbers) × (savedOf (loadedOf (now numbers)) ≡ now numbers) × (1 ≤ length (now answer)) ⌝ }
     ensures { λ r. ⌜ r ≡ fetchNumber (loadedOf (now (numbers .entry))) (length (now (out .entry))) ⌝ }
     ensures { λ _. ⌜ now (numbers .exit) ≡ savedOf (fetchState (loadedOf (now (numbers .entry))) (length (now (out .entry)))) ⌝ }
     ensures { λ _. ⌜ now (out .exit) ≡ fetchOut (loadedOf (now (numbers .entry))) (now (out .entry)) ⌝ }
     ensures { λ _. ⌜ now (answer .exit) ≡ over (now (answer .entry)) 0 (length (fetchText (loadedOf (now (numbers .entry))) (length (now (out .entry)))) ∷ []) ⌝ }
 {
-    let before = Machine::load(numbers);
-    let fetched = before.fetch(out);
-    let after = fetched.machine;
-    after.save(numbers);
-    answer[0] = fetched.length as u64;
-    fetched.number
+    let written = fetch(work_at(numbers), out);
+    answer[0] = written.length as u64;
+    if written.length == 0 {
+        return written.number;
+    }
+    put_work(Work::Nothing, numbers);
+    written.number
 }
 
 pub fn feed_in(numbers: &mut [i64], bytes: &[u8], records: &mut [i64], answer: &mut [u64]) -> u8

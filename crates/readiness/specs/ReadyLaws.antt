@@ -65,6 +65,10 @@ module _ {zs : List ℤ} {needed lent : ℕ} (g : Goes zs needed lent) where
   pub goes-loadable : Loadable (drop 5 zs)
   goes-loadable = record { long = rest-long; usable = passed .usable }
 
+  -- the numbers after the header are what save writes of their machine
+  pub goes-saved : savedOf (loadedOf (drop 5 zs)) ≡ drop 5 zs
+  goes-saved = passed .same
+
   -- what it holds may be used, and it is that machine's list
   pub goes-usable : Usable (machineIn zs)
   unfolding machineIn
@@ -72,7 +76,7 @@ module _ {zs : List ℤ} {needed lent : ℕ} (g : Goes zs needed lent) where
 
   pub goes-list : zs ≡ listOf (machineIn zs)
   unfolding listOf machineIn
-  goes-list = seal-back zs (omega (arith, g .long)) (tests .0) (tests .2) ∙ ap sealedOf (sym (passed .same))
+  goes-list = seal-back zs (omega (arith, g .long)) (tests .0) (tests .2) ∙ ap sealedOf (sym goes-saved)
 
 -- ---- a list whose numbers after the header were written anew
 

@@ -10,19 +10,20 @@ use lib.ListN.{length, getD, drop}
 use lib.Seq.{getD-drop, drop-drop}
 use Rattle.exact.specs.Whole.{_≤?_}
 use Rattle.rows.specs.declared.Row.{Row}
-use Rattle.rows.specs.Rows.{lay, rowAt, smallOf, mostByte, mostShort}
+use Rattle.rows.specs.Rows.{lay, rowAt, over, smallOf, mostByte, mostShort}
 use Rattle.rows.specs.RowLaws.{flag-back, small-back, place-back}
 use Rattle.reader.specs.Sizes.{Readable}
-use Rattle.saved.specs.Places.{edgesPlace}
+use Rattle.saved.specs.Places.{workPlace, edgesPlace}
 use Rattle.saved.specs.SavedReader.{readerAt, reader-back}
 use Rattle.hpgl.specs.declared.Edge.{Edge}
 use Rattle.hpgl.specs.declared.Work.{Work}
 use Rattle.hpgl.specs.declared.Work.the-variants.{Nothing, Line, Chords, Edges, Answer}
 use Rattle.hpgl.specs.declared.State.{State}
 use Rattle.hpgl.specs.Numbers.{mostEdges}
+use Rattle.hpgl.specs.Change.{withWork}
 use Rattle.hpgl.specs.Valid.{ValidSettings, ValidCore, ReplyCount, one, three, four, ValidWork, Valid}
 use Rattle.hpgl.specs.RepliesKept.{recalled-least}
-use Rattle.saved.specs.Saved.{stateNumbers, flagIn, smallIn, limitsRow, cornersRow, scaleRow, windowRow, boxOf, fromOf, toOf, rangeX, rangeY, settingsOf, settingsAt, positionRow, penRow, polygonRow, memoryRow, positionOf, penOf, pm0Of, polygonOf, memoryOf, carriageOf, carriageAt, blankRow, lineRow, chordsRow, edgesRow, replyRow, countRow, acrossRow, alongRow, startRow, workRow, workAcross, workAlong, workStart, centreOf, wayOf, angleIn, circleOf, replyOf, workOf, workAt, edgeRow, edgesNumbers, edgeOf, edgesFrom, storeAt, savedOf, loadedOf}
+use Rattle.saved.specs.Saved.{stateNumbers, flagIn, smallIn, limitsRow, cornersRow, scaleRow, windowRow, boxOf, fromOf, toOf, rangeX, rangeY, settingsOf, settingsAt, positionRow, penRow, polygonRow, memoryRow, positionOf, penOf, pm0Of, polygonOf, memoryOf, carriageOf, carriageAt, blankRow, lineRow, chordsRow, edgesRow, replyRow, countRow, acrossRow, alongRow, startRow, workRow, workAcross, workAlong, workStart, workNumbers, centreOf, wayOf, angleIn, circleOf, replyOf, workOf, workAt, edgeRow, edgesNumbers, edgeOf, edgesFrom, storeAt, savedOf, loadedOf}
 
 -- ---- the parts, each from its place on
 
@@ -134,3 +135,8 @@ saved-back m v = λ i. record {
 pub saved-length : (m : State) → length (m .store .edges) ≡ mostEdges → length (savedOf m) ≡ stateNumbers
 unfolding savedOf
 saved-length m e = let h = edges-length (m .store .edges) in omega (arith, h, e)
+
+-- another work changes the work's rows, and no other
+pub saved-work : (m : State) (w : Work) → over (savedOf m) workPlace (workNumbers w) ≡ savedOf (withWork m w)
+unfolding savedOf workNumbers over
+saved-work m w = refl

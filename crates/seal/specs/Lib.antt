@@ -1,3 +1,4 @@
 pub mod Seal
 pub mod SealLaws
 pub mod Light
+pub mod Columns

@@ -45,15 +45,6 @@ pub record Light (zs : List ℤ) : Type 0 where
 unfoldable pub weighOf : ℤ → Row → ℤ
 weighOf p r = (p +ℤ pos 1) *ℤ r .a +ℤ (p +ℤ pos 2) *ℤ r .b +ℤ (p +ℤ pos 3) *ℤ r .c +ℤ (p +ℤ pos 4) *ℤ r .d +ℤ (p +ℤ pos 5) *ℤ r .e
 
--- what the code asks: each product is small
-pub record Weighs (p : ℤ) (r : Row) : Type 0 where
-  pub place : Bd p 1000
-  pub a : Bd ((p +ℤ pos 1) *ℤ r .a) 1000000000000000000
-  pub b : Bd ((p +ℤ pos 2) *ℤ r .b) 1000000000000000000
-  pub c : Bd ((p +ℤ pos 3) *ℤ r .c) 1000000000000000000
-  pub d : Bd ((p +ℤ pos 4) *ℤ r .d) 1000000000000000000
-  pub e : Bd ((p +ℤ pos 5) *ℤ r .e) 1000000000000000000
-
 -- the sum over the row at the place p, and the rest
 pub weighed-row : (p : ℕ) (r : Row) (zs : List ℤ) → weighed (p + 1) (lay r zs) ≡ weighOf (pos p) r +ℤ weighed (p + 5 + 1) zs
 unfolding weighed weighOf
@@ -68,61 +59,6 @@ weighed-row p r zs =
   where
     go : (a b c d e w : ℤ) → a +ℤ (b +ℤ (c +ℤ (d +ℤ (e +ℤ w)))) ≡ a +ℤ b +ℤ c +ℤ d +ℤ e +ℤ w
     go a b c d e w = rw (is a, is b, is c, is d, is e, is w) (simp Z (omega arith))
-
--- ---- how large it is
-
-pub weigh-size : (p n : ℕ) {r : Row} → LightRow n r → Bd (weighOf (pos p) r) ((p * 5 + 15) * n)
-unfolding weighOf
-weigh-size p n {r} h =
-    let s = (lit (pos p) ⊞ lit (pos 1)) ⊠ h .a ⊞ (lit (pos p) ⊞ lit (pos 2)) ⊠ h .b ⊞ (lit (pos p) ⊞ lit (pos 3)) ⊠ h .c ⊞ (lit (pos p) ⊞ lit (pos 4)) ⊠ h .d ⊞ (lit (pos p) ⊞ lit (pos 5)) ⊠ h .e in
-    record { bd = omega (arith, s .bd) }
-
--- the first k rows
-unfoldable pub heavy : ℕ → ℕ
-heavy zero = 0
-heavy (suc k) = heavy k + (k * 5 * 5 + 15) * mostAt k
-
-heavy-grows : (k j : ℕ) → heavy k ≤ heavy (k + j)
-unfolding heavy
-heavy-grows k zero = let e : k + 0 ≡ k = omega arith in rw e (omega arith)
-heavy-grows k (suc j) = let e : k + suc j ≡ suc (k + j) = omega arith in rw e (omega (arith, heavy-grows k j))
-
--- what the sum is at most: within an i64
-abbrev pub mostSum : ℕ
-mostSum = 8000000000000000000
-
-pub heavy-most : (k : ℕ) → k ≤ rowCount → heavy k ≤ mostSum
-unfolding heavy mostAt
-heavy-most k h =
-    let all : k + (rowCount - k) ≡ rowCount = omega (arith, h) in
-    let last : heavy (k + (rowCount - k)) ≡ heavy rowCount = ap heavy all in
-    let whole : heavy rowCount ≤ mostSum = leb→le (heavy rowCount) mostSum tt in
-    omega (arith, heavy-grows k (rowCount - k), last, whole)
-
-most-at : (k : ℕ) {t : Bool} → ltb k headCount ≡ t → mostAt k ≡ cond t 2000000001000001 1000000
-unfolding mostAt
-most-at k e = ap (λ (t : Bool). cond t 2000000001000001 1000000) e
-
--- a row of a light list may be weighed
-pub light-weighs : {zs : List ℤ} (k : ℕ) → Light zs → k < rowCount → Weighs (pos (k * 5)) (rowAt zs (k * 5))
-light-weighs {zs} k h l = by (ltb k headCount) refl (h .row k l)
-  where
-    scaled : (j n : ℕ) {z : ℤ} → j ≤ 5 → (k * 5 + 5) * n ≤ 1000000000000000000 → Bd z n → Bd ((pos (k * 5) +ℤ pos j) *ℤ z) 1000000000000000000
-    scaled j n {z} s m b = let t = (lit (pos (k * 5)) ⊞ lit (pos j)) ⊠ b in record { bd = omega (arith, t .bd, m, mul-le-mul-right n s) }
-
-    all : (n : ℕ) → (k * 5 + 5) * n ≤ 1000000000000000000 → LightRow n (rowAt zs (k * 5)) → Weighs (pos (k * 5)) (rowAt zs (k * 5))
-    all n m r = record {
-      place = record { bd = omega (arith, l) };
-      a = scaled 1 n (omega arith) m (r .a);
-      b = scaled 2 n (omega arith) m (r .b);
-      c = scaled 3 n (omega arith) m (r .c);
-      d = scaled 4 n (omega arith) m (r .d);
-      e = scaled 5 n (omega arith) m (r .e);
-    }
-
-    by : (t : Bool) → ltb k headCount ≡ t → LightRow (mostAt k) (rowAt zs (k * 5)) → Weighs (pos (k * 5)) (rowAt zs (k * 5))
-    by true e r = all 2000000001000001 (omega (arith, ltb-true k headCount e)) (subst (λ (n : ℕ). LightRow n (rowAt zs (k * 5))) (most-at k e) r)
-    by false e r = all 1000000 (omega (arith, l)) (subst (λ (n : ℕ). LightRow n (rowAt zs (k * 5))) (most-at k e) r)
 
 -- ---- the sum, row by row
 
@@ -154,10 +90,6 @@ weighed-more zs k e h =
 pub weighed-all : (zs : List ℤ) (k : ℕ) → length zs ≡ rowCount * 5 → rowCount ≤ k → weighed (k * 5 + 1) (drop (k * 5) zs) ≡ pos 0
 unfolding weighed
 weighed-all zs k e h = ap (weighed (k * 5 + 1)) (drop-of-length-le zs {i = k * 5} (omega (arith, e, h)))
-
-pub heavy-more : (k : ℕ) → heavy (k + 1) ≡ heavy k + (k * 5 * 5 + 15) * mostAt k
-unfolding heavy
-heavy-more k = ap heavy (add-one k)
 
 -- ---- a list whose rest is light has a header
 

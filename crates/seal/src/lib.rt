@@ -1,9 +1,11 @@
 // The seal of a machine's list of numbers: a row before them with the version of the form and a sum, each number times its place.
 // So a list that was kept in memory or on disk, and changed there, is told from one that the calls wrote. specs/Seal.antt says what is computed, specs/SealLaws.antt what it tells.
 ghost use mathlib.Core.Path.{_≡_};
+ghost use lib.IntN.{pos};
 ghost use lib.ListN.{drop};
 ghost use Rattle.seal.specs.Seal as S;
 ghost use Rattle.seal.specs.Light as L;
+ghost use Rattle.seal.specs.Columns as C;
 use rows::Row;
 use rows::put_row;
 use rows::row_at;
@@ -16,31 +18,58 @@ const ROW: usize = 5;
 
 const ROWS: usize = 129;
 
-// A row's part of the sum, with so many numbers before it.
-fn weigh(place: i64, row: Row) -> i64
-    requires { ⌜ L.Weighs place row ⌝ }
-    ensures { λ r. ⌜ r ≡ L.weighOf place row ⌝ }
+// What a row weighs at the start of the numbers: each of its numbers times its place.
+fn weigh(row: Row) -> i64
+    requires { ⌜ L.LightRow C.mostPart row ⌝ }
+    ensures { λ r. ⌜ r ≡ L.weighOf (pos 0) row ⌝ }
 {
-    let a = (place + 1) * row.a;
-    let b = (place + 2) * row.b;
-    let c = (place + 3) * row.c;
-    let d = (place + 4) * row.d;
-    let e = (place + 5) * row.e;
-    a + b + c + d + e
+    row.a + 2 * row.b + 3 * row.c + 4 * row.d + 5 * row.e
 }
 
+// Two rows together, number by number.
+fn plus(p: Row, q: Row) -> Row
+    requires { ⌜ L.LightRow C.mostColumn p × L.LightRow C.mostColumn q ⌝ }
+    ensures { λ r. ⌜ r ≡ C.plusOf p q ⌝ }
+{
+    Row {
+        a: p.a + q.a,
+        b: p.b + q.b,
+        c: p.c + q.c,
+        d: p.d + q.d,
+        e: p.e + q.e,
+    }
+}
+
+// The numbers of a row together.
+fn total(r: Row) -> i64
+    requires { ⌜ L.LightRow C.mostColumn r ⌝ }
+    ensures { λ z. ⌜ z ≡ C.totalOf r ⌝ }
+{
+    r.a + r.b + r.c + r.d + r.e
+}
+
+// From the last row to the first, without a product for each number: `part` has the rows so far together, and `all` the parts before each of them, so that a row counts in it
+// once for each row before it.
 fn checksum(numbers: &[i64]) -> i64
     requires { ⌜ L.Light (now numbers) ⌝ }
     ensures { λ r. ⌜ r ≡ S.checksumOf (now (numbers .entry)) ⌝ }
 {
-    let mut sum = 0;
-    let mut k = 0;
-    while k < ROWS {
-        let at = k * ROW;
-        sum += weigh(at as i64, row_at(numbers, at));
-        k += 1;
+    let none = Row {
+        a: 0,
+        b: 0,
+        c: 0,
+        d: 0,
+        e: 0,
+    };
+    let mut part = none;
+    let mut all = none;
+    let mut k = ROWS;
+    while 0 < k {
+        k -= 1;
+        all = plus(all, part);
+        part = plus(part, row_at(numbers, k * ROW));
     }
-    sum
+    5 * total(all) + weigh(part)
 }
 
 // Whether a row may be a header, its sum apart.

@@ -1,38 +1,45 @@
 // A row between two rows, number by number.
 ghost use mathlib.Core.Path.{_≡_};
+ghost use mathlib.Core.Bool.{_&&_};
 ghost use lib.IntN.{_+ℤ_};
 ghost use Rattle.exact.specs.Whole.{_≤?_};
 ghost use Rattle.exact.specs.Fit.{Bd};
 ghost use Rattle.wellformed.specs.Sound as S;
 use rows::Row;
 
-fn first_below(p: Row, q: Row) -> bool
-    ensures { λ r. ⌜ r ≡ S.firstBelow p q ⌝ }
+// Whether a number is at least one and at most another. The two tests stand together, so that a processor makes one of them; each call makes them for every number of a machine.
+fn inside(low: i64, z: i64, high: i64) -> bool
+    ensures { λ t. ⌜ t ≡ ((low ≤? z) && (z ≤? high)) ⌝ }
 {
-    if p.a <= q.a {
-        return p.b <= q.b;
+    if low <= z {
+        return z <= high;
     }
     false
 }
 
-fn last_below(p: Row, q: Row) -> bool
-    ensures { λ r. ⌜ r ≡ S.lastBelow p q ⌝ }
+fn first_between(low: Row, r: Row, high: Row) -> bool
+    ensures { λ t. ⌜ t ≡ (S.firstBelow low r && S.firstBelow r high) ⌝ }
 {
-    if p.c <= q.c {
-        if p.d <= q.d {
-            return p.e <= q.e;
-        }
-        return false;
+    if inside(low.a, r.a, high.a) {
+        return inside(low.b, r.b, high.b);
     }
     false
 }
 
-// Whether no number of a row is larger than the other's.
-fn below(p: Row, q: Row) -> bool
-    ensures { λ r. ⌜ r ≡ S.belowOf p q ⌝ }
+fn end_between(low: Row, r: Row, high: Row) -> bool
+    ensures { λ t. ⌜ t ≡ (((low .d ≤? r .d) && (low .e ≤? r .e)) && ((r .d ≤? high .d) && (r .e ≤? high .e))) ⌝ }
 {
-    if first_below(p, q) {
-        return last_below(p, q);
+    if inside(low.d, r.d, high.d) {
+        return inside(low.e, r.e, high.e);
+    }
+    false
+}
+
+fn last_between(low: Row, r: Row, high: Row) -> bool
+    ensures { λ t. ⌜ t ≡ (S.lastBelow low r && S.lastBelow r high) ⌝ }
+{
+    if inside(low.c, r.c, high.c) {
+        return end_between(low, r, high);
     }
     false
 }
@@ -40,8 +47,8 @@ fn below(p: Row, q: Row) -> bool
 pub fn between(low: Row, r: Row, high: Row) -> bool
     ensures { λ t. ⌜ t ≡ S.betweenOf low r high ⌝ }
 {
-    if below(low, r) {
-        return below(r, high);
+    if first_between(low, r, high) {
+        return last_between(low, r, high);
     }
     false
 }

@@ -121,7 +121,7 @@ pub const LOADS: [Load; 16] = [
     },
     Load {
         name: "asking",
-        about: "PD moves, a question after each 256",
+        about: "PD moves, a question after each 100",
         setup: "IN;SP1;",
         size: MOVES,
         part: drawn_then_asked,
@@ -267,6 +267,6 @@ fn drawing(dice: &mut Dice) -> String {
 
 /// A package that draws, and asks where the pen is or what was refused.
 fn drawn_then_asked(dice: &mut Dice) -> String {
-    let moves: String = (0..256).map(|_| pen_down(dice)).collect();
+    let moves: String = (0..100).map(|_| pen_down(dice)).collect();
     moves + dice.pick(&["OA;", "OE;"])
 }

@@ -1,111 +1,122 @@
--- The proof of `checksum`: the sum of the rows so far, and what is left to weigh, make the whole.
+-- The proof of `checksum`: what the rows so far weigh by their columns is the sum from their place on.
 use borrow.Author.Needs.{needs}
-use mathlib.Core.Path.{_≡_, refl, sym, ap, _∙_, subst}
+use mathlib.Core.Path.{_≡_, sym, ap, ap₂, _∙_, subst}
 use mathlib.Core.List.{List}
-use Prim.Native.Nat.{ℕ, _+_, _*_, _-_, _≤_, _<_}
+use Prim.Native.Nat.{ℕ, suc, _+_, _*_, _-_, _≤_, _<_}
 use native.Mathlib.Omega.{arith}
-use lib.IntN.{ℤ, pos, _+ℤ_, +ℤ-idl, +ℤ-idr}
+use lib.IntN.{ℤ, pos, _+ℤ_, _*ℤ_}
 use lib.ListN.{drop}
 use mir.Syntax.{w64}
-use mir.Val.{toZ}
-use Rattle.exact.specs.Fit.{Bd, Num, m64, put, fit, fits64, ret, of-nat, at-most, _⊕_, _⊞_}
-use Rattle.exact.specs.Whole.{is, Z}
+use Rattle.exact.specs.Fit.{Bd, Num, m64, num, put, fit, ret, _⊕_, _⊗_}
+use Rattle.rows.specs.declared.Row.{Row}
 use Rattle.rows.specs.Rows.{rowAt}
 use Rattle.seal.specs.Seal.{weighed, checksumOf}
-use Rattle.seal.specs.Light.{rowCount, mostAt, Light, weighOf, Weighs, weigh-size, heavy, mostSum, heavy-most, heavy-more, light-weighs, weighed-more, weighed-all}
+use Rattle.seal.specs.Light.{rowCount, mostAt, LightRow, weighed-all}
+use Rattle.seal.specs.Columns.{plusOf, totalOf, columnsOf, columns-none, columns-step, partBound, allBound, mostPart, mostAll, mostColumn, part-most, all-most, part-more, all-more, none-light, light-plus, light-most, weigh-size, total-size}
 use Rattle.seal.proofs.checksum.Statement.{statement}
 use Rattle.seal.proofs.checksum.Tie as tie
 
 abbrev Inv-loop : tie.InvT-loop
-Inv-loop numbers sum₀ k₀ sum k = (k ≤ rowCount) × Bd (toZ w64 sum) (heavy k) × (checksumOf numbers ≡ toZ w64 sum +ℤ weighed (k * 5 + 1) (drop (k * 5) numbers))
+Inv-loop numbers part₀ all₀ k₀ part all k =
+    (k ≤ rowCount) × LightRow (partBound (rowCount - k)) part × LightRow (allBound (rowCount - k)) all × (columnsOf (pos (k * 5)) part all ≡ weighed (k * 5 + 1) (drop (k * 5) numbers))
 
 abbrev μ-loop : tie.MeasureT-loop
-μ-loop numbers sum₀ k₀ sum k = rowCount - k
+μ-loop numbers part₀ all₀ k₀ part all k = k
 
-module _ (r : tie.After-row-at Inv-loop μ-loop) where
+-- what the loop keeps, within bounds that the code asks for
+module _ (l : tie.At-loop Inv-loop μ-loop) where
   abbrev zs : List ℤ
-  zs = r .before .before .before .args .numbers .now
+  zs = l .before .args .numbers .now
 
   abbrev k : ℕ
-  k = r .before .before .loop .k
+  k = l .loop .k
 
-  more : k < rowCount
-  more = omega (arith, r .before .loop-test .taken)
+  part-light : LightRow mostPart (l .loop .part)
+  part-light = light-most (part-most (rowCount - k) (omega arith)) (l .loop .inv .1)
 
-  light : Light zs
-  light = r .before .before .before .pre
-
-  -- the place of the row, as a whole number
-  place : toZ w64 (k * 5) ≡ pos (k * 5)
-  place = of-nat w64 (omega (arith, more))
-
-module _ (w : tie.After-weigh Inv-loop μ-loop) where
-  abbrev r : tie.After-row-at Inv-loop μ-loop
-  r = w .before
-
-  abbrev sum : ℤ
-  sum = toZ w64 (r .before .before .loop .sum)
-
-  abbrev part : ℤ
-  part = weighOf (pos (k r * 5)) (rowAt (zs r) (k r * 5))
-
-  weighs : Num (m64 (w .weigh .result)) part ((k r * 5 * 5 + 15) * mostAt (k r))
-  weighs =
-      ret w64 (w .weigh .ok) (w .weigh .ensures ∙ (λ i. weighOf (place r i) (r .row-at .ensures i)))
-      (weigh-size (k r * 5) (mostAt (k r)) (light r .row (k r) (more r)))
-
-  size : heavy (k r) + (k r * 5 * 5 + 15) * mostAt (k r) ≤ mostSum
-  size = omega (arith, heavy-more (k r), heavy-most (k r + 1) (omega (arith, more r)))
-
-  total : Num (sum +ℤ m64 (w .weigh .result)) (sum +ℤ part) mostSum
-  total = at-most (record { is = refl; size = r .before .before .loop .inv .1 } ⊕ weighs) size
-
-  next : Num (m64 (sum +ℤ m64 (w .weigh .result))) (sum +ℤ part) mostSum
-  next = put w64 total tt
+  all-light : LightRow mostAll (l .loop .all)
+  all-light = light-most (all-most (rowCount - k) (omega arith)) (l .loop .inv .2)
 
 loop-holds : tie.Need-loop-holds Inv-loop μ-loop
-unfolding checksumOf heavy
-loop-holds c = (omega arith, record { bd = omega arith }, sym (+ℤ-idl _))
+loop-holds c = (omega arith, none-light _, none-light _, columns-none _ ∙ sym (weighed-all (c .args .numbers .now) rowCount (c .pre .long) (omega arith)))
 
-mul-at : tie.Need-mul-at Inv-loop μ-loop
-mul-at c = search needs
+sub-k : tie.Need-sub-k Inv-loop μ-loop
+sub-k c = search needs
 
-cast-weigh : tie.Need-cast-weigh Inv-loop μ-loop
-cast-weigh c = fits64 _ {n = 1000} (record { bd = omega (arith, c .loop-test .taken) }) tt
+plus-requires : tie.Need-plus-requires Inv-loop μ-loop
+plus-requires c κs = (light-most (omega arith) (all-light (c .before)), light-most (omega arith) (part-light (c .before)))
+
+mul-row-at : tie.Need-mul-row-at Inv-loop μ-loop
+mul-row-at c = let h : c .before .before .loop .k ≤ rowCount = c .before .before .loop .inv .0 in search needs
 
 row-at-requires : tie.Need-row-at-requires Inv-loop μ-loop
-row-at-requires c κs = omega (arith, c .before .before .pre .long, c .loop-test .taken)
+row-at-requires c κs = omega (arith, c .before .before .before .pre .long, c .before .before .loop .inv .0, c .before .loop-test .taken)
 
-weigh-requires : tie.Need-weigh-requires Inv-loop μ-loop
-weigh-requires c κs = subst (λ (p : ℤ). Weighs p (c .row-at .result)) (sym (place c)) (subst (Weighs (pos (k c * 5))) (sym (c .row-at .ensures)) (light-weighs (k c) (light c) (more c)))
+-- the row of this turn
+module _ (r : tie.After-row-at Inv-loop μ-loop) where
+  abbrev turn : tie.In-loop Inv-loop μ-loop
+  turn = r .before .before
 
-add-sum : tie.Need-add-sum Inv-loop μ-loop
-add-sum c = fit w64 (total c) tt
+  abbrev at : tie.At-loop Inv-loop μ-loop
+  at = turn .before
 
-add-k : tie.Need-add-k Inv-loop μ-loop
-add-k c = search needs
+  some : 0 < k at
+  some = turn .loop-test .taken
+
+  row-light : LightRow (mostAt (k at - 1)) (r .row-at .result)
+  row-light = subst (LightRow (mostAt (k at - 1))) (sym (r .row-at .ensures)) (at .before .pre .row (k at - 1) (omega (arith, some, at .loop .inv .0)))
+
+  row-most : mostAt (k at - 1) ≤ mostColumn
+  row-most = omega (arith, part-more (k at) some (at .loop .inv .0), part-most (rowCount - (k at - 1)) (omega arith))
+
+plus-requires-2 : tie.Need-plus-requires-2 Inv-loop μ-loop
+plus-requires-2 c κs = (light-most (omega arith) (part-light (at c)), light-most (row-most c) (row-light c))
 
 loop-less : tie.Need-loop-less Inv-loop μ-loop
-loop-less c = omega (arith, more (c .before))
+loop-less c = omega (arith, some (c .before))
 
 loop-again : tie.Need-loop-again Inv-loop μ-loop
 loop-again c =
-    let q = c .before in
-    let kept = r c .before .before .loop .inv in
-    let sized : Bd (sum c +ℤ part c) (heavy (k q + 1)) = record { bd = omega (arith, heavy-more (k q), (kept .1 ⊞ weighs c .size) .bd) } in (
-      omega (arith, more q),
-      subst (λ (z : ℤ). Bd z (heavy (k q + 1))) (sym (next c .is)) sized,
-      kept .2 ∙ ap (λ (z : ℤ). sum c +ℤ z) (weighed-more (zs q) (k q) (light q .long) (more q)) ∙ regroup (sum c) (part c) _ ∙ ap (λ (z : ℤ). z +ℤ weighed ((k q + 1) * 5 + 1) (drop ((k q + 1) * 5) (zs q))) (sym (next c .is)),
+    let r = c .before in
+    let p = r .before in
+    let l = at r in
+    let kept = l .loop .inv in
+    let part = l .loop .part in
+    let all = l .loop .all in
+    let row = r .row-at .result in (
+      omega (arith, kept .0),
+      subst (λ (n : ℕ). LightRow n (c .plus2 .result)) (sym (part-more (k l) (some r) (kept .0))) (subst (LightRow (partBound (rowCount - k l) + mostAt (k l - 1))) (sym (c .plus2 .ensures)) (light-plus _ _ (kept .1) (row-light r))),
+      subst (λ (n : ℕ). LightRow n (p .plus .result)) (sym (all-more (k l) (some r) (kept .0))) (subst (LightRow (allBound (rowCount - k l) + partBound (rowCount - k l))) (sym (p .plus .ensures)) (light-plus _ _ (kept .2) (kept .1))),
+      ap₂ (columnsOf (pos ((k l - 1) * 5))) (c .plus2 .ensures ∙ ap (plusOf part) (r .row-at .ensures)) (p .plus .ensures) ∙ columns-step (zs l) (k l) part all (l .before .pre .long) (some r) (kept .0) (kept .3),
     )
-  where
-    regroup : (a b c : ℤ) → a +ℤ (b +ℤ c) ≡ a +ℤ b +ℤ c
-    regroup a b c = rw (is a, is b, is c) (simp Z (omega arith))
+
+total-requires : tie.Need-total-requires Inv-loop μ-loop
+total-requires c κs = light-most (omega arith) (all-light (c .before))
+
+-- the columns together, and the part
+fives : (t : tie.After-total Inv-loop μ-loop) → Num (pos 5 *ℤ m64 (t .total .result)) (pos 5 *ℤ totalOf (t .before .before .loop .all)) (5 * (5 * mostAll))
+fives t = num (pos 5) ⊗ ret w64 (t .total .ok) (t .total .ensures) (total-size mostAll (all-light (t .before .before)))
+
+whole : (w : tie.After-weigh Inv-loop μ-loop) → let l = w .before .before .before in
+    Num (m64 (pos 5 *ℤ m64 (w .before .total .result)) +ℤ m64 (w .weigh .result)) (columnsOf (pos 0) (l .loop .part) (l .loop .all)) (5 * (5 * mostAll) + 15 * mostPart)
+unfolding columnsOf
+whole w = put w64 (fives (w .before)) tt ⊕ ret w64 (w .weigh .ok) (w .weigh .ensures) (weigh-size mostPart (part-light (w .before .before .before)))
+
+mul-result : tie.Need-mul-result Inv-loop μ-loop
+mul-result c = fit w64 (fives c) tt
+
+weigh-requires : tie.Need-weigh-requires Inv-loop μ-loop
+weigh-requires c κs = part-light (c .before .before)
+
+add-result : tie.Need-add-result Inv-loop μ-loop
+add-result c = fit w64 (whole c) tt
 
 returns : tie.Need-returns Inv-loop μ-loop
+unfolding checksumOf
 returns c =
-    let l = c .before .loop in
-    let s = c .before .before in
-    sym (l .inv .2 ∙ ap (λ (z : ℤ). toZ w64 (l .sum) +ℤ z) (weighed-all (s .args .numbers .now) (l .k) (s .pre .long) (omega (arith, c .loop-test .left))) ∙ +ℤ-idr _)
+    let l = c .before .before .before in
+    let none : k l ≡ 0 = omega (arith, c .before .before .loop-test .left) in
+    put w64 (whole c) tt .is ∙ subst (λ (n : ℕ). columnsOf (pos (n * 5)) (l .loop .part) (l .loop .all) ≡ weighed (n * 5 + 1) (drop (n * 5) (zs l))) none (l .loop .inv .3)
 
 pub checksum-spec : {M : Type 1} → statement M
 checksum-spec =
@@ -114,12 +125,15 @@ checksum-spec =
     Inv-loop
     μ-loop
     loop-holds
-    mul-at
-    cast-weigh
+    sub-k
+    plus-requires
+    mul-row-at
     row-at-requires
-    weigh-requires
-    add-sum
-    add-k
+    plus-requires-2
     loop-less
     loop-again
+    total-requires
+    mul-result
+    weigh-requires
+    add-result
     returns)

@@ -1,117 +1,78 @@
 -- The proof of `weigh`: each product is small, and so is their sum.
 use borrow.Author.Needs.{needs}
-use Prim.Native.Nat.{ℕ}
+use mathlib.Core.Path.{_≡_, sym, ap, _∙_}
+use Prim.Native.Nat.{ℕ, _*_}
+use native.Mathlib.Omega.{arith}
 use lib.IntN.{ℤ, pos, _+ℤ_, _*ℤ_}
 use mir.Syntax.{w64}
-use mir.Val.{SFits}
-use Rattle.exact.specs.Fit.{Bd, Num, m64, num, arg, val, put, fit, within, _⊕_, _⊗_}
+use Rattle.exact.specs.Whole.{is, Z}
+use Rattle.exact.specs.Fit.{Bd, Num, m64, num, val, put, fit, same, _⊕_, _⊗_}
+use Rattle.rows.specs.declared.Row.{Row}
 use Rattle.seal.specs.Light.{weighOf}
+use Rattle.seal.specs.Columns.{mostPart}
 use Rattle.seal.proofs.weigh.Statement.{statement}
 use Rattle.seal.proofs.weigh.Tie as tie
 
-fits-a : (s : tie.Start) → SFits w64 (s .args .row .a)
-fits-a s = search needs
+times : (j : ℕ) {x : ℤ} → Bd x mostPart → Num (pos j *ℤ m64 x) (pos j *ℤ x) (j * mostPart)
+times j h = num (pos j) ⊗ val w64 h tt
 
-fits-b : (s : tie.Start) → SFits w64 (s .args .row .b)
-fits-b s = search needs
-
-fits-c : (s : tie.Start) → SFits w64 (s .args .row .c)
-fits-c s = search needs
-
-fits-d : (s : tie.Start) → SFits w64 (s .args .row .d)
-fits-d s = search needs
-
-fits-e : (s : tie.Start) → SFits w64 (s .args .row .e)
-fits-e s = search needs
-
-times : {p' p x : ℤ} {n : ℕ} → Num p' p n → SFits w64 x → Bd (p *ℤ x) 1000000000000000000 → Num (p' *ℤ m64 x) (p *ℤ x) 1000000000000000000
-times h f b = within (h ⊗ arg w64 f) b
+one : (x : ℤ) → x ≡ pos 1 *ℤ x
+one x = rw (is x) (simp Z (omega arith))
 
 module _ (s : tie.Start) where
-  abbrev p : ℤ
-  p = s .args .place
+  abbrev r : Row
+  r = s .args .row
 
-  its-a : Num (m64 (m64 p +ℤ pos 1) *ℤ m64 (s .args .row .a)) ((p +ℤ pos 1) *ℤ s .args .row .a) 1000000000000000000
-  its-a = times (put w64 (val w64 (s .pre .place) tt ⊕ num (pos 1)) tt) (fits-a s) (s .pre .a)
+  its-b : Num (m64 (r .a) +ℤ m64 (pos 2 *ℤ m64 (r .b))) (pos 1 *ℤ r .a +ℤ pos 2 *ℤ r .b) (3 * mostPart)
+  its-b = same (val w64 (s .pre .a) tt) (one (r .a)) ⊕ put w64 (times 2 (s .pre .b)) tt
 
-  its-b : Num (m64 (m64 p +ℤ pos 2) *ℤ m64 (s .args .row .b)) ((p +ℤ pos 2) *ℤ s .args .row .b) 1000000000000000000
-  its-b = times (put w64 (val w64 (s .pre .place) tt ⊕ num (pos 2)) tt) (fits-b s) (s .pre .b)
+  its-c : Num (m64 (m64 (r .a) +ℤ m64 (pos 2 *ℤ m64 (r .b))) +ℤ m64 (pos 3 *ℤ m64 (r .c))) (pos 1 *ℤ r .a +ℤ pos 2 *ℤ r .b +ℤ pos 3 *ℤ r .c) (6 * mostPart)
+  its-c = put w64 its-b tt ⊕ put w64 (times 3 (s .pre .c)) tt
 
-  its-c : Num (m64 (m64 p +ℤ pos 3) *ℤ m64 (s .args .row .c)) ((p +ℤ pos 3) *ℤ s .args .row .c) 1000000000000000000
-  its-c = times (put w64 (val w64 (s .pre .place) tt ⊕ num (pos 3)) tt) (fits-c s) (s .pre .c)
+  its-d : Num (m64 (m64 (m64 (r .a) +ℤ m64 (pos 2 *ℤ m64 (r .b))) +ℤ m64 (pos 3 *ℤ m64 (r .c))) +ℤ m64 (pos 4 *ℤ m64 (r .d))) (pos 1 *ℤ r .a +ℤ pos 2 *ℤ r .b +ℤ pos 3 *ℤ r .c +ℤ pos 4 *ℤ r .d) (10 * mostPart)
+  its-d = put w64 its-c tt ⊕ put w64 (times 4 (s .pre .d)) tt
 
-  its-d : Num (m64 (m64 p +ℤ pos 4) *ℤ m64 (s .args .row .d)) ((p +ℤ pos 4) *ℤ s .args .row .d) 1000000000000000000
-  its-d = times (put w64 (val w64 (s .pre .place) tt ⊕ num (pos 4)) tt) (fits-d s) (s .pre .d)
+  its-e : Num (m64 (m64 (m64 (m64 (r .a) +ℤ m64 (pos 2 *ℤ m64 (r .b))) +ℤ m64 (pos 3 *ℤ m64 (r .c))) +ℤ m64 (pos 4 *ℤ m64 (r .d))) +ℤ m64 (pos 5 *ℤ m64 (r .e))) (weighOf (pos 0) r) (15 * mostPart)
+  unfolding weighOf
+  its-e = put w64 its-d tt ⊕ put w64 (times 5 (s .pre .e)) tt
 
-  its-e : Num (m64 (m64 p +ℤ pos 5) *ℤ m64 (s .args .row .e)) ((p +ℤ pos 5) *ℤ s .args .row .e) 1000000000000000000
-  its-e = times (put w64 (val w64 (s .pre .place) tt ⊕ num (pos 5)) tt) (fits-e s) (s .pre .e)
-
-add-a : tie.Need-add-a
-add-a c = let s : tie.Start = search in fit w64 (val w64 (s .pre .place) tt ⊕ num (pos 1)) tt
-
-mul-a : tie.Need-mul-a
-mul-a c = let s : tie.Start = search in fit w64 (its-a s) tt
-
-add-b : tie.Need-add-b
-add-b c = let s : tie.Start = search in fit w64 (val w64 (s .pre .place) tt ⊕ num (pos 2)) tt
-
-mul-b : tie.Need-mul-b
-mul-b c = let s : tie.Start = search in fit w64 (its-b s) tt
-
-add-c : tie.Need-add-c
-add-c c = let s : tie.Start = search in fit w64 (val w64 (s .pre .place) tt ⊕ num (pos 3)) tt
-
-mul-c : tie.Need-mul-c
-mul-c c = let s : tie.Start = search in fit w64 (its-c s) tt
-
-add-d : tie.Need-add-d
-add-d c = let s : tie.Start = search in fit w64 (val w64 (s .pre .place) tt ⊕ num (pos 4)) tt
-
-mul-d : tie.Need-mul-d
-mul-d c = let s : tie.Start = search in fit w64 (its-d s) tt
-
-add-e : tie.Need-add-e
-add-e c = let s : tie.Start = search in fit w64 (val w64 (s .pre .place) tt ⊕ num (pos 5)) tt
-
-mul-e : tie.Need-mul-e
-mul-e c = let s : tie.Start = search in fit w64 (its-e s) tt
+mul-result : tie.Need-mul-result
+mul-result c = let s : tie.Start = search in fit w64 (times 2 (s .pre .b)) tt
 
 add-result : tie.Need-add-result
-add-result c = let s : tie.Start = search in fit w64 (put w64 (its-a s) tt ⊕ put w64 (its-b s) tt) tt
+add-result c = let s : tie.Start = search in fit w64 (its-b s) tt
+
+mul-result-2 : tie.Need-mul-result-2
+mul-result-2 c = let s : tie.Start = search in fit w64 (times 3 (s .pre .c)) tt
 
 add-result-2 : tie.Need-add-result-2
-add-result-2 c = let s : tie.Start = search in fit w64 (put w64 (put w64 (its-a s) tt ⊕ put w64 (its-b s) tt) tt ⊕ put w64 (its-c s) tt) tt
+add-result-2 c = let s : tie.Start = search in fit w64 (its-c s) tt
+
+mul-result-3 : tie.Need-mul-result-3
+mul-result-3 c = let s : tie.Start = search in fit w64 (times 4 (s .pre .d)) tt
 
 add-result-3 : tie.Need-add-result-3
-add-result-3 c = let s : tie.Start = search in fit w64 (put w64 (put w64 (put w64 (its-a s) tt ⊕ put w64 (its-b s) tt) tt ⊕ put w64 (its-c s) tt) tt ⊕ put w64 (its-d s) tt) tt
+add-result-3 c = let s : tie.Start = search in fit w64 (its-d s) tt
+
+mul-result-4 : tie.Need-mul-result-4
+mul-result-4 c = let s : tie.Start = search in fit w64 (times 5 (s .pre .e)) tt
 
 add-result-4 : tie.Need-add-result-4
-add-result-4 c =
-    let s : tie.Start = search in
-    fit w64 (put w64 (put w64 (put w64 (put w64 (its-a s) tt ⊕ put w64 (its-b s) tt) tt ⊕ put w64 (its-c s) tt) tt ⊕ put w64 (its-d s) tt) tt ⊕ put w64 (its-e s) tt) tt
+add-result-4 c = let s : tie.Start = search in fit w64 (its-e s) tt
 
 returns : tie.Need-returns
-unfolding weighOf
-returns c =
-    let s : tie.Start = search in
-    put w64 (put w64 (put w64 (put w64 (put w64 (its-a s) tt ⊕ put w64 (its-b s) tt) tt ⊕ put w64 (its-c s) tt) tt ⊕ put w64 (its-d s) tt) tt ⊕ put w64 (its-e s) tt) tt .is
+returns c = let s : tie.Start = search in put w64 (its-e s) tt .is
 
 pub weigh-spec : {M : Type 1} → statement M
 weigh-spec =
     tie.close
     (tie.spec
-    add-a
-    mul-a
-    add-b
-    mul-b
-    add-c
-    mul-c
-    add-d
-    mul-d
-    add-e
-    mul-e
+    mul-result
     add-result
+    mul-result-2
     add-result-2
+    mul-result-3
     add-result-3
+    mul-result-4
     add-result-4
     returns)

@@ -15,7 +15,7 @@ use Rattle.hpgl.specs.ValidKept.{usable-fetch}
 use Rattle.saved.specs.Saved.{savedOf, loadedOf}
 use Rattle.machine.specs.Loadable.{Loadable}
 use Rattle.readiness.specs.Ready.{listOf, machineIn, readyOf}
-use Rattle.readiness.specs.ReadyLaws.{Goes, ready-goes, goes-loadable, usable-light, part-rest}
+use Rattle.readiness.specs.ReadyLaws.{Goes, ready-goes, goes-loadable, goes-saved, usable-light, part-rest}
 use Rattle.vutaroi.specs.Calls.{fetchCall}
 use Rattle.vutaroi.proofs.vutaroi_fetch.Statement.{statement}
 use Rattle.vutaroi.proofs.vutaroi_fetch.Tie as tie
@@ -46,7 +46,8 @@ fetch-in-requires : tie.Need-fetch-in-requires
 fetch-in-requires c κs =
     let s : tie.Start = search in
     let t : tie.Then1 = search in
-    (subst Loadable (sym (part-to-end (s .args .state .now) 5)) (goes-loadable (goes t)), goes t .room)
+    let same = sym (part-to-end (s .args .state .now) 5) in
+    (subst Loadable same (goes-loadable (goes t)), subst (λ (l : List ℤ). savedOf (loadedOf l) ≡ l) same (goes-saved (goes t)), goes t .room)
 
 seal-requires : tie.Need-seal-requires
 seal-requires c κs =
