@@ -1,5 +1,5 @@
 -- How far a drawing is, after a feed and at the start of a block. A reply is fetched and forgotten.
-use mathlib.Core.Bool.{true, not}
+use mathlib.Core.Bool.{Bool, true, not}
 use mathlib.Core.List.{List}
 use Prim.Native.Nat.{ℕ, _+_}
 use lib.Dec.{eqb}
@@ -14,6 +14,7 @@ use Rattle.console.specs.Sums.{added}
 use Rattle.noting.specs.Dots.{dotsOf}
 use Rattle.noting.specs.Refusals.{notedOf}
 use Rattle.preview.specs.declared.strokes.Drawing.{Drawing}
+use Rattle.preview.specs.declared.strokes.Painted.{Painted}
 
 -- a buffer that takes every reply (`reply-short` in ReplyLaws.antt of hpgl)
 abbrev pub replyBytes : ℕ
@@ -62,4 +63,15 @@ flushedOf d used = record {
   refusals = d .refusals;
   more = d .more;
   used = used;
+}
+
+-- at the end, after so many bytes
+abbrev pub endedOf : Drawing → ℕ → Bool → Painted
+endedOf d before unread = record {
+  strokes = d .strokes;
+  dots = d .dots;
+  refusals = d .refusals;
+  read = before;
+  unread = unread;
+  used = d .used;
 }

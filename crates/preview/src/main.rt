@@ -1,16 +1,14 @@
-// The program preview: HP-GL on standard input, a picture of its strokes as SVG on standard output, with the refusals beside the sheet.
-//
-// With four arguments the hard limits are these: left, bottom, right, top.
+// The program preview: HP-GL in, a picture of its strokes as SVG on standard output, with the refusals beside the sheet.
 ghost use Rattle.hpgl.specs.Valid.{Usable};
+use arguments::desk::asked;
+use arguments::desk::ready;
+use arguments::desk::refused;
 use machine::Machine;
-use textlines::word::Limits;
 
 mod refusals;
 mod sheet;
 mod strokes;
 
-use console::bad_arguments;
-use console::limits;
 use output::finish;
 use output::put_bytes;
 use refusals::list;
@@ -19,12 +17,18 @@ use sheet::head;
 use sheet::sheet_of;
 use strokes::paint;
 
-fn page(machine: Machine, s: Sheet)
+// The page of a drawing of which something could be read.
+fn page(machine: Machine, s: Sheet, file: usize)
     requires { ⌜ Usable (machine .state) ⌝ }
 {
     let mut text = io::large_buffer();
     let mut end = head(&mut text, 0, s);
-    let p = paint(machine, &mut text, end, s.dot);
+    let p = paint(machine, &mut text, end, s.dot, file);
+    if p.unread {
+        if p.read == 0 {
+            return;
+        }
+    }
     let refused = p.refusals;
     end = put_bytes(&mut text, p.used, b"</svg></g>\n");
     end = list(&mut text, end, s, refused, p.strokes, p.dots, p.unread);
@@ -33,16 +37,24 @@ fn page(machine: Machine, s: Sheet)
 }
 
 fn main() {
-    let asked = limits();
-    let Limits::Four(left, bottom, right, top) = asked else {
-        bad_arguments();
+    let r = asked();
+    if !ready(
+        b"preview",
+        b"Reads HP-GL and writes a picture of its strokes (SVG) on standard output, with what is refused.\n",
+        r,
+    ) {
         return;
-    };
-    let started = Machine::fresh(left, bottom, right, top);
+    }
+    let hard = r.limits;
+    let started = Machine::fresh(hard.left, hard.bottom, hard.right, hard.top);
     if started.number != 0 {
-        bad_arguments();
+        refused(b"preview");
         return;
     }
     let machine = started.machine;
-    page(machine, sheet_of(left, bottom, right, top));
+    page(
+        machine,
+        sheet_of(hard.left, hard.bottom, hard.right, hard.top),
+        r.file,
+    );
 }

@@ -4,7 +4,8 @@ ghost use lib.ListN.{length};
 ghost use mathlib.Core.Path.{_≡_};
 ghost use Rattle.console.specs.Sums.{largest};
 ghost use Rattle.hpgl.specs.Valid.{Usable};
-ghost use Rattle.preview.specs.Drawing.{quietOf, afterOf, stepOf, begunOf, flushedOf};
+ghost use Rattle.preview.specs.Drawing.{quietOf, afterOf, stepOf, begunOf, flushedOf, endedOf};
+use arguments::desk::unread;
 use console::sum;
 use drive::ends_equal;
 use feed::Listed;
@@ -43,11 +44,12 @@ struct Drawing {
     used: usize,
 }
 
-// A whole input, or what could be read and written of it.
+// A whole input, or what could be read and written of it: how many bytes were read, and whether the rest could not be.
 pub struct Painted {
     pub strokes: u64,
     pub dots: u64,
     pub refusals: Refusals,
+    pub read: u64,
     pub unread: bool,
     pub used: usize,
 }
@@ -214,8 +216,29 @@ fn flushed(d: Drawing, text: &[u8; 65536]) -> Drawing
     }
 }
 
-// Paints standard input to its end, or to a read or a write that fails. A read that fails is told at once.
-pub fn paint(machine: Machine, text: &mut [u8; 65536], used: usize, radius: u64) -> Painted
+// What is left at the end, after so many bytes.
+fn ended(d: Drawing, before: u64, unread: bool) -> Painted
+    ensures { λ r. ⌜ r ≡ endedOf d before unread ⌝ }
+{
+    let refused = d.refusals;
+    Painted {
+        strokes: d.strokes,
+        dots: d.dots,
+        refusals: refused,
+        read: before,
+        unread: unread,
+        used: d.used,
+    }
+}
+
+// Paints standard input to its end, or to a read or a write that fails. A read that fails is told at once. Nothing is written before something is read.
+pub fn paint(
+    machine: Machine,
+    text: &mut [u8; 65536],
+    used: usize,
+    radius: u64,
+    file: usize,
+) -> Painted
     requires { ⌜ Usable (machine .state) ⌝ }
 {
     let mut block = io::large_buffer();
@@ -231,32 +254,25 @@ pub fn paint(machine: Machine, text: &mut [u8; 65536], used: usize, radius: u64)
     };
     let mut before = 0;
     let mut turns = TURNS;
-    let mut unread = false;
+    let mut missing = false;
     while turns > 0 {
-        d = flushed(d, text);
-        if failed(d.used) {
-            break;
-        }
         let got = read(STDIN_FILENO, &mut block);
         if !got.good {
-            os::fail(b"preview: standard input");
-            unread = true;
+            unread(b"preview", file);
+            missing = true;
             break;
         }
         let n = got.count;
         if n == 0 {
             break;
         }
-        d = paint_block(d, before, &block[..n], text, radius);
+        let painted = paint_block(d, before, &block[..n], text, radius);
+        d = flushed(painted, text);
+        if failed(d.used) {
+            break;
+        }
         before = sum(before, n as u64);
         turns -= 1;
     }
-    let refused = d.refusals;
-    Painted {
-        strokes: d.strokes,
-        dots: d.dots,
-        refusals: refused,
-        unread: unread,
-        used: d.used,
-    }
+    ended(d, before, missing)
 }
