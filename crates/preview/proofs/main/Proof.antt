@@ -34,6 +34,9 @@ returns-2 c = search needs
 sheet-of-requires : tie.Need-sheet-of-requires
 sheet-of-requires c κs = search needs
 
+grid-of-requires : tie.Need-grid-of-requires
+grid-of-requires c κs = search needs
+
 page-requires : tie.Need-page-requires
 page-requires c κs = let f : tie.After-fresh = search in started-usable _ (f .fresh .ensures)
 
@@ -54,5 +57,6 @@ main-spec =
     refused-requires
     returns-2
     sheet-of-requires
+    grid-of-requires
     page-requires
     returns-3)

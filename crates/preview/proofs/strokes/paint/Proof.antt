@@ -16,14 +16,15 @@ abbrev μ-loop : tie.MeasureT-loop
 large-buffer-requires : tie.Need-large-buffer-requires Inv-loop μ-loop
 large-buffer-requires c κs = search needs
 
-none-requires : tie.Need-none-requires Inv-loop μ-loop
-none-requires c κs = search needs
+blank-requires : tie.Need-blank-requires Inv-loop μ-loop
+blank-requires c κs = search needs
 
 loop-holds : tie.Need-loop-holds Inv-loop μ-loop
 loop-holds c =
     let s : tie.Start Inv-loop μ-loop = search in
     let b : tie.After-large-buffer Inv-loop μ-loop = search in
-    (b .large-buffer .ensures, s .pre)
+    let k : tie.After-blank Inv-loop μ-loop = search in
+    (b .large-buffer .ensures, rw (k .blank .ensures) (s .pre))
 
 slice-aggregate-read : tie.Need-slice-aggregate-read Inv-loop μ-loop
 slice-aggregate-read c = search needs
@@ -40,18 +41,15 @@ unread-requires c κs = search needs
 array-share-prefix-block : tie.Need-array-share-prefix-block Inv-loop μ-loop
 array-share-prefix-block c = search needs
 
-slice-aggregate-paint-block : tie.Need-slice-aggregate-paint-block Inv-loop μ-loop
-slice-aggregate-paint-block c = search needs
+slice-aggregate-block-done : tie.Need-slice-aggregate-block-done Inv-loop μ-loop
+slice-aggregate-block-done c = search needs
 
 -- from a read back to the turn of the loop
 abbrev begins : tie.After-read Inv-loop μ-loop → tie.In-loop Inv-loop μ-loop
 begins r = r .before .before
 
-paint-block-requires : tie.Need-paint-block-requires Inv-loop μ-loop
-paint-block-requires c κs = let r : tie.After-read Inv-loop μ-loop = search in begins r .before .loop .inv .1
-
-flushed-requires : tie.Need-flushed-requires Inv-loop μ-loop
-flushed-requires c κs = search needs
+block-done-requires : tie.Need-block-done-requires Inv-loop μ-loop
+block-done-requires c κs = let r : tie.After-read Inv-loop μ-loop = search in begins r .before .loop .inv .1
 
 failed-requires : tie.Need-failed-requires Inv-loop μ-loop
 failed-requires c κs = search needs
@@ -59,28 +57,27 @@ failed-requires c κs = search needs
 sum-requires : tie.Need-sum-requires Inv-loop μ-loop
 sum-requires c κs = search needs
 
--- from a block that is written out back to where it was painted and read, and to the turn of the loop
-abbrev painted : tie.After-flushed Inv-loop μ-loop → tie.After-paint-block Inv-loop μ-loop
-painted f = f .before .before
-
-abbrev read : tie.After-paint-block Inv-loop μ-loop → tie.After-read Inv-loop μ-loop
+-- from a block that is done back to where it was read, and to the turn of the loop
+abbrev read : tie.After-block-done Inv-loop μ-loop → tie.After-read Inv-loop μ-loop
 read p = p .before .before .before .before .before .before .before
 
-abbrev turn : tie.After-flushed Inv-loop μ-loop → tie.In-loop Inv-loop μ-loop
-turn f = begins (read (painted f))
+abbrev turn : tie.After-block-done Inv-loop μ-loop → tie.In-loop Inv-loop μ-loop
+turn p = begins (read p)
 
 sub-turns : tie.Need-sub-turns Inv-loop μ-loop
-sub-turns c = let f : tie.After-flushed Inv-loop μ-loop = search in omega (arith, turn f .loop-test .taken)
+sub-turns c = let p : tie.After-block-done Inv-loop μ-loop = search in omega (arith, turn p .loop-test .taken)
 
 loop-less : tie.Need-loop-less Inv-loop μ-loop
-loop-less c = let f : tie.After-flushed Inv-loop μ-loop = search in omega (arith, turn f .loop-test .taken)
+loop-less c = let p : tie.After-block-done Inv-loop μ-loop = search in omega (arith, turn p .loop-test .taken)
 
 loop-again : tie.Need-loop-again Inv-loop μ-loop
 loop-again c =
-    let f : tie.After-flushed Inv-loop μ-loop = search in
-    let p : tie.After-paint-block Inv-loop μ-loop = painted f in
+    let p : tie.After-block-done Inv-loop μ-loop = search in
     let r : tie.After-read Inv-loop μ-loop = read p in
-    (turn f .before .loop .inv .0 ∙ sym (r .read .kept .1 .0), rw (f .flushed .ensures) (p .paint-block .ensures))
+    (turn p .before .loop .inv .0 ∙ sym (r .read .kept .1 .0), p .block-done .ensures)
+
+closed-requires : tie.Need-closed-requires Inv-loop μ-loop
+closed-requires c κs = search needs
 
 ended-requires : tie.Need-ended-requires Inv-loop μ-loop
 ended-requires c κs = search needs
@@ -95,20 +92,20 @@ paint-spec =
     Inv-loop
     μ-loop
     large-buffer-requires
-    none-requires
+    blank-requires
     loop-holds
     slice-aggregate-read
     read-requires
     slice-aggregate-unread
     unread-requires
     array-share-prefix-block
-    slice-aggregate-paint-block
-    paint-block-requires
-    flushed-requires
+    slice-aggregate-block-done
+    block-done-requires
     failed-requires
     sum-requires
     sub-turns
     loop-less
     loop-again
+    closed-requires
     ended-requires
     returns)
