@@ -1,3 +1,3 @@
-pub mod Dots
+pub mod Inks
 pub mod Refusals
-pub mod DotLaws
+pub mod InkLaws

@@ -1,15 +1,38 @@
-// What preview notes of a drawing: how many of its strokes are dots, and its refusals, the first forty and how many there are.
-// specs/Dots.antt and specs/Refusals.antt have the definitions.
+// What preview notes of a drawing: its strokes and their lengths by pen with the dots among them, and its refusals in groups, as survey has them.
+// specs/Inks.antt and specs/Refusals.antt have the definitions.
 ghost use mathlib.Core.Path.{_≡_};
 ghost use Prim.Native.Nat.{_≤_};
 ghost use lib.ListN.{take};
-ghost use Rattle.noting.specs.Dots.{dotCount, dotsOf};
-ghost use Rattle.noting.specs.Refusals.{noneOf, keptOf, notedOf};
+ghost use Rattle.counting.specs.Tally.{forPen};
+ghost use Rattle.noting.specs.Inks.{noInks, dotCount, inkedOf, inksOf};
+ghost use Rattle.noting.specs.Refusals.{refuses, refusedOf};
 use console::sum;
+use counting::names::Letters;
+use counting::names::name_of;
+use counting::refusals::Refusals;
+use counting::refusals::noted;
 use drive::ends_equal;
 use hpgl::Stroke;
+use measure::length;
 use rulekit::numbers::BUSY;
 use rulekit::numbers::LIST_FULL;
+
+// Dots; and by pen, strokes and their lengths in tenths of a unit.
+pub struct Inks {
+    pub dots: u64,
+    pub strokes: [u64; 9],
+    pub lengths: [u64; 9],
+}
+
+pub fn no_inks() -> Inks
+    ensures { λ r. ⌜ r ≡ noInks ⌝ }
+{
+    Inks {
+        dots: 0,
+        strokes: [0; 9],
+        lengths: [0; 9],
+    }
+}
 
 // One for a dot.
 fn dot_count(s: Stroke) -> u64
@@ -21,74 +44,67 @@ fn dot_count(s: Stroke) -> u64
     0
 }
 
-// The dots among the first strokes of a list.
-pub fn dots_of(list: [Stroke; 64], count: usize) -> u64
+// So much more for a pen.
+fn at_pen(list: [u64; 9], pen: u8, more: u64) -> [u64; 9]
+    ensures { λ r. ⌜ r ≡ forPen list pen more ⌝ }
+{
+    let mut changed = list;
+    if pen < 9 {
+        let k = pen as usize;
+        changed[k] = sum(changed[k], more);
+        return changed;
+    }
+    changed
+}
+
+// One stroke more.
+fn inked(i: Inks, s: Stroke) -> Inks
+    ensures { λ r. ⌜ r ≡ inkedOf i s ⌝ }
+{
+    let strokes = i.strokes;
+    let lengths = i.lengths;
+    Inks {
+        dots: sum(i.dots, dot_count(s)),
+        strokes: at_pen(strokes, s.pen, 1),
+        lengths: at_pen(lengths, s.pen, length(s.x0, s.y0, s.x1, s.y1)),
+    }
+}
+
+// The first strokes of a list.
+pub fn inks_of(i: Inks, list: [Stroke; 64], count: usize) -> Inks
     requires { ⌜ count ≤ 64 ⌝ }
-    ensures { λ r. ⌜ r ≡ dotsOf (take count list) ⌝ }
+    ensures { λ r. ⌜ r ≡ inksOf i (take count list) ⌝ }
 {
-    let mut dots = 0;
-    let mut i = 0;
-    while i < count {
-        let s = list[i];
-        dots += dot_count(s);
-        i += 1;
+    let mut inks = i;
+    let mut k = 0;
+    while k < count {
+        let s = list[k];
+        inks = inked(inks, s);
+        k += 1;
     }
-    dots
+    inks
 }
 
-pub const SHOWN: usize = 40;
-
-pub struct Refusals {
-    pub count: u64,
-    pub numbers: [u8; 40],
-    pub places: [u64; 40],
-}
-
-pub fn none() -> Refusals
-    ensures { λ r. ⌜ r ≡ noneOf ⌝ }
-{
-    Refusals {
-        count: 0,
-        numbers: [0; 40],
-        places: [0; 40],
-    }
-}
-
-// One more: a number, and the byte that was refused, counted from 1.
-fn kept(r: Refusals, number: u8, place: u64) -> Refusals
-    ensures { λ q. ⌜ q ≡ keptOf r number place ⌝ }
-{
-    let mut numbers = r.numbers;
-    let mut places = r.places;
-    let count = r.count;
-    if count < 40 {
-        numbers[count as usize] = number;
-        places[count as usize] = place;
-        return Refusals {
-            count: sum(count, 1),
-            numbers: numbers,
-            places: places,
-        };
-    }
-    Refusals {
-        count: sum(count, 1),
-        numbers: numbers,
-        places: places,
-    }
-}
-
-// What a feed's number adds: nothing where the bytes or the list ended, or a reply waits.
-pub fn noted(r: Refusals, number: u8, place: u64) -> Refusals
-    ensures { λ q. ⌜ q ≡ notedOf r number place ⌝ }
+// Whether a feed's number is that of a refused byte: not where the bytes or the list ended, or a reply waits.
+pub fn is_refusal(number: u8) -> bool
+    ensures { λ r. ⌜ r ≡ refuses number ⌝ }
 {
     if number == 0 {
-        return r;
+        return false;
     }
     if number == LIST_FULL {
-        return r;
+        return false;
     }
-    if number == BUSY {
-        return r;
+    number != BUSY
+}
+
+// What a feed's number adds, on the byte before a place of a block; l is for the letters before the block, `place` counts the bytes of all.
+pub fn refused(r: Refusals, l: Letters, block: &[u8], at: usize, number: u8, place: u64) -> Refusals
+    ensures { λ q. ⌜ q ≡ refusedOf r l (now (block .entry)) at number place ⌝ }
+{
+    if is_refusal(number) {
+        let one = [place; 1];
+        return noted(r, number, name_of(l, block, at, number), &one);
     }
-    kept(r, number, place)
+    r
 }

@@ -1,9 +1,9 @@
 -- How far a drawing is, after a feed and at the start of a block. A reply is fetched and forgotten.
-use mathlib.Core.Bool.{true, not}
+use mathlib.Core.Bool.{Bool, true, not, cond}
 use mathlib.Core.List.{List}
 use Prim.Native.Nat.{ℕ, _+_}
 use lib.Dec.{eqb}
-use lib.ListN.{take, drop}
+use lib.ListN.{length, take, drop}
 use Rattle.hpgl.specs.declared.State.{State}
 use Rattle.hpgl.specs.Machine.{fetchState}
 use Rattle.machine.specs.declared.Machine.{Machine}
@@ -11,9 +11,12 @@ use Rattle.feeding.specs.Feed.{feedOf}
 use Rattle.feed.specs.declared.Listed.{Listed}
 use Rattle.feed.specs.Fed.{listedOf}
 use Rattle.console.specs.Sums.{added}
-use Rattle.noting.specs.Dots.{dotsOf}
-use Rattle.noting.specs.Refusals.{notedOf}
+use Rattle.counting.specs.Names.{lettersBefore}
+use Rattle.noting.specs.Inks.{inksOf}
+use Rattle.noting.specs.Refusals.{refuses, refusedOf}
+use Rattle.preview.specs.declared.strokes.Hand.{Hand}
 use Rattle.preview.specs.declared.strokes.Drawing.{Drawing}
+use Rattle.preview.specs.declared.strokes.Painted.{Painted}
 
 -- a buffer that takes every reply (`reply-short` in ReplyLaws.antt of hpgl)
 abbrev pub replyBytes : ℕ
@@ -22,44 +25,61 @@ replyBytes = 37
 abbrev pub quietOf : State → Machine
 quietOf m = record { state = fetchState m replyBytes }
 
--- feed counts the bytes from the place on; how much of the buffer is used then no contract can say
-abbrev pub afterOf : Drawing → Listed → ℕ → Drawing
-afterOf d l used = record {
+unfoldable pub countOf : ℕ → ℕ
+countOf number = cond (refuses number) 1 0
+
+-- feed counts the bytes from the place on; how far the text is then no contract can say
+abbrev pub afterOf : Drawing → Listed → List ℕ → Hand → Drawing
+afterOf d l block hand = record {
   machine = quietOf (l .fed .machine .state);
   before = d .before;
+  letters = d .letters;
   at = d .at + l .fed .taken;
-  strokes = added (d .strokes) (l .fed .stored);
-  dots = added (d .dots) (dotsOf (take (l .fed .stored) (l .list)));
-  refusals = notedOf (d .refusals) (l .fed .number) (added (d .before) (d .at + l .fed .taken));
+  inks = inksOf (d .inks) (take (l .fed .stored) (l .list));
+  refusals = refusedOf (d .refusals) (d .letters) block (d .at + l .fed .taken) (l .fed .number) (added (d .before) (d .at + l .fed .taken));
+  refused = added (d .refused) (countOf (l .fed .number));
   more = not (eqb (l .fed .number) 0);
-  used = used;
+  hand = hand;
 }
 
 -- a feed of what is left of a block
-abbrev pub stepOf : Drawing → List ℕ → ℕ → Drawing
-stepOf d block used = afterOf d (listedOf (feedOf (d .machine .state) (drop (d .at) block) 64)) used
+abbrev pub stepOf : Drawing → List ℕ → Hand → Drawing
+stepOf d block hand = afterOf d (listedOf (feedOf (d .machine .state) (drop (d .at) block) 64)) block hand
 
 abbrev pub begunOf : Drawing → ℕ → Drawing
 begunOf d before = record {
   machine = d .machine;
   before = before;
+  letters = d .letters;
   at = 0;
-  strokes = d .strokes;
-  dots = d .dots;
+  inks = d .inks;
   refusals = d .refusals;
+  refused = d .refused;
   more = true;
-  used = d .used;
+  hand = d .hand;
 }
 
--- with the buffer written out, or a write that failed
-abbrev pub flushedOf : Drawing → ℕ → Drawing
-flushedOf d used = record {
+-- a block is done: its last letters are kept, and its text is written out, or the write failed
+abbrev pub flushedOf : Drawing → List ℕ → Hand → Drawing
+flushedOf d block hand = record {
   machine = d .machine;
   before = d .before;
+  letters = lettersBefore (d .letters) block (length block);
   at = d .at;
-  strokes = d .strokes;
-  dots = d .dots;
+  inks = d .inks;
   refusals = d .refusals;
+  refused = d .refused;
   more = d .more;
+  hand = hand;
+}
+
+-- at the end, after so many bytes
+abbrev pub endedOf : Drawing → ℕ → Bool → ℕ → Painted
+endedOf d before unread used = record {
+  inks = d .inks;
+  refusals = d .refusals;
+  refused = d .refused;
+  read = before;
+  unread = unread;
   used = used;
 }

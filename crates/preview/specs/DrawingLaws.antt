@@ -6,12 +6,13 @@ use lib.ListN.{length, drop, length-drop}
 use Rattle.hpgl.specs.Valid.{Usable}
 use Rattle.hpgl.specs.ValidKept.{usable-fetch}
 use Rattle.feeding.specs.FeedLaws.{feed-usable, feed-place}
+use Rattle.preview.specs.declared.strokes.Hand.{Hand}
 use Rattle.preview.specs.declared.strokes.Drawing.{Drawing}
 use Rattle.preview.specs.Drawing.{replyBytes, stepOf}
 
-module _ (d : Drawing) (block : List ℕ) (used : ℕ) where
-  pub step-usable : Usable (d .machine .state) → Usable (stepOf d block used .machine .state)
+module _ (d : Drawing) (block : List ℕ) (hand : Hand) where
+  pub step-usable : Usable (d .machine .state) → Usable (stepOf d block hand .machine .state)
   step-usable h = usable-fetch replyBytes (feed-usable (d .machine .state) (drop (d .at) block) 0 64 h)
 
-  pub step-within : d .at ≤ length block → stepOf d block used .at ≤ length block
+  pub step-within : d .at ≤ length block → stepOf d block hand .at ≤ length block
   step-within h = omega (arith, h, feed-place (d .machine .state) (drop (d .at) block) 0 64 .1, length-drop (d .at) block)

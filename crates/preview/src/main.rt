@@ -1,48 +1,58 @@
-// The program preview: HP-GL on standard input, a picture of its strokes as SVG on standard output, with the refusals beside the sheet.
-//
-// With four arguments the hard limits are these: left, bottom, right, top.
+// The program preview: HP-GL in, a picture of its strokes as SVG on standard output: the sheet with a grid in metres, and above it what is painted and what is
+// refused.
 ghost use Rattle.hpgl.specs.Valid.{Usable};
+use arguments::desk::asked;
+use arguments::desk::ready;
+use arguments::desk::refused;
 use machine::Machine;
-use textlines::word::Limits;
 
-mod refusals;
 mod sheet;
 mod strokes;
+mod summary;
 
-use console::bad_arguments;
-use console::limits;
 use output::finish;
 use output::put_bytes;
-use refusals::list;
+use sheet::Grid;
 use sheet::Sheet;
+use sheet::grid_of;
 use sheet::head;
 use sheet::sheet_of;
 use strokes::paint;
+use summary::summary;
 
-fn page(machine: Machine, s: Sheet)
+// The page of a drawing of which something could be read.
+fn page(machine: Machine, s: Sheet, g: Grid, file: usize)
     requires { ⌜ Usable (machine .state) ⌝ }
 {
     let mut text = io::large_buffer();
-    let mut end = head(&mut text, 0, s);
-    let p = paint(machine, &mut text, end, s.dot);
-    let refused = p.refusals;
+    let mut end = head(&mut text, 0, s, g);
+    let p = paint(machine, &mut text, end, s.dot, file);
+    if p.unread {
+        if p.read == 0 {
+            return;
+        }
+    }
     end = put_bytes(&mut text, p.used, b"</svg></g>\n");
-    end = list(&mut text, end, s, refused, p.strokes, p.dots, p.unread);
-    end = put_bytes(&mut text, end, b"</g></svg>\n");
+    end = summary(&mut text, end, s, g, p);
+    end = put_bytes(&mut text, end, b"</svg>\n");
     finish(&text, end, b"preview: standard output");
 }
 
 fn main() {
-    let asked = limits();
-    let Limits::Four(left, bottom, right, top) = asked else {
-        bad_arguments();
+    let r = asked();
+    if !ready(
+        b"preview",
+        b"Reads HP-GL and writes a picture of its strokes (SVG) on standard output, with what is refused.\n",
+        r,
+    ) {
         return;
-    };
-    let started = Machine::fresh(left, bottom, right, top);
+    }
+    let hard = r.limits;
+    let started = Machine::fresh(hard.left, hard.bottom, hard.right, hard.top);
     if started.number != 0 {
-        bad_arguments();
+        refused(b"preview");
         return;
     }
     let machine = started.machine;
-    page(machine, sheet_of(left, bottom, right, top));
+    page(machine, sheet_of(hard), grid_of(hard, r.scale), r.file);
 }

@@ -1,36 +1,30 @@
-// The program survey: HP-GL on standard input, one page of text on standard output: what is painted, what is cut off, what is refused, and
-// whether the drawing is fit to paint.
-//
-// With four arguments the hard limits are these: left, bottom, right, top.
-use clip::Rect;
+// The program survey: HP-GL in, one page of text on standard output: what is painted, what is cut off, what is refused, and whether the drawing is fit to
+// paint.
+use arguments::desk::asked;
+use arguments::desk::ready;
+use arguments::desk::refused;
 use machine::Machine;
-use measure::SCALE;
-use textlines::word::Limits;
 
 mod page;
 
-use console::bad_arguments;
-use console::limits;
 use page::page;
 use surveying::survey;
 
 fn main() {
-    let asked = limits();
-    let Limits::Four(left, bottom, right, top) = asked else {
-        bad_arguments();
+    let r = asked();
+    if !ready(
+        b"survey",
+        b"Reads HP-GL and prints one page: strokes and metres by pen, what the limits cut off, what is refused, and whether the drawing is fit to paint.\n",
+        r,
+    ) {
         return;
-    };
-    let started = Machine::fresh(left, bottom, right, top);
+    }
+    let hard = r.limits;
+    let started = Machine::fresh(hard.left, hard.bottom, hard.right, hard.top);
     if started.number != 0 {
-        bad_arguments();
+        refused(b"survey");
         return;
     }
     let machine = started.machine;
-    let hard = Rect {
-        left: left,
-        bottom: bottom,
-        right: right,
-        top: top,
-    };
-    page(hard, survey(machine), SCALE);
+    page(hard, survey(machine), r.scale);
 }

@@ -3,7 +3,7 @@ use borrow.Author.Needs.{needs}
 use mathlib.Core.Path.{sym, ap, _∙_}
 use mathlib.Core.Bool.{Bool, cond}
 use Prim.Native.Nat.{ℕ}
-use Rattle.noting.specs.Dots.{dotCount}
+use Rattle.noting.specs.Inks.{dotCount}
 use Rattle.noting.proofs.dot_count.Statement.{statement}
 use Rattle.noting.proofs.dot_count.Tie as tie
 

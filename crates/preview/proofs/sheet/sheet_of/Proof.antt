@@ -1,28 +1,45 @@
 -- Every length follows from the two spans, which are at most 65,535.
 use borrow.Author.Needs.{needs}
-use mathlib.Core.Path.{_≡_, ap, _∙_}
-use Prim.Native.Nat.{ℕ, min}
-use lib.IntN.{natAbs, _-ℤ_}
+use mathlib.Core.Path.{_≡_, _∙_}
+use Prim.Native.Nat.{_≤_}
+use native.Mathlib.Omega.{arith}
 use mir.Syntax.{w64}
+use mir.Val.{SFits}
 use Rattle.exact.specs.Fit.{arg}
-use Rattle.preview.specs.Sheet.{span, laidOut, letterOf, sheetOf}
+use Rattle.measure.specs.Root.{across}
+use Rattle.measure.specs.RootLaws.{side-small}
+use Rattle.preview.specs.Sheet.{letterOf, laidOut, sheetOf}
 use Rattle.preview.proofs.sheet.sheet_of.Statement.{statement}
 use Rattle.preview.proofs.sheet.sheet_of.Tie as tie
 
-apart-requires : tie.Need-apart-requires
-apart-requires c κs = search needs
+-- the limits fit
+module _ (s : tie.Start) where
+  left : SFits w64 (s .args .r .left)
+  left = search needs
 
-smaller-requires : tie.Need-smaller-requires
-smaller-requires c κs = search needs
+  bottom : SFits w64 (s .args .r .bottom)
+  bottom = search needs
 
-apart-requires-2 : tie.Need-apart-requires-2
-apart-requires-2 c κs = search needs
+  right : SFits w64 (s .args .r .right)
+  right = search needs
 
-smaller-requires-2 : tie.Need-smaller-requires-2
-smaller-requires-2 c κs = search needs
+  top : SFits w64 (s .args .r .top)
+  top = search needs
+
+side-requires : tie.Need-side-requires
+side-requires c κs = search needs
+
+side-requires-2 : tie.Need-side-requires-2
+side-requires-2 c κs = search needs
+
+wide : (c : tie.After-side) → c .side .result ≤ 65535
+wide c = rw (c .side .ensures) (side-small _ _)
+
+high : (c : tie.After-side2) → c .side2 .result ≤ 65535
+high c = rw (c .side2 .ensures) (side-small _ _)
 
 add-letter : tie.Need-add-letter
-add-letter c = search needs
+add-letter c = let w : tie.After-side = search in let h : tie.After-side2 = search in record { fits = omega (arith, wide w, high h) }
 
 add-letter-2 : tie.Need-add-letter-2
 add-letter-2 c = search needs
@@ -30,35 +47,17 @@ add-letter-2 c = search needs
 mul-line : tie.Need-mul-line
 mul-line c = search needs
 
-mul-t10 : tie.Need-mul-t10
-mul-t10 c = search needs
+add-t6 : tie.Need-add-t6
+add-t6 c = search needs
 
-add-t11 : tie.Need-add-t11
-add-t11 c = search needs
+mul-t8 : tie.Need-mul-t8
+mul-t8 c = search needs
 
-mul-t12 : tie.Need-mul-t12
-mul-t12 c = search needs
+mul-t9 : tie.Need-mul-t9
+mul-t9 c = search needs
 
-mul-t13 : tie.Need-mul-t13
-mul-t13 c = search needs
-
-add-t14 : tie.Need-add-t14
-add-t14 c = search needs
-
-mul-t15 : tie.Need-mul-t15
-mul-t15 c = search needs
-
-add-t16 : tie.Need-add-t16
-add-t16 c = search needs
-
-mul-t17 : tie.Need-mul-t17
-mul-t17 c = search needs
-
-add-t18 : tie.Need-add-t18
-add-t18 c = search needs
-
-add-t20 : tie.Need-add-t20
-add-t20 c = search needs
+add-t10 : tie.Need-add-t10
+add-t10 c = let w : tie.After-side = search in let h : tie.After-side2 = search in record { fits = omega (arith, wide w, high h) }
 
 mul-larger : tie.Need-mul-larger
 mul-larger c = search needs
@@ -66,62 +65,54 @@ mul-larger c = search needs
 larger-requires : tie.Need-larger-requires
 larger-requires c κs = search needs
 
-mul-t23 : tie.Need-mul-t23
-mul-t23 c = search needs
+mul-t13 : tie.Need-mul-t13
+mul-t13 c = search needs
 
-add-t24 : tie.Need-add-t24
-add-t24 c = search needs
+add-t14 : tie.Need-add-t14
+add-t14 c = let w : tie.After-side = search in let h : tie.After-side2 = search in let l : tie.After-larger = search in record { fits = omega (arith, wide w, high h, l .larger .ensures) }
 
-add-t26 : tie.Need-add-t26
-add-t26 c = search needs
+mul-t15 : tie.Need-mul-t15
+mul-t15 c = search needs
 
--- from limit to limit
-across : (c : tie.After-smaller) → let s = c .before .before in c .smaller .result ≡ span (s .args .left) (s .args .right)
-unfolding span
-across c =
-    let s = c .before .before in
-    c .smaller .ensures ∙ ap (λ (n : ℕ). min n 65535) (c .before .apart .ensures ∙ (λ i. natAbs (arg w64 (s .fits .right) .is i -ℤ arg w64 (s .fits .left) .is i)))
+add-t16 : tie.Need-add-t16
+add-t16 c = let w : tie.After-side = search in let h : tie.After-side2 = search in record { fits = omega (arith, wide w, high h) }
 
-upwards : (c : tie.After-smaller2) → let s = c .before .before .before .before in c .smaller2 .result ≡ span (s .args .bottom) (s .args .top)
-unfolding span
-upwards c =
-    let s = c .before .before .before .before in
-    c .smaller2 .ensures ∙ ap (λ (n : ℕ). min n 65535) (c .before .apart2 .ensures ∙ (λ i. natAbs (arg w64 (s .fits .top) .is i -ℤ arg w64 (s .fits .bottom) .is i)))
+mul-t17 : tie.Need-mul-t17
+mul-t17 c = search needs
+
+add-t18 : tie.Need-add-t18
+add-t18 c = let w : tie.After-side = search in let h : tie.After-side2 = search in record { fits = omega (arith, wide w, high h) }
 
 returns : tie.Need-returns
 unfolding sheetOf
 returns c =
-    let w : tie.After-smaller = search in
-    let h : tie.After-smaller2 = search in
-    let l : tie.After-larger = search in
     let s : tie.Start = search in
-    rw (l .larger .ensures)
-    (λ i. laidOut (arg w64 (s .fits .left) .is i) (arg w64 (s .fits .bottom) .is i) (across w i) (upwards h i) (letterOf (across w i) (upwards h i)))
+    let w : tie.After-side = search in
+    let h : tie.After-side2 = search in
+    let l : tie.After-larger = search in
+    let width : w .side .result ≡ across (s .args .r .right) (s .args .r .left) = w .side .ensures ∙ (λ i. across (arg w64 (right s) .is i) (arg w64 (left s) .is i)) in
+    let height : h .side2 .result ≡ across (s .args .r .top) (s .args .r .bottom) = h .side2 .ensures ∙ (λ i. across (arg w64 (top s) .is i) (arg w64 (bottom s) .is i)) in
+    rw (l .larger .ensures) (λ i. laidOut (arg w64 (left s) .is i) (arg w64 (bottom s) .is i) (width i) (height i) (letterOf (width i) (height i)))
 
 pub sheet-of-spec : {M : Type 1} → statement M
 sheet-of-spec =
     tie.close
     (tie.spec
-    apart-requires
-    smaller-requires
-    apart-requires-2
-    smaller-requires-2
+    side-requires
+    side-requires-2
     add-letter
     add-letter-2
     mul-line
-    mul-t10
-    add-t11
-    mul-t12
+    add-t6
+    mul-t8
+    mul-t9
+    add-t10
+    mul-larger
+    larger-requires
     mul-t13
     add-t14
     mul-t15
     add-t16
     mul-t17
     add-t18
-    add-t20
-    mul-larger
-    larger-requires
-    mul-t23
-    add-t24
-    add-t26
     returns)

@@ -5,10 +5,10 @@ use Rattle.preview.proofs.strokes.elements.Statement.{statement}
 use Rattle.preview.proofs.strokes.elements.Tie as tie
 
 abbrev Inv-loop : tie.InvT-loop
-Inv-loop text₀ used count radius list end₀ i₀ text end i = (i ≤ count)
+Inv-loop text₀ count radius list far₀ i₀ text far i = (i ≤ count)
 
 abbrev μ-loop : tie.MeasureT-loop
-μ-loop text₀ used count radius list end₀ i₀ text end i = count - i
+μ-loop text₀ count radius list far₀ i₀ text far i = count - i
 
 loop-holds : tie.Need-loop-holds Inv-loop μ-loop
 loop-holds c = search needs

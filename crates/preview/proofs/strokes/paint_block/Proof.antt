@@ -37,7 +37,7 @@ loop-again : tie.Need-loop-again Inv-loop μ-loop
 loop-again c =
     let l : tie.At-loop Inv-loop μ-loop = search in
     let s : tie.Start Inv-loop μ-loop = search in
-    rw (c .step .ensures) (step-usable (l .loop .q) (now (s .args .block)) 0 (l .loop .inv .0), step-within (l .loop .q) (now (s .args .block)) 0 (l .loop .inv .1))
+    rw (c .step .ensures) (step-usable (l .loop .q) (now (s .args .block)) (l .loop .q .hand) (l .loop .inv .0), step-within (l .loop .q) (now (s .args .block)) (l .loop .q .hand) (l .loop .inv .1))
 
 returns-2 : tie.Need-returns-2 Inv-loop μ-loop
 returns-2 c = let l : tie.At-loop Inv-loop μ-loop = search in l .loop .inv .0

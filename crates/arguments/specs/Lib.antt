@@ -1,0 +1,5 @@
+pub mod Names
+pub mod Request
+pub mod NameLaws
+pub mod RequestLaws
+pub mod Examples
