@@ -14,6 +14,10 @@ letters a b = record { first = a; second = b }
 abbrev pub unnamed : Letters
 unnamed = letters (code "?") (code "?")
 
+-- a byte of an escape sequence
+abbrev pub escaped : Letters
+escaped = letters (code "^") (code "[")
+
 -- "A letter may be of either case": as a capital; 0 for any other byte
 unfoldable pub letterOf : ℕ → ℕ
 letterOf b = cond (ltb b (code "A")) 0 (cond (leb b (code "Z")) b (cond (ltb b (code "a")) 0 (cond (leb b (code "z")) (b - 32) 0)))
@@ -43,10 +47,10 @@ unfoldable pub lettersBefore : Letters → List ℕ → ℕ → Letters
 lettersBefore l bytes n =
     cond (eqb (letterEnd bytes n) 0) l (twoLetters l bytes (letterEnd bytes n) (letterEnd bytes (letterEnd bytes n - 1)))
 
--- what is refused, with a number, on the last of the first n bytes: with 1 the name that a letter completes, and no name where the byte is no
+-- what is refused, with a number, on the last of the first n bytes: with 1 the name that a letter completes, and nobody's where the byte is no
 -- letter; with another number the instruction that is being read, whose name is the last two letters
-unfoldable pub nameOf : Letters → List ℕ → ℕ → ℕ → Letters
-nameOf l bytes n number =
+unfoldable pub nameOf : Letters → Letters → List ℕ → ℕ → ℕ → Letters
+nameOf l nobody bytes n number =
     cond (eqb number 1)
-    (cond (eqb (letterBefore bytes n) 0) unnamed (letters (lettersBefore l bytes (n - 1) .second) (letterBefore bytes n)))
+    (cond (eqb (letterBefore bytes n) 0) nobody (letters (lettersBefore l bytes (n - 1) .second) (letterBefore bytes n)))
     (lettersBefore l bytes (n - 1))

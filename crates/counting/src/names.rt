@@ -19,6 +19,16 @@ pub fn no_letters() -> Letters
     }
 }
 
+// The name of a byte of an escape sequence: ESC, as it is written.
+pub fn escape_letters() -> Letters
+    ensures { λ r. ⌜ r ≡ S.escaped ⌝ }
+{
+    Letters {
+        first: b'^',
+        second: b'[',
+    }
+}
+
 // A letter, as a capital; 0 for any other byte.
 fn letter(byte: u8) -> u8
     ensures { λ r. ⌜ r ≡ S.letterOf byte ⌝ }
@@ -116,16 +126,16 @@ pub fn letters_before(l: Letters, bytes: &[u8], at: usize) -> Letters
     }
 }
 
-// The name of what is refused, with this number, on the byte before a place. With 1 it is the name that a letter completes, and no name where
+// The name of what is refused, with this number, on the byte before a place. With 1 it is the name that a letter completes, and nobody's where
 // the byte is no letter; with another number it is the instruction that is being read, so that its name is the last two letters.
-pub fn name_of(l: Letters, bytes: &[u8], at: usize, number: u8) -> Letters
-    ensures { λ r. ⌜ r ≡ S.nameOf l (now (bytes .entry)) at number ⌝ }
+pub fn name_of(l: Letters, nobody: Letters, bytes: &[u8], at: usize, number: u8) -> Letters
+    ensures { λ r. ⌜ r ≡ S.nameOf l nobody (now (bytes .entry)) at number ⌝ }
 {
     let earlier = one_less(at);
     if number == 1 {
         let second = letter_before(bytes, at);
         if second == 0 {
-            return no_letters();
+            return nobody;
         }
         let before = letters_before(l, bytes, earlier);
         return Letters {

@@ -9,6 +9,7 @@ ghost use Rattle.noting.specs.Refusals.{refuses, refusedOf};
 use console::sum;
 use counting::names::Letters;
 use counting::names::name_of;
+use counting::names::no_letters;
 use counting::refusals::Refusals;
 use counting::refusals::noted;
 use drive::ends_equal;
@@ -104,7 +105,8 @@ pub fn refused(r: Refusals, l: Letters, block: &[u8], at: usize, number: u8, pla
 {
     if is_refusal(number) {
         let one = [place; 1];
-        return noted(r, number, name_of(l, block, at, number), &one);
+        let name = name_of(l, no_letters(), block, at, number);
+        return noted(r, number, name, &one);
     }
     r
 }

@@ -1,3 +1,4 @@
+pub mod Escapes
 pub mod Pieces
 pub mod Types
 pub mod Laws

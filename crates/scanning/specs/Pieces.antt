@@ -1,13 +1,15 @@
--- Pieces of a drawing within which no other pen is taken. SP is the one instruction that takes one, and it is carried out on the byte that ends it: so from one S to the end of
--- its instruction each byte is a piece, and all bytes from there up to and with the next S are one.
+-- Pieces of a drawing within which no other pen is taken, and of which all bytes belong to escape sequences or none does. SP is the one instruction that takes a pen, and it is
+-- carried out on the byte that ends it: so from one S to the end of its instruction each byte is a piece, and so is each byte of an escape sequence. All other bytes are one piece up
+-- to the next S or ESC.
 use mathlib.Core.Bool.{Bool, true, false, cond}
 use mathlib.Core.List.{List, [], _∷_}
 use Prim.Native.Char.{code}
 use Prim.Native.Nat.{ℕ, suc}
-use lib.Dec.{eqb}
+use lib.Dec.{eqb, ltb}
 use Rattle.numerals.specs.declared.bytes.Class.{Class}
 use Rattle.numerals.specs.declared.bytes.Class.the-variants.{Blank, Semicolon, Letter, Digit, Sign, Point, Other}
 use Rattle.numerals.specs.Bytes.{classOf}
+use Rattle.scanning.specs.Escapes.{esc}
 
 unfoldable pub isS : ℕ → Bool
 isS b = cond (eqb b (code "S")) true (eqb b (code "s"))
@@ -29,10 +31,18 @@ endsOf b = endsClass (classOf b)
 unfoldable pub modeAfter : ℕ → ℕ → ℕ
 modeAfter mode b = cond (isS b) 1 (cond (eqb mode 0) 0 (cond (eqb mode 1) 2 (cond (endsOf b) 0 2)))
 
--- up to and with the first S, or all
+-- what is read byte by byte begins
+unfoldable pub stops : ℕ → Bool
+stops b = cond (isS b) true (eqb b esc)
+
+-- so many bytes stand before the first of these, or all
 unfoldable pub upTo : List ℕ → ℕ
 upTo [] = 0
-upTo (b ∷ bs) = cond (isS b) 1 (suc (upTo bs))
+upTo (b ∷ bs) = cond (stops b) 0 (suc (upTo bs))
 
-unfoldable pub pieceOf : ℕ → List ℕ → ℕ
-pieceOf mode bytes = cond (eqb mode 0) (upTo bytes) 1
+unfoldable pub oneAtLeast : ℕ → ℕ
+oneAtLeast n = cond (eqb n 0) 1 n
+
+-- 2 and more: an escape sequence is open (Escapes)
+unfoldable pub pieceOf : ℕ → ℕ → List ℕ → ℕ
+pieceOf mode escape bytes = cond (eqb mode 0) (cond (ltb 1 escape) 1 (oneAtLeast (upTo bytes))) 1

@@ -1,4 +1,4 @@
-// What bytes say without a machine: pieces within which no other pen is taken, and line types that have numbers.
+// What bytes say without a machine: pieces within which no other pen is taken and no escape sequence begins or ends, and line types that have numbers.
 ghost use mathlib.Core.Path.{_≡_};
 ghost use lib.ListN.{drop};
 ghost use Rattle.scanning.specs.Pieces as P;
@@ -6,6 +6,8 @@ ghost use Rattle.scanning.specs.Types as T;
 use console::sum;
 use numerals::bytes::Class;
 use numerals::bytes::class_of;
+
+pub mod escapes;
 
 // Line types that have numbers: how far a name is read, and how many there are.
 pub struct Types {
@@ -38,7 +40,7 @@ fn ends(byte: u8) -> bool
     }
 }
 
-// How the next piece is read after a byte: 0 up to an S, 1 and 2 byte by byte, from an S to the end of its instruction.
+// How the next piece is read after a byte: 0 before an S, 1 and 2 byte by byte, from an S to the end of its instruction.
 pub fn mode_after(mode: u8, byte: u8) -> u8
     ensures { λ r. ⌜ r ≡ P.modeAfter mode byte ⌝ }
 {
@@ -57,28 +59,50 @@ pub fn mode_after(mode: u8, byte: u8) -> u8
     2
 }
 
-// How many bytes from a place on there are up to and with the next S, or to the end.
-fn up_to_s(bytes: &[u8], from: usize) -> usize
+// Whether a byte begins what is read byte by byte: the name of SP, or an escape sequence.
+fn stops(byte: u8) -> bool
+    ensures { λ r. ⌜ r ≡ P.stops byte ⌝ }
+{
+    if is_s(byte) {
+        return true;
+    }
+    byte == 27
+}
+
+// How many bytes from a place on there are before the next of these, or to the end.
+fn up_to_stop(bytes: &[u8], from: usize) -> usize
     ensures { λ r. ⌜ r ≡ P.upTo (drop from (now (bytes .entry))) ⌝ }
 {
     let mut at = from;
     while at < bytes.len() {
-        if is_s(bytes[at]) {
-            return at - from + 1;
+        if stops(bytes[at]) {
+            return at - from;
         }
         at += 1;
     }
     at - from
 }
 
-// How many bytes the next piece has.
-pub fn piece(mode: u8, bytes: &[u8], from: usize) -> usize
-    ensures { λ r. ⌜ r ≡ P.pieceOf mode (drop from (now (bytes .entry))) ⌝ }
+fn one_at_least(n: usize) -> usize
+    ensures { λ r. ⌜ r ≡ P.oneAtLeast n ⌝ }
 {
-    if mode == 0 {
-        return up_to_s(bytes, from);
+    if n == 0 {
+        return 1;
     }
-    1
+    n
+}
+
+// How many bytes the next piece has: many where neither an SP nor an escape sequence is open.
+pub fn piece(mode: u8, escape: u8, bytes: &[u8], from: usize) -> usize
+    ensures { λ r. ⌜ r ≡ P.pieceOf mode escape (drop from (now (bytes .entry))) ⌝ }
+{
+    if mode != 0 {
+        return 1;
+    }
+    if escape > 1 {
+        return 1;
+    }
+    one_at_least(up_to_stop(bytes, from))
 }
 
 pub fn no_types() -> Types

@@ -1,5 +1,6 @@
 // The page, from its title to its verdict.
 use clip::Rect;
+use console::sum;
 use counting::refusals::GROUPS;
 use counting::refusals::PLACES;
 use counting::refusals::Refusals;
@@ -298,6 +299,10 @@ fn reasons(text: &mut [u8; 65536], used: usize, s: Surveyed, harms: u64, cut: u6
         end = put_bytes(text, end, b" refusals that change the drawing: ");
         end = natural_then(text, end, harms, b'.');
     }
+    if s.broken > 0 {
+        end = put_bytes(text, end, b" of them escape sequences broken off: ");
+        end = natural_then(text, end, s.broken, b'.');
+    }
     if s.types > 0 {
         end = put_bytes(text, end, b" line types that come out without gaps: ");
         end = natural_then(text, end, s.types, b'.');
@@ -344,7 +349,8 @@ fn verdict(text: &mut [u8; 65536], used: usize, s: Surveyed, hard: Rect) -> usiz
     let r = s.refusals;
     let keys = r.keys;
     let counts = r.counts;
-    let harms = harm(keys, counts, r.others);
+    // an escape sequence that is broken off is none, and its refusals are not harmless: one counts
+    let harms = harm(keys, counts, sum(r.others, s.broken));
     if fit(t, harms, s.types, s.lost, s.unended, s.unread) {
         let end = put_bytes(text, used, b"fit to paint");
         return warnings(text, end, t, hard);

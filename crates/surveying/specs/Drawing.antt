@@ -25,10 +25,11 @@ use Rattle.surveying.specs.declared.Surveyed.{Surveyed}
 use Rattle.machine.specs.declared.Machine.{Machine}
 use Rattle.inking.specs.Inked.{inkedState}
 use Rattle.scanning.specs.declared.Types.{Types}
+use Rattle.scanning.specs.Escapes.{belongs, noEscapes, escapesIn, brokenAtEnd}
 use Rattle.scanning.specs.Pieces.{modeAfter, pieceOf}
 use Rattle.counting.specs.Tally.{nothingOf, countedOf}
 use Rattle.counting.specs.Verdict.{segmentsOf}
-use Rattle.counting.specs.Names.{unnamed, lettersBefore, nameOf}
+use Rattle.counting.specs.Names.{unnamed, escaped, lettersBefore, nameOf}
 use Rattle.counting.specs.Refusals.{noneOf, notedOf, notedAll}
 
 unfoldable pub waitsOf : Segment → Bool
@@ -53,21 +54,21 @@ unfoldable pub judgedOf : ℕ → ℕ
 judgedOf n = cond (untaken n) 0 n
 
 -- a refused byte is noted with its name, and its place counted from 1
-unfoldable pub refusedAt : Refusals → Letters → ℕ → List ℕ → ℕ → ℕ → Refusals
-refusedAt r letters before block at number = notedOf r number (nameOf letters block at number) (added before at)
+unfoldable pub refusedAt : Refusals → Letters → Letters → ℕ → List ℕ → ℕ → ℕ → Refusals
+refusedAt r letters nobody before block at number = notedOf r number (nameOf letters nobody block at number) (added before at)
 
 unfoldable pub refusalsAfter : Drawing → List ℕ → ℕ → ℕ → Refusals
-refusalsAfter d block at number = cond (eqb number 0) (d .refusals) (refusedAt (d .refusals) (d .letters) (d .before) block at number)
+refusalsAfter d block at number = cond (eqb number 0) (d .refusals) (refusedAt (d .refusals) (d .letters) (d .nobody) (d .before) block at number)
 
 -- what was drawn, and then fetched
-abbrev pub drawing : Tally → Replied → ℕ → Letters → Refusals → Drawing
-drawing t f before letters refusals = record { machine = f .machine; before = before; letters = letters; tally = t; refusals = refusals; replies = f .replies }
+abbrev pub drawing : Tally → Replied → ℕ → Letters → Letters → Refusals → Drawing
+drawing t f before letters nobody refusals = record { machine = f .machine; before = before; letters = letters; nobody = nobody; tally = t; refusals = refusals; replies = f .replies }
 
 -- the machine has come to m by bytes before the place `at`, the last of which has this number; what waits is drawn or fetched
 unfoldable pub wentOn : Drawing → List ℕ → State → ℕ → ℕ → Drawing
 wentOn d block m at number =
     let p : Painted = drawnOff (waiting (m .work)) m (d .tally) in
-    drawing (p .tally) (fetchedOff (p .machine .state) (d .replies)) (d .before) (d .letters) (refusalsAfter d block at number)
+    drawing (p .tally) (fetchedOff (p .machine .state) (d .replies)) (d .before) (d .letters) (d .nobody) (refusalsAfter d block at number)
 
 -- the bytes of a block from the place `at` on, one by one
 unfoldable pub bytesFrom : Drawing → List ℕ → List ℕ → ℕ → Drawing
@@ -81,6 +82,7 @@ endedOf d block = record {
   machine = d .machine;
   before = added (d .before) (length block);
   letters = lettersBefore (d .letters) block (length block);
+  nobody = d .nobody;
   tally = d .tally;
   refusals = d .refusals;
   replies = d .replies;
@@ -97,7 +99,7 @@ openEnd m = cond (eqb (takeNumber m (code ";")) 0) (waitsOf (segmentOf (takeStat
 
 -- the drawing with pen 1 in hand, and nothing counted
 abbrev pub withPen : Drawing → Drawing
-withPen d = record { machine = record { state = inkedState (d .machine .state) }; before = d .before; letters = d .letters; tally = nothingOf; refusals = noneOf; replies = 0 }
+withPen d = record { machine = record { state = inkedState (d .machine .state) }; before = d .before; letters = d .letters; nobody = d .nobody; tally = nothingOf; refusals = noneOf; replies = 0 }
 
 unfoldable pub lostIn : Drawing → List ℕ → ℕ
 lostIn d piece = cond (eqb (d .machine .state .core .carriage .pen .number) 0) (segmentsOf (blockOf (withPen d) piece .tally)) 0
@@ -106,22 +108,33 @@ lostIn d piece = cond (eqb (d .machine .state .core .carriage .pen .number) 0) (
 unfoldable pub firstOf : ℕ → ℕ → ℕ → ℕ → ℕ
 firstOf lost first more place = cond (ltb 0 lost) first (cond (ltb 0 more) place first)
 
+-- what a byte of a piece is called that belongs to no name, by its first one (all bytes of a piece belong to an escape sequence, or none does)
+unfoldable pub byteName : ℕ → List ℕ → Letters
+byteName escape piece = cond (eqb (length piece) 0) unnamed (cond (belongs escape (getD piece 0 0)) escaped unnamed)
+
+abbrev pub enteredOf : Drawing → Letters → Drawing
+enteredOf d nobody = record { machine = d .machine; before = d .before; letters = d .letters; nobody = nobody; tally = d .tally; refusals = d .refusals; replies = d .replies }
+
+abbrev pub enter : Watched → List ℕ → Drawing
+enter w piece = enteredOf (w .drawing) (byteName (w .escapes .state) piece)
+
 unfoldable pub lastOf : List ℕ → ℕ
 lastOf piece = cond (eqb (length piece) 0) 0 (getD piece (length piece - 1) 0)
 
 unfoldable pub pieceDone : Watched → List ℕ → Watched
 pieceDone w piece = record {
-  drawing = blockOf (w .drawing) piece;
+  drawing = blockOf (enter w piece) piece;
   mode = modeAfter (w .mode) (lastOf piece);
-  lost = added (w .lost) (lostIn (w .drawing) piece);
-  first = firstOf (w .lost) (w .first) (lostIn (w .drawing) piece) (added (w .drawing .before) 1);
+  escapes = escapesIn (w .escapes) piece;
+  lost = added (w .lost) (lostIn (enter w piece) piece);
+  first = firstOf (w .lost) (w .first) (lostIn (enter w piece) piece) (added (w .drawing .before) 1);
 }
 
 -- piece by piece, so many at most
 unfoldable pub watchedFrom : ℕ → Watched → List ℕ → Watched
 watchedFrom zero w bytes = w
 watchedFrom (suc k) w [] = w
-watchedFrom (suc k) w (b ∷ bs) = let n = pieceOf (w .mode) (b ∷ bs) in watchedFrom k (pieceDone w (take n (b ∷ bs))) (drop n (b ∷ bs))
+watchedFrom (suc k) w (b ∷ bs) = let n = pieceOf (w .mode) (w .escapes .state) (b ∷ bs) in watchedFrom k (pieceDone w (take n (b ∷ bs))) (drop n (b ∷ bs))
 
 -- no piece is empty, so that a block has no more pieces than bytes
 unfoldable pub watchedOf : Watched → List ℕ → Watched
@@ -130,8 +143,9 @@ watchedOf w block = watchedFrom (length block) w block
 -- nothing is read yet
 abbrev pub begunOf : Machine → Watched
 begunOf m = record {
-  drawing = record { machine = m; before = 0; letters = unnamed; tally = nothingOf; refusals = noneOf; replies = 0 };
+  drawing = record { machine = m; before = 0; letters = unnamed; nobody = unnamed; tally = nothingOf; refusals = noneOf; replies = 0 };
   mode = 0;
+  escapes = noEscapes;
   lost = 0;
   first = 0;
 }
@@ -140,6 +154,7 @@ unfoldable pub finishedOf : Watched → Types → Bool → Surveyed
 finishedOf w types unread = record {
   tally = w .drawing .tally;
   refusals = w .drawing .refusals;
+  broken = brokenAtEnd (w .escapes);
   replies = w .drawing .replies;
   types = types .count;
   lost = w .lost;
@@ -162,6 +177,6 @@ unfoldable pub placesOf : ℕ → List ℤ → ℕ → List ℕ
 placesOf before numbers zero = []
 placesOf before numbers (suc n) = added before (natAbs (getD numbers 2 (pos 0))) ∷ placesOf before (drop 5 numbers) n
 
--- no letter, no name
-unfoldable pub unnamedIn : Refusals → ℕ → List ℤ → ℕ → Refusals
-unnamedIn r before numbers n = notedAll r unknown unnamed (placesOf before numbers n)
+-- no letter, nobody's name
+unfoldable pub unnamedIn : Refusals → Letters → ℕ → List ℤ → ℕ → Refusals
+unnamedIn r nobody before numbers n = notedAll r unknown nobody (placesOf before numbers n)

@@ -47,7 +47,7 @@ use Rattle.console.specs.Sums.{added}
 use Rattle.counting.specs.declared.refusals.Refusals.{Refusals}
 use Rattle.counting.specs.declared.tally.Tally.{Tally}
 use Rattle.counting.specs.Laws.{letter-at, letterless-plain, letterless-few}
-use Rattle.counting.specs.Names.{unnamed, letterOf, letterBefore, nameOf, letterless}
+use Rattle.counting.specs.Names.{letterOf, letterBefore, nameOf, letterless}
 use Rattle.counting.specs.Refusals.{notedOf, notedAll}
 use Rattle.counting.specs.Tally.{countedOf}
 use Rattle.surveying.specs.declared.Drawing.{Drawing}
@@ -152,10 +152,10 @@ module _ (m : State) where
 
 -- the same counts, and another machine
 abbrev pub withState : Drawing → State → Drawing
-withState d m = record { machine = record { state = m }; before = d .before; letters = d .letters; tally = d .tally; refusals = d .refusals; replies = d .replies }
+withState d m = record { machine = record { state = m }; before = d .before; letters = d .letters; nobody = d .nobody; tally = d .tally; refusals = d .refusals; replies = d .replies }
 
 abbrev pub withRefusals : Drawing → Refusals → Drawing
-withRefusals d r = record { machine = d .machine; before = d .before; letters = d .letters; tally = d .tally; refusals = r; replies = d .replies }
+withRefusals d r = record { machine = d .machine; before = d .before; letters = d .letters; nobody = d .nobody; tally = d .tally; refusals = r; replies = d .replies }
 
 -- a segment or a reply waits: a run takes no byte, and none is refused
 record Stays (m : State) (at : ℕ) (r : Ran) : Type 0 where
@@ -197,7 +197,7 @@ module _ (block : List ℕ) where
   went-quiet d m at n w e = rw (e, off-idle m (d .tally) (free-idle (m .work) w), fetched-none m (d .replies) (silent (m .work) w)) refl
 
   went-refused : (d : Drawing) (m : State) (at n : ℕ) → occupied (m .work) ≡ false → (n ≡ 0 → ⊥)
-      → wentOn d block m at n ≡ withState (withRefusals d (refusedAt (d .refusals) (d .letters) (d .before) block at n)) m
+      → wentOn d block m at n ≡ withState (withRefusals d (refusedAt (d .refusals) (d .letters) (d .nobody) (d .before) block at n)) m
   unfolding wentOn refusalsAfter
   went-refused d m at n w f = rw (ne-eqb n 0 f, off-idle m (d .tally) (free-idle (m .work) w), fetched-none m (d .replies) (silent (m .work) w)) refl
 
@@ -287,7 +287,7 @@ Plain b = letterOf b ≡ 0
 
 module _ (block : List ℕ) where
   -- a byte that is no letter completes no name
-  plain-name : (d : Drawing) (at b : ℕ) (bs : List ℕ) → drop at block ≡ b ∷ bs → Plain b → nameOf (d .letters) block (at + 1) unknown ≡ unnamed
+  plain-name : (d : Drawing) (at b : ℕ) (bs : List ℕ) → drop at block ≡ b ∷ bs → Plain b → nameOf (d .letters) (d .nobody) block (at + 1) unknown ≡ d .nobody
   unfolding nameOf
   plain-name d at b bs e h = rw (eq-eqb (letterBefore block (at + 1)) 0 letter) refl
     where
@@ -299,18 +299,18 @@ module _ (block : List ℕ) where
           letter-at block (at + 1) (λ z. omega arith) ∙ ap (λ (k : ℕ). letterOf (getD block k 0)) place
           ∙ ap letterOf (sym (getD-drop at block 0 0) ∙ ap (λ (l : List ℕ). getD l 0 0) e) ∙ h
 
-  -- one more refusal without a name
+  -- one more refusal with nobody's name
   abbrev more-unnamed : Drawing → ℕ → Drawing
-  more-unnamed d at = withRefusals d (notedOf (d .refusals) unknown unnamed (added (d .before) at))
+  more-unnamed d at = withRefusals d (notedOf (d .refusals) unknown (d .nobody) (added (d .before) at))
 
   unnamed-at : (d : Drawing) (at b : ℕ) (bs : List ℕ) (n : ℕ) → drop at block ≡ b ∷ bs → Plain b → n ≡ unknown
-      → refusedAt (d .refusals) (d .letters) (d .before) block (at + 1) n ≡ notedOf (d .refusals) unknown unnamed (added (d .before) (at + 1))
+      → refusedAt (d .refusals) (d .letters) (d .nobody) (d .before) block (at + 1) n ≡ notedOf (d .refusals) unknown (d .nobody) (added (d .before) (at + 1))
   unfolding refusedAt
   unnamed-at d at b bs n e h u = rw (u, plain-name d at b bs e h) refl
 
   -- a plot has gone so far: its refusals are noted from their records
   abbrev pub plottedOn : Drawing → Plot → List ℤ → Drawing
-  plottedOn d f xs = withState (withRefusals d (unnamedIn (d .refusals) (d .before) (numbersOf (f .marks) ++ xs) (length (f .marks)))) (f .state)
+  plottedOn d f xs = withState (withRefusals d (unnamedIn (d .refusals) (d .nobody) (d .before) (numbersOf (f .marks) ++ xs) (length (f .marks)))) (f .state)
 
   abbrev goes-on : Drawing → State → ℕ → List ℤ → Plot → Type 0
   goes-on d m at xs f = bytesFrom (withState d m) block (drop at block) at ≡ bytesFrom (plottedOn d f xs) block (drop (f .taken) block) (f .taken)
@@ -419,20 +419,20 @@ pub record Far (d : Drawing) (block : List ℕ) (machine : Machine) (tally : Tal
   pub place : at ≤ length block
   pub usable : Usable (machine .state)
   pub free : occupied (machine .state .work) ≡ false
-  pub follows : bytesFrom d block block 0 ≡ bytesFrom (record { machine = machine; before = d .before; letters = d .letters; tally = tally; refusals = refusals; replies = replies }) block (drop at block) at
+  pub follows : bytesFrom d block block 0 ≡ bytesFrom (record { machine = machine; before = d .before; letters = d .letters; nobody = d .nobody; tally = tally; refusals = refusals; replies = replies }) block (drop at block) at
 
 module _ (d : Drawing) (block : List ℕ) where
   pub far-begun : Usable (d .machine .state) → occupied (d .machine .state .work) ≡ false → Far d block (d .machine) (d .tally) (d .refusals) (d .replies) 0
   far-begun u w = record { place = omega arith; usable = u; free = w; follows = refl }
 
   pub far-ended : {m : Machine} {t : Tally} {q : Refusals} {n : ℕ} {at : ℕ} → Far d block m t q n at → length block ≤ at
-      → endedOf (record { machine = m; before = d .before; letters = d .letters; tally = t; refusals = q; replies = n }) block ≡ blockOf d block
+      → endedOf (record { machine = m; before = d .before; letters = d .letters; nobody = d .nobody; tally = t; refusals = q; replies = n }) block ≡ blockOf d block
   unfolding blockOf bytesFrom
   far-ended {m} {t} {q} {n} {at} f h = ap (λ (e : Drawing). endedOf e block) (sym (f .follows ∙ rw (drop-of-length-le block h) refl))
 
   module _ {m : Machine} {t : Tally} {q : Refusals} {n : ℕ} {at : ℕ} (f : Far d block m t q n at) where
     abbrev so-far : Drawing
-    so-far = record { machine = m; before = d .before; letters = d .letters; tally = t; refusals = q; replies = n }
+    so-far = record { machine = m; before = d .before; letters = d .letters; nobody = d .nobody; tally = t; refusals = q; replies = n }
 
     -- where the bytes that are left lead
     rest : at + length (drop at block) ≡ length block
@@ -470,7 +470,7 @@ module _ (d : Drawing) (block : List ℕ) where
             outside : (judgedOf (r .number) ≡ 0 → ⊥) → Outside (r .machine .state)
             outside = rw e (run-outside (m .state) (drop at block) at)
 
-        pub far-refused : {k : Refusals} → (j ≡ 0 → ⊥) → k ≡ refusedAt q (d .letters) (d .before) block (r .at) j → Far d block (r .machine) t k n (r .at)
+        pub far-refused : {k : Refusals} → (j ≡ 0 → ⊥) → k ≡ refusedAt q (d .letters) (d .nobody) (d .before) block (r .at) j → Far d block (r .machine) t k n (r .at)
         far-refused z k =
             let o = ran-outside z in
             record {
@@ -511,7 +511,7 @@ module _ (d : Drawing) (block : List ℕ) where
         plotted-few = rw e (plot-stored (m .state) bytes at room)
 
         pub far-plotted : Outside (m .state) → (entry : List ℤ) {k : Refusals}
-            → k ≡ unnamedIn q (d .before) (laidMarks (plotFrom (m .state) bytes at room .marks) entry) (g .stored) → Far d block (g .machine) t k n (g .at)
+            → k ≡ unnamedIn q (d .nobody) (d .before) (laidMarks (plotFrom (m .state) bytes at room .marks) entry) (g .stored) → Far d block (g .machine) t k n (g .at)
         far-plotted o entry k = record {
           place = rw e (omega (arith, within, plot-place (m .state) bytes at room .1));
           usable = rw e (plot-usable (m .state) bytes at room (f .usable));

@@ -10,15 +10,15 @@ use Rattle.surveying.specs.declared.Watched.{Watched}
 use Rattle.surveying.specs.Drawing.{pieceDone, watchedFrom}
 
 module _ (k : ℕ) (w : Watched) (block : List ℕ) (at : ℕ) where
-  pub watched-one : at < length block → let n = pieceOf (w .mode) (drop at block) in
+  pub watched-one : at < length block → let n = pieceOf (w .mode) (w .escapes .state) (drop at block) in
       watchedFrom (suc k) w (drop at block) ≡ watchedFrom k (pieceDone w (take n (drop at block))) (drop (at + n) block)
   unfolding watchedFrom
   watched-one h = go (drop at block) (drop-cons block at 0 h) ∙ ap (watchedFrom k (pieceDone w (take n (drop at block)))) (drop-drop n at block)
     where
       n : ℕ
-      n = pieceOf (w .mode) (drop at block)
+      n = pieceOf (w .mode) (w .escapes .state) (drop at block)
 
-      go : {x : ℕ} {xs : List ℕ} (l : List ℕ) → l ≡ x ∷ xs → let n = pieceOf (w .mode) l in watchedFrom (suc k) w l ≡ watchedFrom k (pieceDone w (take n l)) (drop n l)
+      go : {x : ℕ} {xs : List ℕ} (l : List ℕ) → l ≡ x ∷ xs → let n = pieceOf (w .mode) (w .escapes .state) l in watchedFrom (suc k) w l ≡ watchedFrom k (pieceDone w (take n l)) (drop n l)
       go [] e = absurd (omega (arith, ap length e))
       go (b ∷ bs) e = refl
 

@@ -10,6 +10,7 @@ ghost use Rattle.hpgl.specs.Valid.{Usable};
 ghost use Rattle.surveying.specs.Drawing as S;
 use console::sum;
 use counting::names::Letters;
+use counting::names::escape_letters;
 use counting::names::letterless;
 use counting::names::letters_before;
 use counting::names::name_of;
@@ -29,6 +30,11 @@ use machine::Machine;
 use reader::UNKNOWN;
 use rulekit::numbers::BUSY;
 use scanning::Types;
+use scanning::escapes::Escapes;
+use scanning::escapes::belongs;
+use scanning::escapes::broken_at_end;
+use scanning::escapes::escapes_in;
+use scanning::escapes::no_escapes;
 use scanning::mode_after;
 use scanning::no_types;
 use scanning::piece;
@@ -48,12 +54,13 @@ const SHORT: usize = 8;
 // A buffer that takes every reply. Nobody reads it: a designer's package is not at the other end.
 const REPLY: usize = 37;
 
-// How far the drawing is at the beginning of a block: the machine, the bytes before the block and the last letters of these, what is counted,
-// what was refused, and how many replies were made.
+// How far the drawing is at the beginning of a block: the machine, the bytes before the block and the last letters of these, the name of a byte of
+// the block that belongs to none, what is counted, what was refused, and how many replies were made.
 struct Drawing {
     machine: Machine,
     before: u64,
     letters: Letters,
+    nobody: Letters,
     tally: Tally,
     refusals: Refusals,
     replies: u64,
@@ -71,19 +78,22 @@ struct Replied {
     replies: u64,
 }
 
-// A drawing in pieces: how the next one is read, how many lines were drawn with no pen in hand, and from which byte on there was none.
+// A drawing in pieces: how the next one is read, the escape sequences so far, how many lines were drawn with no pen in hand, and from which byte on
+// there was none.
 struct Watched {
     drawing: Drawing,
     mode: u8,
+    escapes: Escapes,
     lost: u64,
     first: u64,
 }
 
-// A whole input: what is counted and refused, replies, line types with numbers, lines without a pen, whether its last instruction is open, and whether some of it
-// could not be read.
+// A whole input: what is counted and refused, escape sequences that are broken off, replies, line types with numbers, lines without a pen, whether its last
+// instruction is open, and whether some of it could not be read.
 pub struct Surveyed {
     pub tally: Tally,
     pub refusals: Refusals,
+    pub broken: u64,
     pub replies: u64,
     pub types: u64,
     pub lost: u64,
@@ -158,14 +168,15 @@ fn judged(number: u8) -> u8
 fn refused(
     refusals: Refusals,
     letters: Letters,
+    nobody: Letters,
     before: u64,
     block: &[u8],
     at: usize,
     number: u8,
 ) -> Refusals
-    ensures { λ r. ⌜ r ≡ S.refusedAt refusals letters before (now (block .entry)) at number ⌝ }
+    ensures { λ r. ⌜ r ≡ S.refusedAt refusals letters nobody before (now (block .entry)) at number ⌝ }
 {
-    let name = name_of(letters, block, at, number);
+    let name = name_of(letters, nobody, block, at, number);
     let one = [sum(before, at as u64); 1];
     noted(refusals, number, name, &one)
 }
@@ -191,13 +202,19 @@ fn places(numbers: &[i64], count: usize, before: u64) -> [u64; STRETCH]
     list
 }
 
-// The refusals of a stretch: no letter, no name.
-fn unnamed(refusals: Refusals, numbers: &[i64], count: usize, before: u64) -> Refusals
+// The refusals of a stretch: no letter, nobody's name.
+fn unnamed(
+    refusals: Refusals,
+    nobody: Letters,
+    numbers: &[i64],
+    count: usize,
+    before: u64,
+) -> Refusals
     requires { ⌜ (count ≤ S.stretch) × (count * 5 ≤ length (now numbers)) ⌝ }
-    ensures { λ r. ⌜ r ≡ S.unnamedIn refusals before (now (numbers .entry)) count ⌝ }
+    ensures { λ r. ⌜ r ≡ S.unnamedIn refusals nobody before (now (numbers .entry)) count ⌝ }
 {
     let list = places(numbers, count, before);
-    noted(refusals, UNKNOWN, no_letters(), &list[..count])
+    noted(refusals, UNKNOWN, nobody, &list[..count])
 }
 
 // A block: the machine runs up to a byte that leaves segments, which are drawn, or a reply, which is fetched, or that is refused. After that it is outside an
@@ -209,6 +226,7 @@ fn block_of(d: Drawing, block: &[u8]) -> Drawing
     let mut space = records();
     let numbers: &mut [i64] = &mut space;
     let letters = d.letters;
+    let nobody = d.nobody;
     let before = d.before;
     let mut machine = d.machine;
     let mut tally = d.tally;
@@ -228,7 +246,7 @@ fn block_of(d: Drawing, block: &[u8]) -> Drawing
             replies = f.replies;
             continue;
         }
-        refusals = refused(refusals, letters, before, block, at, number);
+        refusals = refused(refusals, letters, nobody, before, block, at, number);
         let n = letterless(block, at, STRETCH);
         if n < SHORT {
             continue;
@@ -236,12 +254,13 @@ fn block_of(d: Drawing, block: &[u8]) -> Drawing
         let g = machine.plot(&block[..at + n], at, numbers);
         machine = g.machine;
         at = g.at;
-        refusals = unnamed(refusals, numbers, g.stored, before);
+        refusals = unnamed(refusals, nobody, numbers, g.stored, before);
     }
     Drawing {
         machine: machine,
         before: sum(before, block.len() as u64),
         letters: letters_before(letters, block, block.len()),
+        nobody: nobody,
         tally: tally,
         refusals: refusals,
         replies: replies,
@@ -255,10 +274,12 @@ fn with_pen(d: Drawing) -> Drawing
 {
     let machine = d.machine;
     let letters = d.letters;
+    let nobody = d.nobody;
     Drawing {
         machine: inked(machine),
         before: d.before,
         letters: letters,
+        nobody: nobody,
         tally: nothing(),
         refusals: none(),
         replies: 0,
@@ -293,6 +314,38 @@ fn first_of(lost: u64, first: u64, more: u64, place: u64) -> u64
     first
 }
 
+// The name of a byte that belongs to none: that of an escape sequence, or nobody's.
+fn byte_name(escape: u8, piece: &[u8]) -> Letters
+    ensures { λ r. ⌜ r ≡ S.byteName escape (now (piece .entry)) ⌝ }
+{
+    if piece.len() == 0 {
+        return no_letters();
+    }
+    if belongs(escape, piece[0]) {
+        return escape_letters();
+    }
+    no_letters()
+}
+
+// The drawing at the beginning of a piece.
+fn entered(d: Drawing, nobody: Letters) -> Drawing
+    ensures { λ r. ⌜ r ≡ S.enteredOf d nobody ⌝ }
+{
+    let machine = d.machine;
+    let letters = d.letters;
+    let tally = d.tally;
+    let refusals = d.refusals;
+    Drawing {
+        machine: machine,
+        before: d.before,
+        letters: letters,
+        nobody: nobody,
+        tally: tally,
+        refusals: refusals,
+        replies: d.replies,
+    }
+}
+
 fn last(piece: &[u8]) -> u8
     ensures { λ r. ⌜ r ≡ S.lastOf (now (piece .entry)) ⌝ }
 {
@@ -303,18 +356,20 @@ fn last(piece: &[u8]) -> u8
     piece[n - 1]
 }
 
-// A piece: within it no other pen is taken.
+// A piece: within it no other pen is taken, and all bytes belong to an escape sequence or none does.
 fn piece_of(w: Watched, piece: &[u8]) -> Watched
     requires { ⌜ Usable (w .drawing .machine .state) × (occupied (w .drawing .machine .state .work) ≡ false) ⌝ }
     ensures { λ r. ⌜ (r ≡ S.pieceDone w (now (piece .entry))) × Usable (r .drawing .machine .state) × (occupied (r .drawing .machine .state .work) ≡ false) ⌝ }
 {
-    let d = w.drawing;
+    let escapes = w.escapes;
+    let d = entered(w.drawing, byte_name(escapes.state, piece));
     let place = sum(d.before, 1);
     let more = lost_in(d, piece);
     let next = block_of(d, piece);
     Watched {
         drawing: next,
         mode: mode_after(w.mode, last(piece)),
+        escapes: escapes_in(escapes, piece),
         lost: sum(w.lost, more),
         first: first_of(w.lost, w.first, more, place),
     }
@@ -332,7 +387,8 @@ fn pieces(w: Watched, block: &[u8]) -> Watched
         if block.len() <= at {
             return far;
         }
-        let n = piece(far.mode, block, at);
+        let escapes = far.escapes;
+        let n = piece(far.mode, escapes.state, block, at);
         far = piece_of(far, &block[at..at + n]);
         at += n;
         turns -= 1;
@@ -362,9 +418,11 @@ fn finished(w: Watched, types: Types, unread: bool) -> Surveyed
     let machine = d.machine;
     let tally = d.tally;
     let refusals = d.refusals;
+    let escapes = w.escapes;
     Surveyed {
         tally: tally,
         refusals: refusals,
+        broken: broken_at_end(escapes),
         replies: d.replies,
         types: types.count,
         lost: w.lost,
@@ -383,11 +441,13 @@ fn begun(machine: Machine) -> Watched
             machine: machine,
             before: 0,
             letters: no_letters(),
+            nobody: no_letters(),
             tally: nothing(),
             refusals: none(),
             replies: 0,
         },
         mode: 0,
+        escapes: no_escapes(),
         lost: 0,
         first: 0,
     }

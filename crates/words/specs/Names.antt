@@ -26,13 +26,13 @@ ownKinds =
     ++ bytes "PMp "
     ++ bytes "OAq OEq OHq OPq OWq "
 
--- other arcs and curves, bytes of no name, coded lines, fills and wedges, text, questions, settings of text, line types, speed and force, width of a pen;
+-- other arcs and curves, bytes of no name and of escape sequences, coded lines, fills and wedges, text, questions, settings of text, line types, speed and force, width of a pen;
 -- and n: the page and the picture as a whole, which no line depends on (a file's beginning BP; the next page PG, NP; a size or a cut of paper PS, EC;
 -- how ends and corners of lines look LA; whether white covers TR; the colour of a pen PC)
 abbrev pub foreignKinds : List ℕ
 foreignKinds =
     bytes "ATa BRa BZa RTa "
-    ++ bytes "??b "
+    ++ bytes "??b ^[h "
     ++ bytes "PEe "
     ++ bytes "ACf EWf FPf FTf RAf RFf RRf UFf WGf "
     ++ bytes "BLl CPl LBl PBl UCl "
@@ -57,4 +57,4 @@ refusedKind number a b = cond (eqb number 1) (cond (hasOf (kindOf a b)) (code "k
 -- what is painted is the same without it. Of line types that is true where LT has no numbers; those with numbers are counted apart (scanning/specs/Types.antt)
 unfoldable pub harmlessOf : ℕ → Bool
 harmlessOf k =
-    cond (eqb k (code "n")) true (cond (eqb k (code "o")) true (cond (eqb k (code "q")) true (cond (eqb k (code "s")) true (cond (eqb k (code "t")) true (cond (eqb k (code "v")) true (eqb k (code "w")))))))
+    cond (eqb k (code "h")) true (cond (eqb k (code "n")) true (cond (eqb k (code "o")) true (cond (eqb k (code "q")) true (cond (eqb k (code "s")) true (cond (eqb k (code "t")) true (cond (eqb k (code "v")) true (eqb k (code "w"))))))))

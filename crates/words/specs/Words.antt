@@ -43,13 +43,14 @@ ofForeign n =
     cond (eqb n (code "b")) (bytes "bytes that name no instruction, as of escape sequences, are passed over ") (
     cond (eqb n (code "e")) (bytes "coded lines are not known: letters of the code are read as instructions ") (
     cond (eqb n (code "f")) (bytes "fills are not painted: paint the edges alone (EA, ER, EP, CI)           ") (
+    cond (eqb n (code "h")) (bytes "escape sequences (ESC . ..) set up a plotter's line: no line is another ") (
     cond (eqb n (code "l")) (bytes "text is not painted: turn letters into lines first                      ") (
     cond (eqb n (code "n")) (bytes "pages, paper, colours and ends of lines: no line is another             ") (
     cond (eqb n (code "o")) (bytes "no reply is given to what a file asks                                   ") (
     cond (eqb n (code "s")) (bytes "settings of text do nothing: text is not painted                        ") (
     cond (eqb n (code "t")) (bytes "LT alone changes nothing; with numbers its lines come out without gaps  ") (
     cond (eqb n (code "v")) (bytes "speed and force of the pen are the carriage's own                       ") (
-    cond (eqb n (code "w")) (bytes "the width of a line is that of the paint                                ") (bytes "not an instruction of this machine: it is passed over                   ")))))))))))
+    cond (eqb n (code "w")) (bytes "the width of a line is that of the paint                                ") (bytes "not an instruction of this machine: it is passed over                   "))))))))))))
 
 -- what becomes of an instruction that is refused, by its kind; k is for one that is not known in polygon mode
 unfoldable pub ofKind : ℕ → List ℕ

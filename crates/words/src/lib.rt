@@ -100,6 +100,9 @@ fn of_foreign(kind: u8) -> [u8; 72]
     if kind == b'f' {
         return *b"fills are not painted: paint the edges alone (EA, ER, EP, CI)           ";
     }
+    if kind == b'h' {
+        return *b"escape sequences (ESC . ..) set up a plotter's line: no line is another ";
+    }
     if kind == b'l' {
         return *b"text is not painted: turn letters into lines first                      ";
     }
@@ -173,12 +176,12 @@ fn kind_in(names: &[u8], first: u8, second: u8) -> u8
     b'x'
 }
 
-// The kind of an instruction, by its name: of the machine's own (c, d, m, p, q), or of the manual and of HP-GL/2, which it does not have; ?? is for a byte of no name.
+// The kind of an instruction, by its name: of the machine's own (c, d, m, p, q), or of the manual and of HP-GL/2, which it does not have; ?? is for a byte of no name, ^[ for one of an escape sequence.
 pub fn kind(first: u8, second: u8) -> u8
     ensures { λ r. ⌜ r ≡ kindOf first second ⌝ }
 {
     kind_in(
-        b"DFc INc IPc IWc ROc SCc SPc CId EAd EPd ERd AAm ARm PAm PDm PRm PUm PMp OAq OEq OHq OPq OWq ATa BRa BZa RTa ??b PEe ACf EWf FPf FTf RAf RFf RRf UFf WGf BLl CPl LBl PBl UCl DCo DPo IMo OCo ODo OFo OGo OIo OLo OOo OSo OTo ADs CAs CSs DIs DRs DTs DVs ESs LOs SAs SDs SIs SLs SRs SSs TDs LTt ULt BPn ECn LAn NPn PCn PGn PSn TRn APv ASv FSv VAv VNv VSv PTw PWw WUw ",
+        b"DFc INc IPc IWc ROc SCc SPc CId EAd EPd ERd AAm ARm PAm PDm PRm PUm PMp OAq OEq OHq OPq OWq ATa BRa BZa RTa ??b ^[h PEe ACf EWf FPf FTf RAf RFf RRf UFf WGf BLl CPl LBl PBl UCl DCo DPo IMo OCo ODo OFo OGo OIo OLo OOo OSo OTo ADs CAs CSs DIs DRs DTs DVs ESs LOs SAs SDs SIs SLs SRs SSs TDs LTt ULt BPn ECn LAn NPn PCn PGn PSn TRn APv ASv FSv VAv VNv VSv PTw PWw WUw ",
         first,
         second,
     )
@@ -217,11 +220,14 @@ pub fn refused_kind(number: u8, first: u8, second: u8) -> u8
     of_name
 }
 
-// Whether what is painted is the same without it: page and paper, questions, settings of text, line types (those with numbers are counted apart), speed,
-// force and width of a pen.
+// Whether what is painted is the same without it: escape sequences, page and paper, questions, settings of text, line types (those with numbers are counted
+// apart), speed, force and width of a pen.
 pub fn harmless(kind: u8) -> bool
     ensures { λ r. ⌜ r ≡ harmlessOf kind ⌝ }
 {
+    if kind == b'h' {
+        return true;
+    }
     if kind == b'n' {
         return true;
     }

@@ -8,6 +8,9 @@ use Rattle.noting.proofs.refused.Tie as tie
 is-refusal-requires : tie.Need-is-refusal-requires
 is-refusal-requires c κs = search needs
 
+no-letters-requires : tie.Need-no-letters-requires
+no-letters-requires c κs = search needs
+
 name-of-requires : tie.Need-name-of-requires
 name-of-requires c κs = search needs
 
@@ -22,8 +25,9 @@ unfolding refusedOf
 returns c =
     let i : tie.After-is-refusal = search in
     let t : tie.Then1 = search in
+    let l : tie.After-no-letters = search in
     let n : tie.After-name-of = search in
-    rw (sym (i .is-refusal .ensures) ∙ t .if1 .taken, ← n .name-of .ensures) (c .noted .ensures)
+    rw (sym (i .is-refusal .ensures) ∙ t .if1 .taken, ← l .no-letters .ensures, ← n .name-of .ensures) (c .noted .ensures)
 
 returns-2 : tie.Need-returns-2
 unfolding refusedOf
@@ -36,6 +40,7 @@ refused-spec =
     tie.close
     (tie.spec
     is-refusal-requires
+    no-letters-requires
     name-of-requires
     slice-aggregate-noted
     noted-requires

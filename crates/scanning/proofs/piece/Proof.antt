@@ -1,21 +1,27 @@
--- By its test.
-use borrow.Author.Needs.{needs}
-use borrow.Author.Tests.{eq-eqb, ne-eqb}
-use mathlib.Core.Path.{refl}
+use Rattle.exact.proofs.Rules.{rules}
 use Rattle.scanning.specs.Pieces.{pieceOf}
+use borrow.Author.Needs.{needs}
 use Rattle.scanning.proofs.piece.Statement.{statement}
 use Rattle.scanning.proofs.piece.Tie as tie
 
-up-to-s-requires : tie.Need-up-to-s-requires
-up-to-s-requires c κs = search needs
-
 returns : tie.Need-returns
 unfolding pieceOf
-returns c = let s : tie.Start = search in let t : tie.Then1 = search in rw (eq-eqb (s .args .mode) 0 (t .if1 .taken)) (c .up-to-s .ensures)
+returns c = search rules
 
 returns-2 : tie.Need-returns-2
 unfolding pieceOf
-returns-2 c = let s : tie.Start = search in rw (ne-eqb (s .args .mode) 0 (c .if1 .left)) refl
+returns-2 c = search rules
+
+up-to-stop-requires : tie.Need-up-to-stop-requires
+up-to-stop-requires c κs = search needs
+
+one-at-least-requires : tie.Need-one-at-least-requires
+one-at-least-requires c κs = search needs
+
+returns-3 : tie.Need-returns-3
+unfolding pieceOf
+returns-3 c = search (rules, ← c .one-at-least .ensures, ← c .before .up-to-stop .ensures)
 
 pub piece-spec : {M : Type 1} → statement M
-piece-spec = tie.close (tie.spec up-to-s-requires returns returns-2)
+piece-spec =
+    tie.close (tie.spec returns returns-2 up-to-stop-requires one-at-least-requires returns-3)

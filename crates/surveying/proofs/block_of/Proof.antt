@@ -18,15 +18,15 @@ use Rattle.surveying.specs.Laws.{Far, far-begun, far-ended, ran-further,
 use Rattle.surveying.proofs.block_of.Statement.{statement}
 use Rattle.surveying.proofs.block_of.Tie as tie
 
-abbrev begun : Machine → ℕ → Letters → Tally → Refusals → ℕ → Drawing
-begun m n l t r k = record { machine = m; before = n; letters = l; tally = t; refusals = r; replies = k }
+abbrev begun : Machine → ℕ → Letters → Letters → Tally → Refusals → ℕ → Drawing
+begun m n l o t r k = record { machine = m; before = n; letters = l; nobody = o; tally = t; refusals = r; replies = k }
 
 abbrev Inv-loop : tie.InvT-loop
-Inv-loop block numbers₀ letters before machine₀ tally₀ refusals₀ replies₀ at₀ numbers machine tally refusals replies at =
-    Far (begun machine₀ before letters tally₀ refusals₀ replies₀) block machine tally refusals replies at × (length numbers ≡ stretchNumbers)
+Inv-loop block numbers₀ letters nobody before machine₀ tally₀ refusals₀ replies₀ at₀ numbers machine tally refusals replies at =
+    Far (begun machine₀ before letters nobody tally₀ refusals₀ replies₀) block machine tally refusals replies at × (length numbers ≡ stretchNumbers)
 
 abbrev μ-loop : tie.MeasureT-loop
-μ-loop block numbers₀ letters before machine₀ tally₀ refusals₀ replies₀ at₀ numbers machine tally refusals replies at =
+μ-loop block numbers₀ letters nobody before machine₀ tally₀ refusals₀ replies₀ at₀ numbers machine tally refusals replies at =
     length block - at
 
 -- from the loop back to its start
@@ -193,7 +193,7 @@ loop-again-3 c =
     let g = c .before .before .before .before in
     let o = ran-outside (s .args .d) (now (s .args .block)) (l .loop .inv .0) (run-of n .run .result) (run-of n .run .ensures) (judged-of n .judged .ensures) (n .before .before .if1 .left) in (
       far-plotted (s .args .d) (now (s .args .block)) (far-of n) (n .letterless .result) (n .letterless .ensures) _ (g .plot .ensures .0) o _
-          (c .unnamed .ensures ∙ ap (λ (ns : List ℤ). unnamedIn (n .before .refused .result) (s .args .d .before) ns (g .plot .result .stored)) (g .plot .ensures .1)),
+          (c .unnamed .ensures ∙ ap (λ (ns : List ℤ). unnamedIn (n .before .refused .result) (s .args .d .nobody) (s .args .d .before) ns (g .plot .result .stored)) (g .plot .ensures .1)),
       g .plot .kept .1 .1 .1 .0 ∙ l .loop .inv .1,
     )
 

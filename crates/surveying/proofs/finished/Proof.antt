@@ -7,9 +7,12 @@ use Rattle.surveying.proofs.finished.Tie as tie
 open-end-requires : tie.Need-open-end-requires
 open-end-requires c κs = search needs
 
+broken-at-end-requires : tie.Need-broken-at-end-requires
+broken-at-end-requires c κs = search needs
+
 returns : tie.Need-returns
 unfolding finishedOf
-returns c = rw (c .open-end .ensures)
+returns c = let b : tie.After-broken-at-end = search in rw (c .open-end .ensures, b .broken-at-end .ensures)
 
 pub finished-spec : {M : Type 1} → statement M
-finished-spec = tie.close (tie.spec open-end-requires returns)
+finished-spec = tie.close (tie.spec broken-at-end-requires open-end-requires returns)

@@ -25,8 +25,8 @@ abbrev μ-loop : tie.MeasureT-loop
 μ-loop block far₀ at₀ turns₀ far at turns = turns
 
 -- the next piece is within the block
-inside : (mode : ℕ) (block : List ℕ) (at n : ℕ) → at < length block → n ≡ pieceOf mode (drop at block) → at + n ≤ length block
-inside mode block at n h e = omega (arith, e, length-drop at block, piece-within mode (drop at block) (omega (arith, length-drop at block)) .1)
+inside : (mode escape : ℕ) (block : List ℕ) (at n : ℕ) → at < length block → n ≡ pieceOf mode escape (drop at block) → at + n ≤ length block
+inside mode escape block at n h e = omega (arith, e, length-drop at block, piece-within mode escape (drop at block) (omega (arith, length-drop at block)) .1)
 
 loop-holds : tie.Need-loop-holds Inv-loop μ-loop
 loop-holds c = let s : tie.Start Inv-loop μ-loop = search in (refl, s .pre .0, s .pre .1)
@@ -47,7 +47,7 @@ add-piece-of c =
     let l : tie.At-loop Inv-loop μ-loop = search in
     let e : tie.Else1 Inv-loop μ-loop = search in
     let n : tie.After-piece Inv-loop μ-loop = search in
-    let h = inside (l .loop .far .mode) (now (s .args .block)) (l .loop .at) (n .piece .result) (omega (arith, e .if1 .left)) (n .piece .ensures) in
+    let h = inside (l .loop .far .mode) (l .loop .far .escapes .state) (now (s .args .block)) (l .loop .at) (n .piece .result) (omega (arith, e .if1 .left)) (n .piece .ensures) in
     search (needs, h)
 
 sub-piece-of : tie.Need-sub-piece-of Inv-loop μ-loop
@@ -62,7 +62,7 @@ part-piece-of-end c =
     let l : tie.At-loop Inv-loop μ-loop = search in
     let e : tie.Else1 Inv-loop μ-loop = search in
     let n : tie.After-piece Inv-loop μ-loop = search in
-    let h = inside (l .loop .far .mode) (now (s .args .block)) (l .loop .at) (n .piece .result) (omega (arith, e .if1 .left)) (n .piece .ensures) in
+    let h = inside (l .loop .far .mode) (l .loop .far .escapes .state) (now (s .args .block)) (l .loop .at) (n .piece .result) (omega (arith, e .if1 .left)) (n .piece .ensures) in
     search (needs, h)
 
 piece-of-requires : tie.Need-piece-of-requires Inv-loop μ-loop
@@ -74,7 +74,7 @@ add-at c =
     let l : tie.At-loop Inv-loop μ-loop = search in
     let e : tie.Else1 Inv-loop μ-loop = search in
     let n : tie.After-piece Inv-loop μ-loop = search in
-    let h = inside (l .loop .far .mode) (now (s .args .block)) (l .loop .at) (n .piece .result) (omega (arith, e .if1 .left)) (n .piece .ensures) in
+    let h = inside (l .loop .far .mode) (l .loop .far .escapes .state) (now (s .args .block)) (l .loop .at) (n .piece .result) (omega (arith, e .if1 .left)) (n .piece .ensures) in
     search (needs, h)
 
 sub-turns : tie.Need-sub-turns Inv-loop μ-loop

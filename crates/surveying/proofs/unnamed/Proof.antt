@@ -11,9 +11,6 @@ use Rattle.surveying.proofs.unnamed.Tie as tie
 places-requires : tie.Need-places-requires
 places-requires c κs = search needs
 
-no-letters-requires : tie.Need-no-letters-requires
-no-letters-requires c κs = search needs
-
 array-share-prefix-list : tie.Need-array-share-prefix-list
 array-share-prefix-list c = search needs
 
@@ -29,16 +26,14 @@ noted-requires c κs = search needs
 returns : tie.Need-returns
 unfolding unnamedIn
 returns c =
-    let n : tie.After-no-letters = search in
     let p : tie.After-places = search in
-    rw (c .noted .ensures, n .no-letters .ensures, p .places .ensures) refl
+    rw (c .noted .ensures, p .places .ensures) refl
 
 pub unnamed-spec : {M : Type 1} → statement M
 unnamed-spec =
     tie.close
     (tie.spec
     places-requires
-    no-letters-requires
     array-share-prefix-list
     slice-aggregate-noted
     noted-requires

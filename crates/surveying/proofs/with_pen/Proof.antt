@@ -20,7 +20,7 @@ returns c =
     let k : tie.After-inked = search in
     let t : tie.After-nothing = search in
     let o : tie.After-none = search in
-    ((λ i. record { machine = record { state = k .inked .ensures .0 i }; before = s .args .d .before; letters = s .args .d .letters; tally = t .nothing .ensures i; refusals = o .none .ensures i; replies = 0 }), k .inked .ensures .1)
+    ((λ i. record { machine = record { state = k .inked .ensures .0 i }; before = s .args .d .before; letters = s .args .d .letters; nobody = s .args .d .nobody; tally = t .nothing .ensures i; refusals = o .none .ensures i; replies = 0 }), k .inked .ensures .1)
 
 pub with-pen-spec : {M : Type 1} → statement M
 with-pen-spec = tie.close (tie.spec inked-requires nothing-requires none-requires returns)

@@ -53,7 +53,11 @@ returns-11 c = let t : tie.Then11 = search in ap ofForeign (sym (t .if11 .taken)
 
 returns-12 : tie.Need-returns-12
 unfolding ofForeign bytes bytesFrom
-returns-12 c =
+returns-12 c = let t : tie.Then12 = search in ap ofForeign (sym (t .if12 .taken))
+
+returns-13 : tie.Need-returns-13
+unfolding ofForeign bytes bytesFrom
+returns-13 c =
     let b : tie.Start = search in
     let e1 : tie.Else1 = search in
     let e2 : tie.Else2 = search in
@@ -66,8 +70,9 @@ returns-12 c =
     let e9 : tie.Else9 = search in
     let e10 : tie.Else10 = search in
     let e11 : tie.Else11 = search in
+    let e12 : tie.Else12 = search in
     rw
-    (ne-eqb (b .args .kind) (code "a") (e1 .if1 .left), ne-eqb (b .args .kind) (code "b") (e2 .if2 .left), ne-eqb (b .args .kind) (code "e") (e3 .if3 .left), ne-eqb (b .args .kind) (code "f") (e4 .if4 .left), ne-eqb (b .args .kind) (code "l") (e5 .if5 .left), ne-eqb (b .args .kind) (code "n") (e6 .if6 .left), ne-eqb (b .args .kind) (code "o") (e7 .if7 .left), ne-eqb (b .args .kind) (code "s") (e8 .if8 .left), ne-eqb (b .args .kind) (code "t") (e9 .if9 .left), ne-eqb (b .args .kind) (code "v") (e10 .if10 .left), ne-eqb (b .args .kind) (code "w") (e11 .if11 .left))
+    (ne-eqb (b .args .kind) (code "a") (e1 .if1 .left), ne-eqb (b .args .kind) (code "b") (e2 .if2 .left), ne-eqb (b .args .kind) (code "e") (e3 .if3 .left), ne-eqb (b .args .kind) (code "f") (e4 .if4 .left), ne-eqb (b .args .kind) (code "h") (e5 .if5 .left), ne-eqb (b .args .kind) (code "l") (e6 .if6 .left), ne-eqb (b .args .kind) (code "n") (e7 .if7 .left), ne-eqb (b .args .kind) (code "o") (e8 .if8 .left), ne-eqb (b .args .kind) (code "s") (e9 .if9 .left), ne-eqb (b .args .kind) (code "t") (e10 .if10 .left), ne-eqb (b .args .kind) (code "v") (e11 .if11 .left), ne-eqb (b .args .kind) (code "w") (e12 .if12 .left))
 
 pub of-foreign-spec : {M : Type 1} → statement M
 of-foreign-spec =
@@ -84,4 +89,5 @@ of-foreign-spec =
     returns-9
     returns-10
     returns-11
-    returns-12)
+    returns-12
+    returns-13)

@@ -1,7 +1,7 @@
 -- The definition, case by case.
 use borrow.Author.Needs.{needs}
 use borrow.Author.Tests.{eq-eqb, ne-eqb}
-use mathlib.Core.Path.{_≡_, ap, sym, _∙_}
+use mathlib.Core.Path.{_≡_, refl, ap, sym, _∙_}
 use denote.Ref.{now}
 use Rattle.counting.specs.Names.{letters, letterBefore, lettersBefore, nameOf}
 use Prim.Native.Nat.{_-_}
@@ -14,9 +14,6 @@ one-less-requires c κs = search needs
 letter-before-requires : tie.Need-letter-before-requires
 letter-before-requires c κs = search needs
 
-no-letters-requires : tie.Need-no-letters-requires
-no-letters-requires c κs = search needs
-
 returns : tie.Need-returns
 unfolding nameOf
 returns c =
@@ -24,7 +21,7 @@ returns c =
     let t : tie.Then1 = search in
     let b : tie.After-letter-before = search in
     let u : tie.Then2 = search in
-    rw (eq-eqb (s .args .number) 1 (t .if1 .taken), eq-eqb (letterBefore (now (s .args .bytes)) (s .args .at)) 0 (sym (b .letter-before .ensures) ∙ u .if2 .taken)) (c .no-letters .ensures)
+    rw (eq-eqb (s .args .number) 1 (t .if1 .taken), eq-eqb (letterBefore (now (s .args .bytes)) (s .args .at)) 0 (sym (b .letter-before .ensures) ∙ u .if2 .taken)) refl
 
 letters-before-requires : tie.Need-letters-before-requires
 letters-before-requires c κs = search needs
@@ -58,7 +55,6 @@ name-of-spec =
     (tie.spec
     one-less-requires
     letter-before-requires
-    no-letters-requires
     returns
     letters-before-requires
     returns-2
