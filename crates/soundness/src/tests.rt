@@ -7,7 +7,7 @@ ghost use Rattle.exact.specs.Fit.{Bd};
 ghost use Rattle.wellformed.specs.Sound as S;
 use rows::Row;
 
-// Whether a number is at least one and at most another. The two tests stand together, so that a processor makes one of them; each call makes them for every number of a machine.
+// Whether a number is at least one and at most another. The two tests stand together, so that they are compiled to one: each call tests every number of a machine.
 fn inside(low: i64, z: i64, high: i64) -> bool
     ensures { λ t. ⌜ t ≡ ((low ≤? z) && (z ≤? high)) ⌝ }
 {
