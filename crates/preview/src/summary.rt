@@ -115,11 +115,11 @@ fn group(text: &mut [u8; 65536], used: usize, key: u64, count: u64, first: u64) 
     let mut end = put_bytes(text, used, &letters);
     end = put_bytes(text, end, b" refused with ");
     end = put_natural(text, end, number_of(key) as u64);
-    end = put_bytes(text, end, b", ");
+    end = put_bytes(text, end, b" (");
     end = put_natural(text, end, count);
-    end = put_bytes(text, end, b" times from byte ");
+    end = put_bytes(text, end, b", the first at byte ");
     end = put_natural(text, end, first);
-    end = put_bytes(text, end, b" on: ");
+    end = put_bytes(text, end, b"): ");
     end = harm(text, end, kind);
     let words = of_kind(kind);
     put_words(text, end, &words)
@@ -186,7 +186,7 @@ fn pen_row(
     end = metres(text, end, cm);
     end = put_bytes(text, end, b" in ");
     end = put_natural(text, end, strokes);
-    put_bytes(text, end, b"</text>\n")
+    put_bytes(text, end, b" strokes</text>\n")
 }
 
 // The pens that paint, four to a line.
