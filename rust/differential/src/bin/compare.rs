@@ -3,7 +3,8 @@
 //! `compare OLD NEW [NAME..]`: OLD and NEW are two programs `bench`, each linked with its archive; the
 //! script `compare.sh` builds them. Symbols of two archives collide in one program, so each runs in its
 //! own, and they run in turns. Both are started several times for each load, since the system puts
-//! their stacks and lists at other places each time.
+//! their stacks and lists at other places each time. OLD or NEW may be several programs with a comma
+//! between, the same code at other places: then each start takes the next one.
 
 use differential::least::{Least, Times};
 use differential::loads::LOADS;
@@ -65,10 +66,24 @@ impl Side {
     }
 }
 
+/// The programs of one side, the same code at one place or at several.
+struct Programs(Vec<String>);
+
+impl Programs {
+    fn named(list: &str) -> Programs {
+        Programs(list.split(',').map(str::to_string).collect())
+    }
+
+    /// The program of a start.
+    fn at(&self, start: usize) -> &str {
+        &self.0[start % self.0.len()]
+    }
+}
+
 /// Nanoseconds a byte of both programs, started anew, and how far they repeat.
-fn started(programs: &[String; 2], load: &str) -> Result<([f64; 2], f64), Error> {
-    let mut old = Side::start(&programs[0], load)?;
-    let mut new = Side::start(&programs[1], load)?;
+fn started(sides: &[Programs; 2], start: usize, load: &str) -> Result<([f64; 2], f64), Error> {
+    let mut old = Side::start(sides[0].at(start), load)?;
+    let mut new = Side::start(sides[1].at(start), load)?;
     for _ in 0..ROUNDS {
         for side in [&mut old, &mut new] {
             let times = side.turn()?;
@@ -83,8 +98,8 @@ fn started(programs: &[String; 2], load: &str) -> Result<([f64; 2], f64), Error>
 }
 
 /// A row: the means over the starts, their ratio, the ratios of single starts, and how far they repeat.
-fn row(programs: &[String; 2], load: &str) -> Result<String, Error> {
-    let starts: Result<Vec<_>, Error> = (0..STARTS).map(|_| started(programs, load)).collect();
+fn row(sides: &[Programs; 2], load: &str) -> Result<String, Error> {
+    let starts: Result<Vec<_>, Error> = (0..STARTS).map(|k| started(sides, k, load)).collect();
     let starts = starts?;
     let mean = |side: usize| starts.iter().map(|s| s.0[side]).sum::<f64>() / STARTS as f64;
     let single = starts.iter().map(|s| s.0[1] / s.0[0]);
@@ -103,12 +118,12 @@ fn run(mut arguments: Vec<String>) -> Result<(), String> {
         return Err("asks for two programs bench, old and new".to_string());
     }
     let names = arguments.split_off(2);
-    let programs = [arguments.remove(0), arguments.remove(0)];
+    let sides = [Programs::named(&arguments[0]), Programs::named(&arguments[1])];
     println!("| load | old, ns/byte | new | ratio | single starts | repeats |");
     println!("|---|---:|---:|---:|---|---:|");
     for load in LOADS.iter().filter(|load| names.is_empty() || names.iter().any(|n| n == load.name))
     {
-        println!("{}", row(&programs, load.name).map_err(|error| error.to_string())?);
+        println!("{}", row(&sides, load.name).map_err(|error| error.to_string())?);
     }
     Ok(())
 }
