@@ -16,6 +16,10 @@ use Rattle.numerals.specs.Number.{places, bottom, startOf, pointOf, coun
 unfoldable pub fromZero : ℕ → ℕ
 fromZero b = cond (ltb b (code "0")) (b + 4294967248) (b - code "0")
 
+-- 1 for a digit that is at least so large, 0 for one below.
+unfoldable pub reachedOf : ℕ → ℕ → ℕ
+reachedOf d least = cond (ltb d least) 0 1
+
 -- The run that ends at a place.
 abbrev pub ended : ℕ → ℕ → Run
 ended m at = record { magnitude = m; at = at }

@@ -4,8 +4,8 @@ ghost use mathlib.Core.Bool.{true};
 ghost use Prim.Native.Nat.{_≤_, _<_};
 ghost use lib.ListN.{length, drop, getD};
 ghost use Rattle.numerals.specs.Bytes.{isDigit};
-ghost use Rattle.numerals.specs.Number.{bottom, pastOf, startOf, pointOf, soFarOf, countedOf, digitOf, unitOf, tenThousandths, signedOf, largestOf, carryOf, nearestOf, finishOf};
-ghost use Rattle.numerals.specs.Run.{fromZero, runOf, countsWhole, scannedOf, minusLength, wholeAt, digitsFrom, numberAt};
+ghost use Rattle.numerals.specs.Number.{bottom, places, pastOf, startOf, pointOf, soFarOf, countedOf, digitOf, unitOf, tenThousandths, signedOf, largestOf, carryOf, nearestOf, finishOf};
+ghost use Rattle.numerals.specs.Run.{fromZero, reachedOf, runOf, countsWhole, scannedOf, minusLength, wholeAt, digitsFrom, numberAt};
 use super::bytes::is_at;
 use super::bytes::is_digit;
 
@@ -76,18 +76,29 @@ fn unit(decimals: u8) -> u64
     1
 }
 
+// 1 for a digit that is at least so large, 0 for one below.
+fn reached(digit: u8, least: u8) -> u8
+    ensures { λ r. ⌜ r ≡ reachedOf digit least ⌝ }
+{
+    if digit < least {
+        return 0;
+    }
+    1
+}
+
+// The first digit past the fourth decimal. A sum makes no branch: these digits come in no order that a processor could foresee.
+fn first_past(digit: u8) -> u8
+    ensures { λ r. ⌜ r ≡ pastOf places digit ⌝ }
+{
+    BELOW + reached(digit, 5) + reached(digit, 6)
+}
+
 // One digit more past the fourth decimal.
 fn past(decimals: u8, digit: u8) -> u8
     ensures { λ r. ⌜ r ≡ pastOf decimals digit ⌝ }
 {
     if decimals == PLACES {
-        if digit < 5 {
-            return BELOW;
-        }
-        if digit == 5 {
-            return HALF;
-        }
-        return ABOVE;
+        return first_past(digit);
     }
     if decimals == HALF {
         if digit == 0 {
@@ -377,8 +388,8 @@ impl Number {
         let negative = self.negative;
         let decimals = self.decimals;
         let kept = self.ten_thousandths();
-        // most numbers have no decimal past the fourth
-        if HALF <= decimals {
+        // Most drawings have no number with a decimal past the fourth, the others have one in each: asked so, the branch is foreseen.
+        if PLACES < decimals {
             return kept + carry(negative, decimals);
         }
         kept

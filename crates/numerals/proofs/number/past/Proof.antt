@@ -1,12 +1,16 @@
 -- The ways of `pastOf`, in its order: each return is that definition under the tests that led there.
+use borrow.Author.Needs.{needs}
 use Rattle.exact.proofs.Rules.{rules}
 use Rattle.numerals.specs.Number.{pastOf}
 use Rattle.numerals.proofs.number.past.Statement.{statement}
 use Rattle.numerals.proofs.number.past.Tie as tie
 
+first-past-requires : tie.Need-first-past-requires
+first-past-requires c κs = search needs
+
 returns : tie.Need-returns
 unfolding pastOf
-returns c = search rules
+returns c = search (rules, c .first-past .ensures)
 
 returns-2 : tie.Need-returns-2
 unfolding pastOf
@@ -20,13 +24,5 @@ returns-4 : tie.Need-returns-4
 unfolding pastOf
 returns-4 c = search rules
 
-returns-5 : tie.Need-returns-5
-unfolding pastOf
-returns-5 c = search rules
-
-returns-6 : tie.Need-returns-6
-unfolding pastOf
-returns-6 c = search rules
-
 pub past-spec : {M : Type 1} → statement M
-past-spec = tie.close (tie.spec returns returns-2 returns-3 returns-4 returns-5 returns-6)
+past-spec = tie.close (tie.spec first-past-requires returns returns-2 returns-3 returns-4)

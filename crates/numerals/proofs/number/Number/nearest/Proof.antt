@@ -3,7 +3,7 @@ use Prim.Native.Nat.{_≤_, _<_, _^_}
 use native.Mathlib.Omega.{arith}
 use borrow.Author.Needs.{needs}
 use Rattle.exact.proofs.Rules.{rules}
-use Rattle.numerals.specs.Number.{tenThousandths, nearestOf}
+use Rattle.numerals.specs.Number.{places, tenThousandths, nearestOf}
 use Rattle.numerals.specs.NumeralLaws.{no-carry, carry-small}
 use Rattle.numerals.proofs.Laws.{scaled-le}
 use Rattle.numerals.proofs.number.Number.nearest.Statement.{statement}
@@ -30,13 +30,14 @@ returns c =
     let t : tie.After-ten-thousandths = search in
     search (rules, ← c .carry .ensures, ← t .ten-thousandths .ensures)
 
--- nothing past the fourth decimal, or below a half of it
+-- nothing past the fourth decimal
 returns-2 : tie.Need-returns-2
 unfolding nearestOf
 returns-2 c =
     let s : tie.Start = search in
     let n = s .args .self in
-    search (rules, ← c .before .ten-thousandths .ensures, no-carry (n .negative) (n .decimals) (c .if1 .left))
+    let few : n .decimals ≤ places = c .if1 .left in
+    search (rules, ← c .before .ten-thousandths .ensures, no-carry (n .negative) (n .decimals) (omega (arith, few)))
 
 pub nearest-spec : {M : Type 1} → statement M
 nearest-spec = tie.close (tie.spec ten-thousandths-requires carry-requires add-result returns returns-2)
