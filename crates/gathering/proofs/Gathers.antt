@@ -78,7 +78,7 @@ none-remains w at end = go (ltb at end) refl
 -- ---- whether a record is free
 
 module _ (w : Work) (k room : ℕ) where
-  used-all : (on : Bool) → stuckOf on w k room ≡ true → k ≡ room
+  used-all : (on : Bool) → stuckOf on (waiting w) k room ≡ true → k ≡ room
   unfolding stuckOf
   used-all on = go (eqb k room) refl
     where
@@ -86,12 +86,12 @@ module _ (w : Work) (k room : ℕ) where
       go true e h = eqb-true k room e
       go false e h = never refl h
 
-  stuck-on : (on : Bool) → stuckOf on w k room ≡ true → waiting w ≡ 0 → on ≡ true
+  stuck-on : (on : Bool) → stuckOf on (waiting w) k room ≡ true → waiting w ≡ 0 → on ≡ true
   unfolding stuckOf
   stuck-on true h z = refl
   stuck-on false h z = let l = rw (eq-eqb k room (used-all false h)) at h in absurd (omega (arith, z, ltb-true 0 (waiting w) l))
 
-  one-free : (on : Bool) → stuckOf on w k room ≡ false → (waiting w ≡ 0 → on ≡ true) → k ≡ room → ⊥
+  one-free : (on : Bool) → stuckOf on (waiting w) k room ≡ false → (waiting w ≡ 0 → on ≡ true) → k ≡ room → ⊥
   unfolding stuckOf
   one-free true h f e = let l = rw (eq-eqb k room e) at h in never l refl
   one-free false h f e = let l = rw (eq-eqb k room e) at h in never refl (f (omega (arith, ltb-false 0 (waiting w) l)))
@@ -99,20 +99,20 @@ module _ (w : Work) (k room : ℕ) where
   -- why it halts
   data Halts (on : Bool) (n : ℕ) : Type 0 where
     held : replying w ≡ true → n ≡ busy → Halts on n
-    stuck : replying w ≡ false → stuckOf on w k room ≡ true → n ≡ listFull → Halts on n
+    stuck : replying w ≡ false → stuckOf on (waiting w) k room ≡ true → n ≡ listFull → Halts on n
 
   halts : (on : Bool) {n : ℕ} → n ≡ haltedOf on w k room → 0 < n → Halts on n
   unfolding haltedOf
-  halts on {n} = go (replying w) (stuckOf on w k room) refl refl
+  halts on {n} = go (replying w) (stuckOf on (waiting w) k room) refl refl
     where
-      go : (a b : Bool) → replying w ≡ a → stuckOf on w k room ≡ b → n ≡ cond a busy (cond b listFull 0) → 0 < n → Halts on n
+      go : (a b : Bool) → replying w ≡ a → stuckOf on (waiting w) k room ≡ b → n ≡ cond a busy (cond b listFull 0) → 0 < n → Halts on n
       go true b p q e h = held p e
       go false true p q e h = stuck p q e
       go false false p q e h = absurd (omega (arith, e, h))
 
-  not-halted : (on : Bool) {n : ℕ} → n ≡ haltedOf on w k room → n ≤ 0 → (replying w ≡ false) × (stuckOf on w k room ≡ false)
+  not-halted : (on : Bool) {n : ℕ} → n ≡ haltedOf on w k room → n ≤ 0 → (replying w ≡ false) × (stuckOf on (waiting w) k room ≡ false)
   unfolding haltedOf
-  not-halted on = go (replying w) (stuckOf on w k room)
+  not-halted on = go (replying w) (stuckOf on (waiting w) k room)
     where
       go : (a b : Bool) {n : ℕ} → n ≡ cond a busy (cond b listFull 0) → n ≤ 0 → (a ≡ false) × (b ≡ false)
       go true b e h = absurd (omega (arith, e, h))
@@ -206,7 +206,7 @@ module _ {on : Bool} {all : Plot} {s : List ℕ} {entry now : List ℤ} {m : Sta
         far .laid ∙ sym (ap (λ (f : Plot). laidMarks (f .marks) entry) w ∙ ap (λ (ks : List Mark). laidMarks ks entry) z),
       )
 
-  far-full : remainsOf (m .work) at (length s) ≡ true → replying (m .work) ≡ false → stuckOf on (m .work) count (length entry / 5) ≡ true →
+  far-full : remainsOf (m .work) at (length s) ≡ true → replying (m .work) ≡ false → stuckOf on (waiting (m .work)) count (length entry / 5) ≡ true →
       Gathers all entry now (stoppedAs m at count listFull)
   far-full h silent k =
       let z : length entry / 5 - count ≡ 0 = omega (arith, used-all (m .work) count (length entry / 5) on k) in

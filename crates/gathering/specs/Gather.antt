@@ -58,13 +58,17 @@ whole r c st w = record { reader = r; core = c; store = st; work = w }
 unfoldable pub remainsOf : Work → ℕ → ℕ → Bool
 remainsOf w at end = cond (ltb at end) true (ltb 0 (waiting w))
 
--- what comes next may need a record, of which all are used: a segment does, and where refusals are stored any byte
-unfoldable pub stuckOf : Bool → Work → ℕ → ℕ → Bool
-stuckOf on w k room = cond (eqb k room) (cond on true (ltb 0 (waiting w))) false
+-- what comes next may need a record, of which all are used: n segments that wait do, and where refusals are stored any byte
+unfoldable pub stuckOf : Bool → ℕ → ℕ → ℕ → Bool
+stuckOf on n k room = cond (eqb k room) (cond on true (ltb 0 n)) false
 
--- the number that ends it there, or 0; 20 where a reply waits
+-- the number that ends it there, or 0
+abbrev pub fullOf : Bool → ℕ → ℕ → ℕ → ℕ
+fullOf on n k room = cond (stuckOf on n k room) listFull 0
+
+-- 20 where a reply waits
 unfoldable pub haltedOf : Bool → Work → ℕ → ℕ → ℕ
-haltedOf on w k room = cond (replying w) busy (cond (stuckOf on w k room) listFull 0)
+haltedOf on w k room = cond (replying w) busy (fullOf on (waiting w) k room)
 
 -- a segment that may need a record, of which all are used
 unfoldable pub overflowsOf : Segment → ℕ → ℕ → Bool

@@ -32,7 +32,6 @@ use queue::drawing::segment;
 use queue::drawing::vertex;
 use queue::drawing::work_after;
 use queue::storing::queued;
-use queue::storing::replying;
 use queue::storing::stored;
 use queue::storing::waiting;
 use reader::Event;
@@ -146,25 +145,40 @@ fn remains(w: Work, at: usize, end: usize) -> bool
     0 < waiting(w)
 }
 
-// The number that ends it before what comes next, or 0: a reply waits, and no byte is taken; all records are used, and a segment needs one, or,
-// where refusals are stored, any byte.
-fn halted(on: bool, w: Work, count: usize, room: usize) -> u8
+// 01's number where all records are used and what comes next needs one, or 0: segments that wait do, and, where refusals are stored, any byte.
+fn full(on: bool, segments: u16, count: usize, room: usize) -> u8
     requires { ⌜ count ≤ room ⌝ }
-    ensures { λ r. ⌜ r ≡ S.haltedOf on w count room ⌝ }
+    ensures { λ r. ⌜ r ≡ S.fullOf on segments count room ⌝ }
 {
-    if replying(w) {
-        return BUSY;
-    }
     if count < room {
         return 0;
     }
     if on {
         return LIST_FULL;
     }
-    if 0 < waiting(w) {
+    if 0 < segments {
         return LIST_FULL;
     }
     0
+}
+
+// The number that ends it before what comes next, or 0: where a reply waits no byte is taken. What waits is told once, so that a turn of the loop has one branch for it.
+fn halted(on: bool, w: Work, count: usize, room: usize) -> u8
+    requires { ⌜ count ≤ room ⌝ }
+    ensures { λ r. ⌜ r ≡ S.haltedOf on w count room ⌝ }
+{
+    match w {
+        Work::Nothing => full(on, 0, count, room),
+        Work::Line(_, _) => full(on, 1, count, room),
+        Work::Chords(_, _, n) => full(on, n, count, room),
+        Work::Edges(_, n) => full(on, n as u16, count, room),
+        Work::Answer(r) => {
+            if r.count != 0 {
+                return BUSY;
+            }
+            full(on, 0, count, room)
+        }
+    }
 }
 
 // Whether a segment may need a record, of which all are used.

@@ -98,16 +98,3 @@ pub fn waiting(w: Work) -> u16
         Work::Answer(_) => 0,
     }
 }
-
-// Whether a reply waits.
-pub fn replying(w: Work) -> bool
-    ensures { λ r. ⌜ r ≡ M.replying w ⌝ }
-{
-    match w {
-        Work::Nothing => false,
-        Work::Line(_, _) => false,
-        Work::Chords(_, _, _) => false,
-        Work::Edges(_, _) => false,
-        Work::Answer(r) => r.count != 0,
-    }
-}
