@@ -1,47 +1,32 @@
 // Runs byte sequences over the machine. Each line of standard input names the calls to make, and its outcome is printed in one line.
 // The head of the stored `stdin` says how a line is written, docs/VECTORS.md where the outcomes in the stored `stdout` come from.
 ghost use Rattle.hpgl.specs.Valid.{Usable};
-
-mod calls;
-mod drives;
-mod feeds;
-mod fetches;
-mod fields;
-mod outcome;
-mod sequence;
-
-use calls::Course;
-use calls::look_at;
-use calls::run;
+use clip::Rect;
+use courses::BYTES;
+use courses::Course;
+use courses::begun;
+use courses::feed_all;
+use courses::feed_once;
+use courses::look_at;
+use courses::run;
 use drive::drive;
-use drives::put_moves;
-use feeds::BYTES;
-use feeds::bytes_of;
-use feeds::feed_all;
-use feeds::feed_once;
-use fields::field;
-use fields::name_of;
-use fields::natural_at;
-use fields::whole_at;
 use libc::STDIN_FILENO;
 use machine::Machine;
 use machine::Stroke;
-use outcome::put_number;
+use outcomes::moves::put_moves;
+use outcomes::put_limits;
 use output::put_byte;
 use output::put_bytes;
-use sequence::PLAIN;
-use sequence::ROOM;
-use sequence::write_out;
+use sequences::codes::ROOM;
+use sequences::codes_of;
+use sequences::fields::field;
+use sequences::fields::name_of;
+use sequences::fields::whole_at;
+use sequences::number_of;
+use sequences::plain_of;
 
 // The hard limits of the lines to come.
-struct Limits {
-    left: i64,
-    bottom: i64,
-    right: i64,
-    top: i64,
-}
-
-const USUAL: Limits = Limits {
+const USUAL: Rect = Rect {
     left: -10000,
     bottom: -7000,
     right: 10000,
@@ -56,7 +41,7 @@ fn kind_of(line: &[u8]) -> u8 {
 }
 
 // The limits that a line sets: its four numbers, or the usual ones where it has none.
-fn limits_of(line: &[u8]) -> Limits {
+fn limits_of(line: &[u8]) -> Rect {
     if line.len() <= 7 {
         return USUAL;
     }
@@ -64,7 +49,7 @@ fn limits_of(line: &[u8]) -> Limits {
     let bottom = whole_at(line, left.next);
     let right = whole_at(line, bottom.next);
     let top = whole_at(line, right.next);
-    Limits {
+    Rect {
         left: left.value,
         bottom: bottom.value,
         right: right.value,
@@ -73,16 +58,12 @@ fn limits_of(line: &[u8]) -> Limits {
 }
 
 // Limits, and the number that fresh answers for them.
-fn put_limits(limits: Limits, out: &mut [u8; 65536], used: usize) -> usize {
+fn run_limits(limits: Rect, out: &mut [u8; 65536], used: usize) -> usize {
     let started = Machine::fresh(limits.left, limits.bottom, limits.right, limits.top);
-    let end = put_number(out, used, b"limits ", limits.left);
-    let end = put_number(out, end, b" ", limits.bottom);
-    let end = put_number(out, end, b" ", limits.right);
-    let end = put_number(out, end, b" ", limits.top);
-    put_number(out, end, b" | ", started.number as i64)
+    put_limits(out, used, limits, started.number)
 }
 
-fn fresh_machine(limits: Limits) -> Machine
+fn fresh_machine(limits: Rect) -> Machine
     ensures { λ r. ⌜ Usable (r .state) ⌝ }
 {
     let started = Machine::fresh(limits.left, limits.bottom, limits.right, limits.top);
@@ -97,58 +78,40 @@ fn put_name(line: &[u8], out: &mut [u8; 65536], used: usize) -> usize {
     put_bytes(out, end, b" |")
 }
 
-// The number of a field.
-fn number_of(line: &[u8], n: usize) -> u64 {
-    let span = field(line, n);
-    let number = natural_at(line, span.from);
-    number.value
-}
-
-// The sequence of a field, written out.
-fn codes_of(line: &[u8], n: usize, codes: &mut [u16; ROOM]) -> usize {
-    let span = field(line, n);
-    let from = span.from;
-    let to = span.to;
-    write_out(&line[from..to], codes)
-}
-
-fn run_take(line: &[u8], limits: Limits, out: &mut [u8; 65536], used: usize) -> usize {
+// The calls over the sequence of a line's first field, from a fresh machine.
+fn run_codes(line: &[u8], limits: Rect, hold: bool, out: &mut [u8; 65536], used: usize) -> Course
+    ensures { λ r. ⌜ Usable (r .machine .state) ⌝ }
+{
     let mut codes = [0u16; ROOM];
     let count = codes_of(line, 1, &mut codes);
-    let start = Course {
-        machine: fresh_machine(limits),
-        hold: false,
-        taken: 0,
-        used: used,
-    };
-    let course = run(start, &codes, count, out);
+    run(begun(fresh_machine(limits), hold, used), &codes, count, out)
+}
+
+fn run_take(line: &[u8], limits: Rect, out: &mut [u8; 65536], used: usize) -> usize {
+    let course = run_codes(line, limits, false, out, used);
     let end = put_bytes(out, course.used, b" |");
     let last = course.machine;
     look_at(last, out, end)
 }
 
-fn run_feed(line: &[u8], limits: Limits, out: &mut [u8; 65536], used: usize) -> usize {
-    let mut codes = [0u16; ROOM];
-    let before = codes_of(line, 1, &mut codes);
-    let start = Course {
-        machine: fresh_machine(limits),
-        hold: true,
-        taken: 0,
-        used: used,
-    };
-    let course = run(start, &codes, before, out);
-    codes_of(line, 3, &mut codes);
+// One feed of a line's third field, into as many records as its second one says.
+fn feed_line(line: &[u8], m: Machine, out: &mut [u8; 65536], used: usize) -> usize
+    requires { ⌜ Usable (m .state) ⌝ }
+{
     let mut bytes = [0u8; BYTES];
-    let n = bytes_of(&codes, 0, PLAIN, &mut bytes);
-    let m = course.machine;
-    feed_once(m, &bytes[0..n], number_of(line, 2), out, course.used)
+    let n = plain_of(line, 3, &mut bytes);
+    feed_once(m, &bytes[0..n], number_of(line, 2), out, used)
 }
 
-fn run_strokes(line: &[u8], limits: Limits, out: &mut [u8; 65536], used: usize) -> usize {
-    let mut codes = [0u16; ROOM];
-    codes_of(line, 1, &mut codes);
+fn run_feed(line: &[u8], limits: Rect, out: &mut [u8; 65536], used: usize) -> usize {
+    let course = run_codes(line, limits, true, out, used);
+    let m = course.machine;
+    feed_line(line, m, out, course.used)
+}
+
+fn run_strokes(line: &[u8], limits: Rect, out: &mut [u8; 65536], used: usize) -> usize {
     let mut bytes = [0u8; BYTES];
-    let n = bytes_of(&codes, 0, PLAIN, &mut bytes);
+    let n = plain_of(line, 1, &mut bytes);
     feed_all(fresh_machine(limits), &bytes[0..n], out, used)
 }
 
@@ -172,7 +135,7 @@ fn run_drive(line: &[u8], out: &mut [u8; 65536], used: usize) -> usize {
 }
 
 // A line of calls. Comments and empty lines are none.
-fn run_line(line: &[u8], limits: Limits, out: &mut [u8; 65536], used: usize) -> usize {
+fn run_line(line: &[u8], limits: Rect, out: &mut [u8; 65536], used: usize) -> usize {
     let kind = kind_of(line);
     let named = put_name(line, out, used);
     if kind == b't' {
@@ -209,7 +172,7 @@ fn run_lines(text: &[u8]) {
         }
         if kind_of(line) == b'l' {
             limits = limits_of(line);
-            used = put_limits(limits, &mut out, used);
+            used = run_limits(limits, &mut out, used);
         } else {
             used = run_line(line, limits, &mut out, used);
         }

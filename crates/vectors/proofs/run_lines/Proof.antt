@@ -47,8 +47,8 @@ kind-of-requires c κs = search needs
 limits-of-requires : tie.Need-limits-of-requires Inv-loop μ-loop
 limits-of-requires c κs = search needs
 
-put-limits-requires : tie.Need-put-limits-requires Inv-loop μ-loop
-put-limits-requires c κs = search needs
+run-limits-requires : tie.Need-run-limits-requires Inv-loop μ-loop
+run-limits-requires c κs = search needs
 
 run-line-requires : tie.Need-run-line-requires Inv-loop μ-loop
 run-line-requires c κs = search needs
@@ -89,7 +89,7 @@ run-lines-spec =
     loop-again
     kind-of-requires
     limits-of-requires
-    put-limits-requires
+    run-limits-requires
     run-line-requires
     put-byte-requires
     loop-less-2
