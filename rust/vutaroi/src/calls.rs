@@ -29,12 +29,7 @@ extern "C" {
     ) -> u8;
     fn vutaroi_take(state: *mut i64, state_len: usize, byte: u8) -> u8;
     fn vutaroi_draw(state: *mut i64, state_len: usize, stroke: *mut i64, stroke_len: usize) -> u8;
-    fn vutaroi_look(
-        state: *const i64,
-        state_len: usize,
-        seen: *mut i64,
-        seen_len: usize,
-    ) -> u8;
+    fn vutaroi_look(state: *const i64, state_len: usize, seen: *mut i64, seen_len: usize) -> u8;
     fn vutaroi_fetch(
         state: *mut i64,
         state_len: usize,

@@ -84,7 +84,9 @@ pub enum NotWritten {
 impl fmt::Display for NotWritten {
     fn fmt(&self, f: &mut fmt::Formatter<'_>) -> fmt::Result {
         f.write_str(match self {
-            NotWritten::Stroke => "a stroke has a pen other than 1 to 8, or an end outside -32768 to 32767",
+            NotWritten::Stroke => {
+                "a stroke has a pen other than 1 to 8, or an end outside -32768 to 32767"
+            }
             NotWritten::Short => "the output is too short",
         })
     }
@@ -255,7 +257,10 @@ mod tests {
 
     fn drawn() -> Machine {
         let (mut machine, _) = Machine::fresh(-10000, -7000, 10000, 7000);
-        assert_eq!(machine.plot(b"SP1;PA0,0;PD100,5", &mut [Mark::default(); 8]).map(|f| f.number), Ok(0));
+        assert_eq!(
+            machine.plot(b"SP1;PA0,0;PD100,5", &mut [Mark::default(); 8]).map(|f| f.number),
+            Ok(0)
+        );
         machine
     }
 
@@ -397,8 +402,9 @@ mod tests {
             2 => next(21) - 10,
             _ => next(65536) - 32768,
         };
-        let strokes: Vec<Stroke> =
-            (0..20_000).map(|i| stroke(end(3).rem_euclid(8) + 1, end(i), end(i + 1), end(i / 3), end(i / 7))).collect();
+        let strokes: Vec<Stroke> = (0..20_000)
+            .map(|i| stroke(end(3).rem_euclid(8) + 1, end(i), end(i + 1), end(i / 3), end(i / 7)))
+            .collect();
         let mut out = vec![0; most_bytes(strokes.len())];
         let length = write(&strokes, &mut out).expect("pens and ends are in range");
         let (mut machine, _) = Machine::fresh(-32768, -32768, 32767, 32767);
