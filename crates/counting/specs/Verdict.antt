@@ -7,8 +7,10 @@ use lib.Dec.{ltb}
 use Rattle.console.specs.Sums.{added}
 use Rattle.clip.specs.declared.Rect.{Rect}
 use Rattle.measure.specs.Root.{narrowOf}
+use Rattle.counting.specs.declared.refusals.Refusals.{Refusals}
 use Rattle.counting.specs.declared.tally.Extent.{Extent}
 use Rattle.counting.specs.declared.tally.Tally.{Tally}
+use Rattle.counting.specs.Refusals.{harmIn}
 
 -- segments of which the limits leave a part or nothing
 abbrev pub cutOff : Tally → ℕ
@@ -18,10 +20,14 @@ cutOff t = added (t .clipped) (t .hidden)
 abbrev pub segmentsOf : Tally → ℕ
 segmentsOf t = added (t .whole) (cutOff t)
 
+-- how many refusals change the drawing: an escape sequence that is broken off is none, so that its refusals are not harmless, and counts as one
+unfoldable pub harmsOf : Refusals → ℕ → ℕ
+harmsOf r broken = harmIn (r .keys) (r .counts) (added (r .others) broken)
+
 -- no refusal changes the drawing, no line type has numbers, no line is lost to pen 0, nothing is cut off, it was read to its end, and something is painted
-unfoldable pub fitOf : Tally → ℕ → ℕ → ℕ → Bool → Bool → Bool
-fitOf t harm types lost unended unread =
-    cond (ltb 0 harm) false
+unfoldable pub fitOf : Tally → Refusals → ℕ → ℕ → ℕ → Bool → Bool → Bool
+fitOf t r broken types lost unended unread =
+    cond (ltb 0 (harmsOf r broken)) false
     (cond (ltb 0 types) false
     (cond (ltb 0 lost) false
     (cond (ltb 0 (cutOff t)) false
@@ -29,9 +35,10 @@ fitOf t harm types lost unended unread =
     (cond unread false
     (t .paint .end .some))))))
 
--- what "fit to paint" says, in both directions
-pub record Fit (t : Tally) (harm types lost : ℕ) (unended unread : Bool) : Type 0 where
-  pub harmless : harm ≡ 0
+-- what "fit to paint" says, in both directions: of refusals, that those of harmful groups and those without a group are none
+pub record Fit (t : Tally) (r : Refusals) (broken types lost : ℕ) (unended unread : Bool) : Type 0 where
+  pub harmless : harmIn (r .keys) (r .counts) (r .others) ≡ 0
+  pub unbroken : broken ≡ 0
   pub whole-lines : types ≡ 0
   pub inked : lost ≡ 0
   pub uncut : cutOff t ≡ 0

@@ -1,6 +1,8 @@
 // Whether a drawing is fit to paint.
 ghost use mathlib.Core.Path.{_≡_};
 ghost use Rattle.counting.specs.Verdict as S;
+use super::refusals::Refusals;
+use super::refusals::harm;
 use super::tally::Extent;
 use super::tally::Tally;
 use clip::Rect;
@@ -21,13 +23,31 @@ pub fn segments(t: Tally) -> u64
     sum(t.whole, cut_off(t))
 }
 
-// Something is painted, nothing is cut off, no refusal changes the drawing, no line has another type or no pen, and it was read to its end.
-pub fn fit(t: Tally, harm: u64, types: u64, lost: u64, unended: bool, unread: bool) -> bool
-    ensures { λ r. ⌜ r ≡ S.fitOf t harm types lost unended unread ⌝ }
+// How many refusals change the drawing. An escape sequence that is broken off is none, and its refusals are not harmless: one counts.
+pub fn harms(r: Refusals, broken: u64) -> u64
+    ensures { λ n. ⌜ n ≡ S.harmsOf r broken ⌝ }
+{
+    let keys = r.keys;
+    let counts = r.counts;
+    harm(keys, counts, sum(r.others, broken))
+}
+
+// Something is painted, nothing is cut off, no refusal changes the drawing, no escape sequence is broken off, no line has another type or no pen, and it was
+// read to its end.
+pub fn fit(
+    t: Tally,
+    r: Refusals,
+    broken: u64,
+    types: u64,
+    lost: u64,
+    unended: bool,
+    unread: bool,
+) -> bool
+    ensures { λ f. ⌜ f ≡ S.fitOf t r broken types lost unended unread ⌝ }
 {
     let paint = t.paint;
     let end = paint.end;
-    if harm > 0 {
+    if harms(r, broken) > 0 {
         return false;
     }
     if types > 0 {

@@ -1,10 +1,8 @@
 // The page, from its title to its verdict.
 use clip::Rect;
-use console::sum;
 use counting::refusals::GROUPS;
 use counting::refusals::PLACES;
 use counting::refusals::Refusals;
-use counting::refusals::harm;
 use counting::refusals::kind_of;
 use counting::refusals::name_in;
 use counting::refusals::number_of;
@@ -13,6 +11,7 @@ use counting::tally::Paint;
 use counting::tally::Tally;
 use counting::verdict::cut_off;
 use counting::verdict::fit;
+use counting::verdict::harms;
 use counting::verdict::little;
 use counting::verdict::total;
 use measure::centimetres;
@@ -290,14 +289,14 @@ fn refused(text: &mut [u8; 65536], used: usize, r: Refusals) -> usize {
 }
 
 // Why a drawing is not fit to paint.
-fn reasons(text: &mut [u8; 65536], used: usize, s: Surveyed, harms: u64, cut: u64) -> usize {
+fn reasons(text: &mut [u8; 65536], used: usize, s: Surveyed, harm: u64, cut: u64) -> usize {
     let t = s.tally;
     let p = t.paint;
     let last = p.end;
     let mut end = used;
-    if harms > 0 {
+    if harm > 0 {
         end = put_bytes(text, end, b" refusals that change the drawing: ");
-        end = natural_then(text, end, harms, b'.');
+        end = natural_then(text, end, harm, b'.');
     }
     if s.broken > 0 {
         end = put_bytes(text, end, b" of them escape sequences broken off: ");
@@ -347,16 +346,12 @@ fn warnings(text: &mut [u8; 65536], used: usize, t: Tally, hard: Rect) -> usize 
 fn verdict(text: &mut [u8; 65536], used: usize, s: Surveyed, hard: Rect) -> usize {
     let t = s.tally;
     let r = s.refusals;
-    let keys = r.keys;
-    let counts = r.counts;
-    // an escape sequence that is broken off is none, and its refusals are not harmless: one counts
-    let harms = harm(keys, counts, sum(r.others, s.broken));
-    if fit(t, harms, s.types, s.lost, s.unended, s.unread) {
+    if fit(t, r, s.broken, s.types, s.lost, s.unended, s.unread) {
         let end = put_bytes(text, used, b"fit to paint");
         return warnings(text, end, t, hard);
     }
     let end = put_bytes(text, used, b"not fit to paint:");
-    reasons(text, end, s, harms, cut_off(t))
+    reasons(text, end, s, harms(r, s.broken), cut_off(t))
 }
 
 pub fn page(hard: Rect, s: Surveyed, scale: u8) {
