@@ -129,8 +129,8 @@ fn driven(e: End, to: Point) -> u64
     0
 }
 
-// So much more for a pen.
-fn for_pen(list: [u64; 9], pen: u8, more: u64) -> [u64; 9]
+// So much more for a pen, in a list by pens.
+pub fn for_pen(list: [u64; 9], pen: u8, more: u64) -> [u64; 9]
     ensures { λ r. ⌜ r ≡ S.forPen list pen more ⌝ }
 {
     let mut changed = list;
