@@ -14,9 +14,9 @@ use Rattle.console.specs.Sums.{added}
 use Rattle.counting.specs.Names.{lettersBefore}
 use Rattle.noting.specs.Inks.{inksOf}
 use Rattle.noting.specs.Refusals.{refuses, refusedOf}
-use Rattle.preview.specs.declared.strokes.Hand.{Hand}
+use Rattle.tracing.specs.declared.Hand.{Hand}
+use Rattle.captions.specs.declared.Painted.{Painted}
 use Rattle.preview.specs.declared.strokes.Drawing.{Drawing}
-use Rattle.preview.specs.declared.strokes.Painted.{Painted}
 
 -- a buffer that takes every reply (`reply-short` in ReplyLaws.antt of hpgl)
 abbrev pub replyBytes : ℕ

@@ -6,7 +6,7 @@ use lib.ListN.{length, drop, length-drop}
 use Rattle.hpgl.specs.Valid.{Usable}
 use Rattle.hpgl.specs.ValidKept.{usable-fetch}
 use Rattle.feeding.specs.FeedLaws.{feed-usable, feed-place}
-use Rattle.preview.specs.declared.strokes.Hand.{Hand}
+use Rattle.tracing.specs.declared.Hand.{Hand}
 use Rattle.preview.specs.declared.strokes.Drawing.{Drawing}
 use Rattle.preview.specs.Drawing.{replyBytes, stepOf}
 

@@ -1,3 +1,2 @@
 pub mod Drawing
-pub mod Sheet
 pub mod DrawingLaws

@@ -4,21 +4,19 @@ ghost use Rattle.hpgl.specs.Valid.{Usable};
 use arguments::desk::asked;
 use arguments::desk::ready;
 use arguments::desk::refused;
+use captions::summary;
 use machine::Machine;
 
-mod sheet;
 mod strokes;
-mod summary;
 
 use output::finish;
 use output::put_bytes;
-use sheet::Grid;
-use sheet::Sheet;
-use sheet::grid_of;
-use sheet::head;
-use sheet::sheet_of;
+use sheets::Grid;
+use sheets::Sheet;
+use sheets::grid_of;
+use sheets::head;
+use sheets::sheet_of;
 use strokes::paint;
-use summary::summary;
 
 // The page of a drawing of which something could be read.
 fn page(machine: Machine, s: Sheet, g: Grid, file: usize)

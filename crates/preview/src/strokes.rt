@@ -1,5 +1,4 @@
-// The strokes of the input, each a part of a path or a dot of the picture, and a cross where the pen stood when a byte was refused. Feed gives the strokes, in
-// lists of at most 64.
+// The strokes of the input, each a part of the picture, with a cross where the pen stood when a byte was refused. Feed gives the strokes, in lists of at most 64.
 ghost use Prim.Native.Nat.{_+_, _≤_};
 ghost use lib.ListN.{length};
 ghost use mathlib.Core.Path.{_≡_};
@@ -7,6 +6,7 @@ ghost use Rattle.console.specs.Sums.{largest};
 ghost use Rattle.hpgl.specs.Valid.{Usable};
 ghost use Rattle.preview.specs.Drawing.{quietOf, countOf, afterOf, stepOf, begunOf, flushedOf, endedOf};
 use arguments::desk::unread;
+use captions::Painted;
 use clip::Point;
 use console::sum;
 use counting::names::Letters;
@@ -14,10 +14,8 @@ use counting::names::letters_before;
 use counting::names::no_letters;
 use counting::refusals::Refusals;
 use counting::refusals::none;
-use drive::ends_equal;
 use feed::Listed;
 use feed::feed_list;
-use hpgl::Stroke;
 use libc::STDIN_FILENO;
 use machine::Machine;
 use noting::Inks;
@@ -27,11 +25,11 @@ use noting::no_inks;
 use noting::refused;
 use output::failed;
 use output::flush;
-use output::put_byte;
-use output::put_bytes;
-use output::put_natural;
-use output::put_whole;
 use streams::read;
+use tracing::Hand;
+use tracing::closed;
+use tracing::cross;
+use tracing::elements;
 
 // A proved loop has to end: these go round so often at most, which no input uses up.
 const TURNS: u64 = 0x800000000000;
@@ -41,15 +39,6 @@ const REPLY: usize = 37;
 
 // So many refusals have a cross.
 const CROSSES: u64 = 40;
-
-// How far the text is: how much of the buffer is used, whether a stroke was put, and of a path that is open its pen and its end; pen 0 for none.
-struct Hand {
-    used: usize,
-    begun: bool,
-    pen: u8,
-    x: i64,
-    y: i64,
-}
 
 // How far the drawing is: the machine, the bytes before the block and their last letters, the place in it, what is painted, what was refused and how often,
 // whether some of the block is left, and the text.
@@ -63,166 +52,6 @@ struct Drawing {
     refused: u64,
     more: bool,
     hand: Hand,
-}
-
-// A whole input, or what could be read and written of it: how many bytes were read, and whether the rest could not be.
-pub struct Painted {
-    pub inks: Inks,
-    pub refusals: Refusals,
-    pub refused: u64,
-    pub read: u64,
-    pub unread: bool,
-    pub used: usize,
-}
-
-fn point(text: &mut [u8; 65536], used: usize, x: i64, y: i64) -> usize {
-    let mut end = put_whole(text, used, x);
-    end = put_byte(text, end, b' ');
-    put_whole(text, end, y)
-}
-
-// Ends the path that is open.
-fn closed(text: &mut [u8; 65536], h: Hand) -> Hand {
-    if h.pen == 0 {
-        return h;
-    }
-    Hand {
-        used: put_bytes(text, h.used, b"\"/>\n"),
-        begun: h.begun,
-        pen: 0,
-        x: 0,
-        y: 0,
-    }
-}
-
-// Whether a stroke goes on where the path that is open ends.
-fn joins(h: Hand, s: Stroke) -> bool {
-    if h.pen != s.pen {
-        return false;
-    }
-    if h.x != s.x0 {
-        return false;
-    }
-    h.y == s.y0
-}
-
-// A line of the picture.
-fn line(text: &mut [u8; 65536], h: Hand, s: Stroke) -> Hand {
-    let mut end = h.used;
-    if joins(h, s) {
-        end = put_byte(text, end, b' ');
-        return Hand {
-            used: point(text, end, s.x1, s.y1),
-            begun: true,
-            pen: s.pen,
-            x: s.x1,
-            y: s.y1,
-        };
-    }
-    let c = closed(text, h);
-    end = put_bytes(text, c.used, b"<path class=\"p");
-    end = put_natural(text, end, s.pen as u64);
-    end = put_bytes(text, end, b"\" d=\"M");
-    end = point(text, end, s.x0, s.y0);
-    end = put_byte(text, end, b'L');
-    Hand {
-        used: point(text, end, s.x1, s.y1),
-        begun: true,
-        pen: s.pen,
-        x: s.x1,
-        y: s.y1,
-    }
-}
-
-// The middle of a circle, and its radius.
-fn round(text: &mut [u8; 65536], used: usize, s: Stroke, radius: u64) -> usize {
-    let mut end = put_bytes(text, used, b"\" cx=\"");
-    end = put_whole(text, end, s.x0);
-    end = put_bytes(text, end, b"\" cy=\"");
-    end = put_whole(text, end, s.y0);
-    end = put_bytes(text, end, b"\" r=\"");
-    end = put_natural(text, end, radius);
-    put_bytes(text, end, b"\"/>\n")
-}
-
-// A stroke of no length: a line of it would be too small to be found.
-fn dot(text: &mut [u8; 65536], h: Hand, s: Stroke, radius: u64) -> Hand {
-    let c = closed(text, h);
-    let mut end = put_bytes(text, c.used, b"<circle class=\"d p");
-    end = put_natural(text, end, s.pen as u64);
-    Hand {
-        used: round(text, end, s, radius),
-        begun: true,
-        pen: 0,
-        x: 0,
-        y: 0,
-    }
-}
-
-// A ring where the first stroke starts.
-fn start(text: &mut [u8; 65536], h: Hand, s: Stroke, radius: u64) -> Hand {
-    if h.begun {
-        return h;
-    }
-    let end = put_bytes(text, h.used, b"<circle class=\"s");
-    Hand {
-        used: round(text, end, s, sum(radius, radius)),
-        begun: true,
-        pen: 0,
-        x: 0,
-        y: 0,
-    }
-}
-
-fn element(text: &mut [u8; 65536], h: Hand, s: Stroke, radius: u64) -> Hand {
-    let from = start(text, h, s, radius);
-    if ends_equal(s) {
-        return dot(text, from, s, radius);
-    }
-    line(text, from, s)
-}
-
-// The first strokes of a list.
-fn elements(text: &mut [u8; 65536], h: Hand, list: [Stroke; 64], count: usize, radius: u64) -> Hand
-    requires { ⌜ count ≤ 64 ⌝ }
-{
-    let mut far = h;
-    let mut i = 0;
-    while i < count {
-        let s = list[i];
-        far = element(text, far, s, radius);
-        i += 1;
-    }
-    far
-}
-
-// A cross with arms of this length.
-fn cross(text: &mut [u8; 65536], h: Hand, at: Point, arm: u64) -> Hand {
-    let c = closed(text, h);
-    let whole = sum(arm, arm);
-    let mut end = put_bytes(text, c.used, b"<path class=\"x\" d=\"M");
-    end = point(text, end, at.x, at.y);
-    end = put_bytes(text, end, b"m-");
-    end = put_natural(text, end, arm);
-    end = put_byte(text, end, b'-');
-    end = put_natural(text, end, arm);
-    end = put_byte(text, end, b'l');
-    end = put_natural(text, end, whole);
-    end = put_byte(text, end, b' ');
-    end = put_natural(text, end, whole);
-    end = put_bytes(text, end, b"m0-");
-    end = put_natural(text, end, whole);
-    end = put_bytes(text, end, b"l-");
-    end = put_natural(text, end, whole);
-    end = put_byte(text, end, b' ');
-    end = put_natural(text, end, whole);
-    Hand {
-        used: put_bytes(text, end, b"\"/>\n"),
-        begun: h.begun,
-        pen: 0,
-        x: 0,
-        y: 0,
-    }
 }
 
 // A cross where the carriage stands, if a byte was refused and not too many before.

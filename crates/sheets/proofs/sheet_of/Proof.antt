@@ -8,9 +8,9 @@ use mir.Val.{SFits}
 use Rattle.exact.specs.Fit.{arg}
 use Rattle.measure.specs.Root.{across}
 use Rattle.measure.specs.RootLaws.{side-small}
-use Rattle.preview.specs.Sheet.{letterOf, laidOut, sheetOf}
-use Rattle.preview.proofs.sheet.sheet_of.Statement.{statement}
-use Rattle.preview.proofs.sheet.sheet_of.Tie as tie
+use Rattle.sheets.specs.Sheet.{letterOf, laidOut, sheetOf}
+use Rattle.sheets.proofs.sheet_of.Statement.{statement}
+use Rattle.sheets.proofs.sheet_of.Tie as tie
 
 -- the limits fit
 module _ (s : tie.Start) where

@@ -1,8 +1,8 @@
 -- Fewer than 64.
 use borrow.Author.Needs.{needs}
 use Prim.Native.Nat.{_≤_, _-_}
-use Rattle.preview.proofs.sheet.marks.Statement.{statement}
-use Rattle.preview.proofs.sheet.marks.Tie as tie
+use Rattle.sheets.proofs.marks.Statement.{statement}
+use Rattle.sheets.proofs.marks.Tie as tie
 
 abbrev Inv-loop : tie.InvT-loop
 Inv-loop text₀ used s g upright numbers most end₀ at₀ metres₀ i₀ text end at metres i = i ≤ 64

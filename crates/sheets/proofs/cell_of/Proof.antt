@@ -2,9 +2,9 @@
 use borrow.Author.Needs.{needs}
 use borrow.Author.Tests.{eq-eqb, ne-eqb}
 use mathlib.Core.Path.{refl}
-use Rattle.preview.specs.Sheet.{cellOf}
-use Rattle.preview.proofs.sheet.cell_of.Statement.{statement}
-use Rattle.preview.proofs.sheet.cell_of.Tie as tie
+use Rattle.sheets.specs.Sheet.{cellOf}
+use Rattle.sheets.proofs.cell_of.Statement.{statement}
+use Rattle.sheets.proofs.cell_of.Tie as tie
 
 returns : tie.Need-returns
 unfolding cellOf

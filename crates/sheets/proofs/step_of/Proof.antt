@@ -1,8 +1,8 @@
 -- The definition, case by case.
 use Rattle.exact.proofs.Rules.{rules}
-use Rattle.preview.specs.Sheet.{stepOf}
-use Rattle.preview.proofs.sheet.step_of.Statement.{statement}
-use Rattle.preview.proofs.sheet.step_of.Tie as tie
+use Rattle.sheets.specs.Sheet.{stepOf}
+use Rattle.sheets.proofs.step_of.Statement.{statement}
+use Rattle.sheets.proofs.step_of.Tie as tie
 
 returns : tie.Need-returns
 unfolding stepOf

@@ -1,8 +1,8 @@
 -- The loop has put i strokes.
 use borrow.Author.Needs.{needs}
 use Prim.Native.Nat.{_≤_, _-_}
-use Rattle.preview.proofs.strokes.elements.Statement.{statement}
-use Rattle.preview.proofs.strokes.elements.Tie as tie
+use Rattle.tracing.proofs.elements.Statement.{statement}
+use Rattle.tracing.proofs.elements.Tie as tie
 
 abbrev Inv-loop : tie.InvT-loop
 Inv-loop text₀ count radius list far₀ i₀ text far i = (i ≤ count)

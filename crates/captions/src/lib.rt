@@ -1,8 +1,4 @@
 // What stands above the sheet: its size and scale, the counts, the refusals in groups, and the pens with their metres.
-use super::sheet::Grid;
-use super::sheet::Sheet;
-use super::sheet::below;
-use super::strokes::Painted;
 use console::sum;
 use counting::refusals::Refusals;
 use counting::refusals::kind_of;
@@ -16,8 +12,21 @@ use output::put_byte;
 use output::put_bytes;
 use output::put_natural;
 use output::put_words;
+use sheets::Grid;
+use sheets::Sheet;
+use sheets::below;
 use words::harmless;
 use words::of_kind;
+
+// A whole input, or what could be read and written of it: how many bytes were read, and whether the rest could not be.
+pub struct Painted {
+    pub inks: Inks,
+    pub refusals: Refusals,
+    pub refused: u64,
+    pub read: u64,
+    pub unread: bool,
+    pub used: usize,
+}
 
 // So many groups have a line.
 const SHOWN: usize = 6;

@@ -5,8 +5,8 @@ use lib.Dec.{eqb, leb}
 use lib.IntN.{ℤ}
 use Rattle.clip.specs.declared.Rect.{Rect}
 use Rattle.measure.specs.Root.{across, iceOf}
-use Rattle.preview.specs.declared.sheet.Sheet.{Sheet}
-use Rattle.preview.specs.declared.sheet.Grid.{Grid}
+use Rattle.sheets.specs.declared.Sheet.{Sheet}
+use Rattle.sheets.specs.declared.Grid.{Grid}
 
 -- the larger the sheet, the larger its letters
 abbrev pub letterOf : ℕ → ℕ → ℕ

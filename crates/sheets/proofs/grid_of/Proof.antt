@@ -5,9 +5,9 @@ use mir.Syntax.{w64}
 use mir.Val.{SFits}
 use Rattle.exact.specs.Fit.{arg}
 use Rattle.measure.specs.Root.{iceOf}
-use Rattle.preview.specs.Sheet.{gridOn, gridOf}
-use Rattle.preview.proofs.sheet.grid_of.Statement.{statement}
-use Rattle.preview.proofs.sheet.grid_of.Tie as tie
+use Rattle.sheets.specs.Sheet.{gridOn, gridOf}
+use Rattle.sheets.proofs.grid_of.Statement.{statement}
+use Rattle.sheets.proofs.grid_of.Tie as tie
 
 -- the limits fit
 module _ (s : tie.Start) where

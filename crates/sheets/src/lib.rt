@@ -2,7 +2,7 @@
 // browser shows the whole page, however wide its window is.
 ghost use mathlib.Core.Path.{_≡_};
 ghost use Prim.Native.Nat.{max};
-ghost use Rattle.preview.specs.Sheet.{sheetOf, stepOf, cellOf, gridOf};
+ghost use Rattle.sheets.specs.Sheet.{sheetOf, stepOf, cellOf, gridOf};
 use clip::Rect;
 use console::sum;
 use measure::ice;

@@ -1,8 +1,8 @@
 -- Pens are 1 to 8.
 use borrow.Author.Needs.{needs}
 use Prim.Native.Nat.{_≤_, _-_}
-use Rattle.preview.proofs.summary.legend.Statement.{statement}
-use Rattle.preview.proofs.summary.legend.Tie as tie
+use Rattle.captions.proofs.legend.Statement.{statement}
+use Rattle.captions.proofs.legend.Tie as tie
 
 abbrev Inv-loop : tie.InvT-loop
 Inv-loop text₀ used s g from i end₀ x₀ y₀ shown₀ pen₀ text end x y shown pen = pen ≤ 9

@@ -1,8 +1,8 @@
 -- At most six are shown.
 use borrow.Author.Needs.{needs}
 use Prim.Native.Nat.{_≤_, _-_}
-use Rattle.preview.proofs.summary.groups.Statement.{statement}
-use Rattle.preview.proofs.summary.groups.Tie as tie
+use Rattle.captions.proofs.groups.Statement.{statement}
+use Rattle.captions.proofs.groups.Tie as tie
 
 abbrev Inv-loop : tie.InvT-loop
 Inv-loop text₀ used s from r end₀ y₀ shown₀ i₀ t12 text end y shown i = i ≤ 6
