@@ -18,11 +18,13 @@ use sheets::below;
 use words::harmless;
 use words::of_kind;
 
-// A whole input, or what could be read and written of it: how many bytes were read, and whether the rest could not be.
+// A whole input, or what could be read and written of it: what is painted, what was refused, how often, and how many moves among it; how many bytes were read,
+// and whether the rest could not be.
 pub struct Painted {
     pub inks: Inks,
     pub refusals: Refusals,
     pub refused: u64,
+    pub moves: u64,
     pub read: u64,
     pub unread: bool,
     pub used: usize,
@@ -61,8 +63,8 @@ fn place(text: &mut [u8; 65536], used: usize, s: Sheet, g: Grid) -> usize {
     put_bytes(text, end, b" m from the lower left corner</text>\n")
 }
 
-// How many strokes, dots among them, and refusals there are.
-fn counts(text: &mut [u8; 65536], used: usize, s: Sheet, i: Inks, refused: u64) -> usize {
+// How many strokes and dots among them there are, how many refusals and moves among them.
+fn counts(text: &mut [u8; 65536], used: usize, s: Sheet, i: Inks, p: Painted) -> usize {
     let strokes = i.strokes;
     let mut end = row(text, used, s.margin, sum(s.line, s.line));
     end = put_bytes(text, end, b"strokes: ");
@@ -70,7 +72,9 @@ fn counts(text: &mut [u8; 65536], used: usize, s: Sheet, i: Inks, refused: u64) 
     end = put_bytes(text, end, b", of them dots: ");
     end = put_natural(text, end, i.dots);
     end = put_bytes(text, end, b", refusals: ");
-    end = put_natural(text, end, refused);
+    end = put_natural(text, end, p.refused);
+    end = put_bytes(text, end, b", of them moves: ");
+    end = put_natural(text, end, p.moves);
     put_bytes(text, end, b"</text>\n")
 }
 
@@ -103,6 +107,20 @@ fn signs(
         );
     }
     put_bytes(text, end, b"</text>\n")
+}
+
+// What dashes are, if a move was refused.
+fn dashes(text: &mut [u8; 65536], used: usize, s: Sheet, moves: u64) -> usize {
+    if moves == 0 {
+        return used;
+    }
+    let two = sum(s.line, s.line);
+    let end = row(text, used, s.margin, sum(two, two));
+    put_bytes(
+        text,
+        end,
+        b"dashed: after a refused move, up to the next move with the pen up; these lines start at a wrong place</text>\n",
+    )
 }
 
 // What is harmless is said to be. Of line types their words say when.
@@ -227,12 +245,13 @@ pub fn summary(text: &mut [u8; 65536], used: usize, s: Sheet, g: Grid, p: Painte
     let inks = p.inks;
     let refusals = p.refusals;
     let mut end = place(text, used, s, g);
-    end = counts(text, end, s, inks, p.refused);
+    end = counts(text, end, s, inks, p);
     end = signs(text, end, s, inks, p.refused, p.unread);
+    end = dashes(text, end, s, p.moves);
     let two = sum(s.line, s.line);
-    let four = sum(two, two);
-    end = legend(text, end, s, g, inks, four);
-    let far = groups(text, end, s, refusals, sum(four, two));
+    let five = sum(sum(two, two), s.line);
+    end = legend(text, end, s, g, inks, five);
+    let far = groups(text, end, s, refusals, sum(five, two));
     end = far.used;
     if p.refused > far.shown {
         end = row(text, end, s.margin, far.y);

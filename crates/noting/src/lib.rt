@@ -1,5 +1,5 @@
-// What preview notes of a drawing: its strokes and their lengths by pen with the dots among them, and its refusals in groups, as survey has them.
-// specs/Inks.antt and specs/Refusals.antt have the definitions.
+// What preview notes of a drawing: its strokes and their lengths by pen with the dots among them, and its refusals in groups, as survey has them;
+// and whether the carriage is astray. specs/Inks.antt and specs/Refusals.antt have the definitions.
 ghost use mathlib.Core.Path.{_≡_};
 ghost use Prim.Native.Nat.{_≤_};
 ghost use lib.ListN.{take};
@@ -17,6 +17,8 @@ use hpgl::Stroke;
 use measure::length;
 use rulekit::numbers::BUSY;
 use rulekit::numbers::LIST_FULL;
+
+pub mod astray;
 
 // Dots; and by pen, strokes and their lengths in tenths of a unit.
 pub struct Inks {

@@ -1,11 +1,12 @@
 -- How far a drawing is, after a feed and at the start of a block. A reply is fetched and forgotten.
-use mathlib.Core.Bool.{Bool, true, not, cond}
+use mathlib.Core.Bool.{Bool, true, cond}
 use mathlib.Core.List.{List}
-use Prim.Native.Nat.{ℕ, _+_}
-use lib.Dec.{eqb}
+use Prim.Native.Nat.{ℕ, _+_, _-_}
+use lib.Dec.{eqb, ltb}
 use lib.ListN.{length, take, drop}
 use Rattle.hpgl.specs.declared.State.{State}
-use Rattle.hpgl.specs.Machine.{fetchState}
+use Rattle.hpgl.specs.declared.Look.{Look}
+use Rattle.hpgl.specs.Machine.{fetchState, lookAt}
 use Rattle.machine.specs.declared.Machine.{Machine}
 use Rattle.feeding.specs.Feed.{feedOf}
 use Rattle.feed.specs.declared.Listed.{Listed}
@@ -14,6 +15,7 @@ use Rattle.console.specs.Sums.{added}
 use Rattle.counting.specs.Names.{lettersBefore}
 use Rattle.noting.specs.Inks.{inksOf}
 use Rattle.noting.specs.Refusals.{refuses, refusedOf}
+use Rattle.noting.specs.Astray.{straysOf, astrayOf, partEnd}
 use Rattle.tracing.specs.declared.Hand.{Hand}
 use Rattle.captions.specs.declared.Painted.{Painted}
 use Rattle.preview.specs.declared.strokes.Drawing.{Drawing}
@@ -25,26 +27,39 @@ replyBytes = 37
 abbrev pub quietOf : State → Machine
 quietOf m = record { state = fetchState m replyBytes }
 
-unfoldable pub countOf : ℕ → ℕ
-countOf number = cond (refuses number) 1 0
+unfoldable pub oneOf : Bool → ℕ
+oneOf b = cond b 1 0
+
+-- some of a block is left after a feed: it stopped, or it was of a part alone
+unfoldable pub goesOn : ℕ → ℕ → ℕ → Bool
+goesOn number at long = cond (eqb number 0) (ltb at long) true
 
 -- feed counts the bytes from the place on; how far the text is then no contract can say
-abbrev pub afterOf : Drawing → Listed → List ℕ → Hand → Drawing
-afterOf d l block hand = record {
+abbrev pub afterOf : Drawing → Listed → List ℕ → Look → Look → Hand → Drawing
+afterOf d l block before seen hand = record {
   machine = quietOf (l .fed .machine .state);
   before = d .before;
   letters = d .letters;
   at = d .at + l .fed .taken;
   inks = inksOf (d .inks) (take (l .fed .stored) (l .list));
   refusals = refusedOf (d .refusals) (d .letters) block (d .at + l .fed .taken) (l .fed .number) (added (d .before) (d .at + l .fed .taken));
-  refused = added (d .refused) (countOf (l .fed .number));
-  more = not (eqb (l .fed .number) 0);
+  refused = added (d .refused) (oneOf (refuses (l .fed .number)));
+  moves = added (d .moves) (oneOf (straysOf (d .letters) block (d .at + l .fed .taken) (l .fed .number)));
+  astray = astrayOf (d .astray) (straysOf (d .letters) block (d .at + l .fed .taken) (l .fed .number)) before seen;
+  more = goesOn (l .fed .number) (d .at + l .fed .taken) (length block);
   hand = hand;
 }
 
--- a feed of what is left of a block
+-- what is left of a block, or a part of that while the carriage is astray
+abbrev pub partOf : Drawing → List ℕ → List ℕ
+partOf d block = take (partEnd block (d .at) (d .astray) - d .at) (drop (d .at) block)
+
+-- a feed of it
+abbrev pub fedOf : Drawing → List ℕ → Listed
+fedOf d block = listedOf (feedOf (d .machine .state) (partOf d block) 64)
+
 abbrev pub stepOf : Drawing → List ℕ → Hand → Drawing
-stepOf d block hand = afterOf d (listedOf (feedOf (d .machine .state) (drop (d .at) block) 64)) block hand
+stepOf d block hand = afterOf d (fedOf d block) block (lookAt (d .machine .state)) (lookAt (fedOf d block .fed .machine .state)) hand
 
 abbrev pub begunOf : Drawing → ℕ → Drawing
 begunOf d before = record {
@@ -55,6 +70,8 @@ begunOf d before = record {
   inks = d .inks;
   refusals = d .refusals;
   refused = d .refused;
+  moves = d .moves;
+  astray = d .astray;
   more = true;
   hand = d .hand;
 }
@@ -69,6 +86,8 @@ flushedOf d block hand = record {
   inks = d .inks;
   refusals = d .refusals;
   refused = d .refused;
+  moves = d .moves;
+  astray = d .astray;
   more = d .more;
   hand = hand;
 }
@@ -79,6 +98,7 @@ endedOf d before unread used = record {
   inks = d .inks;
   refusals = d .refusals;
   refused = d .refused;
+  moves = d .moves;
   read = before;
   unread = unread;
   used = used;

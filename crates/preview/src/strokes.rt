@@ -4,7 +4,7 @@ ghost use lib.ListN.{length};
 ghost use mathlib.Core.Path.{_≡_};
 ghost use Rattle.console.specs.Sums.{largest};
 ghost use Rattle.hpgl.specs.Valid.{Usable};
-ghost use Rattle.preview.specs.Drawing.{quietOf, countOf, afterOf, stepOf, begunOf, flushedOf, endedOf};
+ghost use Rattle.preview.specs.Drawing.{quietOf, oneOf, goesOn, afterOf, stepOf, begunOf, flushedOf, endedOf};
 use arguments::desk::unread;
 use captions::Painted;
 use clip::Point;
@@ -16,9 +16,13 @@ use counting::refusals::Refusals;
 use counting::refusals::none;
 use feed::Listed;
 use feed::feed_list;
+use hpgl::Look;
 use libc::STDIN_FILENO;
 use machine::Machine;
 use noting::Inks;
+use noting::astray::astray;
+use noting::astray::part_end;
+use noting::astray::strays;
 use noting::inks_of;
 use noting::is_refusal;
 use noting::no_inks;
@@ -27,8 +31,10 @@ use output::failed;
 use output::flush;
 use streams::read;
 use tracing::Hand;
+use tracing::at_rest;
 use tracing::closed;
 use tracing::cross;
+use tracing::dashing;
 use tracing::elements;
 
 // A proved loop has to end: these go round so often at most, which no input uses up.
@@ -40,8 +46,8 @@ const REPLY: usize = 37;
 // So many refusals have a cross.
 const CROSSES: u64 = 40;
 
-// How far the drawing is: the machine, the bytes before the block and their last letters, the place in it, what is painted, what was refused and how often,
-// whether some of the block is left, and the text.
+// How far the drawing is: the machine, the bytes before the block and their last letters, the place in it, what is painted, what was refused, how often, and how
+// many moves among it, whether the carriage is astray, whether some of the block is left, and the text.
 struct Drawing {
     machine: Machine,
     before: u64,
@@ -50,6 +56,8 @@ struct Drawing {
     inks: Inks,
     refusals: Refusals,
     refused: u64,
+    moves: u64,
+    astray: bool,
     more: bool,
     hand: Hand,
 }
@@ -75,20 +83,30 @@ fn quiet(machine: Machine) -> Machine
     f.machine
 }
 
-// One for a refused byte.
-fn count(number: u8) -> u64
-    ensures { λ r. ⌜ r ≡ countOf number ⌝ }
+// One for what is true.
+fn one(of: bool) -> u64
+    ensures { λ r. ⌜ r ≡ oneOf of ⌝ }
 {
-    if is_refusal(number) {
+    if of {
         return 1;
     }
     0
 }
 
-// What a feed of the block from its place on leaves: its strokes are noted, and a byte that was refused.
-fn after(d: Drawing, l: Listed, block: &[u8], hand: Hand) -> Drawing
+// Whether some of a block is left after a feed.
+fn goes_on(number: u8, at: usize, length: usize) -> bool
+    ensures { λ r. ⌜ r ≡ goesOn number at length ⌝ }
+{
+    if number == 0 {
+        return at < length;
+    }
+    true
+}
+
+// What a feed of the block from its place on leaves: its strokes are noted, and a byte that was refused; with a look before it and one after it.
+fn after(d: Drawing, l: Listed, block: &[u8], before: Look, seen: Look, hand: Hand) -> Drawing
     requires { ⌜ (l .fed .stored ≤ 64) × (d .at + l .fed .taken ≤ largest) × Usable (l .fed .machine .state) ⌝ }
-    ensures { λ r. ⌜ r ≡ afterOf d l (now (block .entry)) hand ⌝ }
+    ensures { λ r. ⌜ r ≡ afterOf d l (now (block .entry)) before seen hand ⌝ }
 {
     let fed = l.fed;
     let machine = fed.machine;
@@ -98,6 +116,7 @@ fn after(d: Drawing, l: Listed, block: &[u8], hand: Hand) -> Drawing
     let list = l.list;
     let at = d.at + fed.taken;
     let place = sum(d.before, at as u64);
+    let stray = strays(letters, block, at, fed.number);
     Drawing {
         machine: quiet(machine),
         before: d.before,
@@ -105,10 +124,23 @@ fn after(d: Drawing, l: Listed, block: &[u8], hand: Hand) -> Drawing
         at: at,
         inks: inks_of(inks, list, fed.stored),
         refusals: refused(refusals, letters, block, at, fed.number, place),
-        refused: sum(d.refused, count(fed.number)),
-        more: fed.number != 0,
+        refused: sum(d.refused, one(is_refusal(fed.number))),
+        moves: sum(d.moves, one(stray)),
+        astray: astray(d.astray, stray, before, seen),
+        more: goes_on(fed.number, at, block.len()),
         hand: hand,
     }
+}
+
+// The strokes of a feed as text, dashed or whole, and a cross where a byte was refused.
+fn drawn(text: &mut [u8; 65536], d: Drawing, l: Listed, at: Point, radius: u64) -> Hand
+    requires { ⌜ l .fed .stored ≤ 64 ⌝ }
+{
+    let fed = l.fed;
+    let list = l.list;
+    let hand = dashing(text, d.hand, d.astray);
+    let far = elements(text, hand, list, fed.stored, radius);
+    crossed(text, far, at, fed.number, d.refused, radius)
 }
 
 // One feed, with its strokes as text.
@@ -118,16 +150,15 @@ fn step(d: Drawing, block: &[u8], text: &mut [u8; 65536], radius: u64) -> Drawin
     ensures { λ r. ⌜ r ≡ stepOf d (now (block .entry)) (r .hand) ⌝ }
 {
     let machine = d.machine;
-    let hand = d.hand;
     let at = d.at;
-    let l = feed_list(machine, &block[at..]);
-    let list = l.list;
-    let drawn = elements(text, hand, list, l.fed.stored, radius);
+    let before = machine.look();
+    let end = part_end(block, at, d.astray);
+    let l = feed_list(machine, &block[at..end]);
     let fed = l.fed;
     let next = fed.machine;
     let seen = next.look();
-    let far = crossed(text, drawn, seen.location, fed.number, d.refused, radius);
-    after(d, l, block, far)
+    let far = drawn(text, d, l, seen.location, radius);
+    after(d, l, block, before, seen, far)
 }
 
 // The next block begins, with so many bytes before it.
@@ -147,6 +178,8 @@ fn begun(d: Drawing, before: u64) -> Drawing
         inks: inks,
         refusals: refusals,
         refused: d.refused,
+        moves: d.moves,
+        astray: d.astray,
         more: true,
         hand: hand,
     }
@@ -180,6 +213,7 @@ fn written(text: &[u8; 65536], h: Hand) -> Hand {
     Hand {
         used: flush(text, h.used),
         begun: h.begun,
+        dashed: h.dashed,
         pen: h.pen,
         x: h.x,
         y: h.y,
@@ -202,6 +236,8 @@ fn flushed(d: Drawing, block: &[u8], text: &[u8; 65536]) -> Drawing
         inks: inks,
         refusals: refusals,
         refused: d.refused,
+        moves: d.moves,
+        astray: d.astray,
         more: d.more,
         hand: written(text, hand),
     }
@@ -226,6 +262,7 @@ fn ended(d: Drawing, before: u64, unread: bool, used: usize) -> Painted
         inks: inks,
         refusals: refusals,
         refused: d.refused,
+        moves: d.moves,
         read: before,
         unread: unread,
         used: used,
@@ -244,14 +281,10 @@ fn blank(machine: Machine, used: usize) -> Drawing
         inks: no_inks(),
         refusals: none(),
         refused: 0,
+        moves: 0,
+        astray: false,
         more: true,
-        hand: Hand {
-            used: used,
-            begun: false,
-            pen: 0,
-            x: 0,
-            y: 0,
-        },
+        hand: at_rest(used),
     }
 }
 

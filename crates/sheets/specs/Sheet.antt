@@ -15,7 +15,7 @@ letterOf width height = (width + height) / 160 + 1
 abbrev pub lineOf : ℕ → ℕ
 lineOf letter = letter * 3 / 2
 
--- a dot is as wide as a letter is high; three letters are free around the sheet; above it stand thirteen lines, and a page has room for 76 letters
+-- a dot is as wide as a letter is high; three letters are free around the sheet; above it stand fourteen lines, and a page has room for 76 letters
 abbrev pub laidOut : ℤ → ℤ → ℕ → ℕ → ℕ → Sheet
 laidOut left bottom width height letter = record {
   left = left;
@@ -26,9 +26,9 @@ laidOut left bottom width height letter = record {
   line = lineOf letter;
   dot = letter / 2 + 1;
   margin = letter * 3;
-  base = lineOf letter * 13 + height;
+  base = lineOf letter * 14 + height;
   wide = max width (letter * 76) + letter * 6;
-  high = lineOf letter * 13 + height + letter * 3;
+  high = lineOf letter * 14 + height + letter * 3;
 }
 
 -- from limit to limit; no sheet is wider than 65,535

@@ -1,7 +1,7 @@
 // The page: the sheet with its hard limits as a frame and a grid in metres, and room above it for what is said of the drawing. All lengths are plotter units; a
 // browser shows the whole page, however wide its window is.
 ghost use mathlib.Core.Path.{_≡_};
-ghost use Prim.Native.Nat.{max};
+ghost use Prim.Native.Nat.{_-_, max};
 ghost use Rattle.sheets.specs.Sheet.{sheetOf, stepOf, cellOf, gridOf};
 use clip::Rect;
 use console::sum;
@@ -39,7 +39,7 @@ pub struct Grid {
 }
 
 // A text above the sheet has so many lines, and a page room for so many letters.
-const LINES: u64 = 13;
+const LINES: u64 = 14;
 
 const LETTERS: u64 = 76;
 
@@ -151,7 +151,7 @@ fn style(text: &mut [u8; 65536], used: usize, s: Sheet) -> usize {
     end = put_bytes(
         text,
         end,
-        b".s{color:#00902a;stroke-width:2px}.x{color:#ff0060;stroke-width:2.5px}\n",
+        b".a{stroke-dasharray:7 5;stroke-linecap:butt}.s{color:#00902a;stroke-width:2px}.x{color:#ff0060;stroke-width:2.5px}\n",
     );
     end = put_bytes(
         text,
@@ -175,7 +175,9 @@ fn size(text: &mut [u8; 65536], used: usize, s: Sheet) -> usize {
 }
 
 // From one number down to another, or nothing.
-pub fn below(a: u64, b: u64) -> u64 {
+pub fn below(a: u64, b: u64) -> u64
+    ensures { λ r. ⌜ r ≡ a - b ⌝ }
+{
     if a < b {
         return 0;
     }

@@ -1,5 +1,5 @@
-// Strokes as parts of a picture: those that join as one path, dots as discs, a ring where the first one starts, and a cross where the pen stood when a byte
-// was refused. All lengths are plotter units.
+// Strokes as parts of a picture: those that join as one path, whole or dashed, dots as discs, a ring where the first one starts, and a cross where the pen stood
+// when a byte was refused. All lengths are plotter units.
 ghost use Prim.Native.Nat.{_≤_};
 use clip::Point;
 use console::sum;
@@ -10,13 +10,32 @@ use output::put_bytes;
 use output::put_natural;
 use output::put_whole;
 
-// How far the text is: how much of the buffer is used, whether a stroke was put, and of a path that is open its pen and its end; pen 0 for none.
+// How far the text is: how much of the buffer is used, whether a stroke was put, whether lines are dashed, and of a path that is open its pen and its end; pen
+// 0 for none.
 pub struct Hand {
     pub used: usize,
     pub begun: bool,
+    pub dashed: bool,
     pub pen: u8,
     pub x: i64,
     pub y: i64,
+}
+
+// No path is open.
+fn resting(used: usize, begun: bool, dashed: bool) -> Hand {
+    Hand {
+        used: used,
+        begun: begun,
+        dashed: dashed,
+        pen: 0,
+        x: 0,
+        y: 0,
+    }
+}
+
+// Nothing is put yet.
+pub fn at_rest(used: usize) -> Hand {
+    resting(used, false, false)
 }
 
 fn point(text: &mut [u8; 65536], used: usize, x: i64, y: i64) -> usize {
@@ -30,13 +49,16 @@ pub fn closed(text: &mut [u8; 65536], h: Hand) -> Hand {
     if h.pen == 0 {
         return h;
     }
-    Hand {
-        used: put_bytes(text, h.used, b"\"/>\n"),
-        begun: h.begun,
-        pen: 0,
-        x: 0,
-        y: 0,
+    resting(put_bytes(text, h.used, b"\"/>\n"), h.begun, h.dashed)
+}
+
+// From here on lines are dashed, or whole: no path goes on from one to the other.
+pub fn dashing(text: &mut [u8; 65536], h: Hand, dashed: bool) -> Hand {
+    if h.dashed == dashed {
+        return h;
     }
+    let c = closed(text, h);
+    resting(c.used, c.begun, dashed)
 }
 
 // Whether a stroke goes on where the path that is open ends.
@@ -50,28 +72,31 @@ fn joins(h: Hand, s: Stroke) -> bool {
     h.y == s.y0
 }
 
-// A line of the picture.
+// A path begins.
+fn opened(text: &mut [u8; 65536], h: Hand, s: Stroke) -> usize {
+    let c = closed(text, h);
+    let mut end = put_bytes(text, c.used, b"<path class=\"p");
+    end = put_natural(text, end, s.pen as u64);
+    if h.dashed {
+        end = put_bytes(text, end, b" a");
+    }
+    end = put_bytes(text, end, b"\" d=\"M");
+    end = point(text, end, s.x0, s.y0);
+    put_byte(text, end, b'L')
+}
+
+// A line of the picture, of the path that is open or of a new one.
 fn line(text: &mut [u8; 65536], h: Hand, s: Stroke) -> Hand {
     let mut end = h.used;
     if joins(h, s) {
         end = put_byte(text, end, b' ');
-        return Hand {
-            used: point(text, end, s.x1, s.y1),
-            begun: true,
-            pen: s.pen,
-            x: s.x1,
-            y: s.y1,
-        };
+    } else {
+        end = opened(text, h, s);
     }
-    let c = closed(text, h);
-    end = put_bytes(text, c.used, b"<path class=\"p");
-    end = put_natural(text, end, s.pen as u64);
-    end = put_bytes(text, end, b"\" d=\"M");
-    end = point(text, end, s.x0, s.y0);
-    end = put_byte(text, end, b'L');
     Hand {
         used: point(text, end, s.x1, s.y1),
         begun: true,
+        dashed: h.dashed,
         pen: s.pen,
         x: s.x1,
         y: s.y1,
@@ -94,13 +119,7 @@ fn dot(text: &mut [u8; 65536], h: Hand, s: Stroke, radius: u64) -> Hand {
     let c = closed(text, h);
     let mut end = put_bytes(text, c.used, b"<circle class=\"d p");
     end = put_natural(text, end, s.pen as u64);
-    Hand {
-        used: round(text, end, s, radius),
-        begun: true,
-        pen: 0,
-        x: 0,
-        y: 0,
-    }
+    resting(round(text, end, s, radius), true, h.dashed)
 }
 
 // A ring where the first stroke starts.
@@ -109,13 +128,7 @@ fn start(text: &mut [u8; 65536], h: Hand, s: Stroke, radius: u64) -> Hand {
         return h;
     }
     let end = put_bytes(text, h.used, b"<circle class=\"s");
-    Hand {
-        used: round(text, end, s, sum(radius, radius)),
-        begun: true,
-        pen: 0,
-        x: 0,
-        y: 0,
-    }
+    resting(round(text, end, s, sum(radius, radius)), true, h.dashed)
 }
 
 fn element(text: &mut [u8; 65536], h: Hand, s: Stroke, radius: u64) -> Hand {
@@ -166,11 +179,5 @@ pub fn cross(text: &mut [u8; 65536], h: Hand, at: Point, arm: u64) -> Hand {
     end = put_natural(text, end, whole);
     end = put_byte(text, end, b' ');
     end = put_natural(text, end, whole);
-    Hand {
-        used: put_bytes(text, end, b"\"/>\n"),
-        begun: h.begun,
-        pen: 0,
-        x: 0,
-        y: 0,
-    }
+    resting(put_bytes(text, end, b"\"/>\n"), h.begun, h.dashed)
 }

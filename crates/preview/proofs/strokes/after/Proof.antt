@@ -9,30 +9,58 @@ add-at c = search needs
 sum-requires : tie.Need-sum-requires
 sum-requires c κs = search needs
 
+strays-requires : tie.Need-strays-requires
+strays-requires c κs = search needs
+
 quiet-requires : tie.Need-quiet-requires
 quiet-requires c κs = let s : tie.Start = search in s .pre .2
 
+abbrev start : tie.After-strays → tie.Start
+start k = search
+
 inks-of-requires : tie.Need-inks-of-requires
-inks-of-requires c κs = let s : tie.Start = search in s .pre .0
+inks-of-requires c κs = let k : tie.After-strays = search in start k .pre .0
 
 refused-requires : tie.Need-refused-requires
 refused-requires c κs = search needs
 
-count-requires : tie.Need-count-requires
-count-requires c κs = search needs
+is-refusal-requires : tie.Need-is-refusal-requires
+is-refusal-requires c κs = search needs
+
+one-requires : tie.Need-one-requires
+one-requires c κs = search needs
 
 sum-requires-2 : tie.Need-sum-requires-2
 sum-requires-2 c κs = search needs
 
+one-requires-2 : tie.Need-one-requires-2
+one-requires-2 c κs = search needs
+
+sum-requires-3 : tie.Need-sum-requires-3
+sum-requires-3 c κs = search needs
+
+astray-requires : tie.Need-astray-requires
+astray-requires c κs = search needs
+
+goes-on-requires : tie.Need-goes-on-requires
+goes-on-requires c κs = search needs
+
 returns : tie.Need-returns
 returns c =
-    let p : tie.After-sum = search in
-    let k : tie.After-quiet = search in
-    let i : tie.After-inks-of = search in
-    let f : tie.After-refused = search in
-    let n : tie.After-count = search in
+    let g : tie.After-goes-on = search in
+    let a : tie.After-astray = search in
+    let u : tie.After-sum3 = search in
+    let m : tie.After-one2 = search in
     let q : tie.After-sum2 = search in
-    rw (q .sum2 .ensures, n .count .ensures, f .refused .ensures, i .inks-of .ensures, k .quiet .ensures, p .sum .ensures)
+    let n : tie.After-one = search in
+    let b : tie.After-is-refusal = search in
+    let f : tie.After-refused = search in
+    let i : tie.After-inks-of = search in
+    let k : tie.After-quiet = search in
+    let y : tie.After-strays = search in
+    let p : tie.After-sum = search in
+    rw
+    (g .goes-on .ensures, a .astray .ensures, u .sum3 .ensures, m .one2 .ensures, q .sum2 .ensures, n .one .ensures, b .is-refusal .ensures, f .refused .ensures, i .inks-of .ensures, k .quiet .ensures, y .strays .ensures, p .sum .ensures)
 
 pub after-spec : {M : Type 1} → statement M
 after-spec =
@@ -40,9 +68,15 @@ after-spec =
     (tie.spec
     add-at
     sum-requires
+    strays-requires
     quiet-requires
     inks-of-requires
     refused-requires
-    count-requires
+    is-refusal-requires
+    one-requires
     sum-requires-2
+    one-requires-2
+    sum-requires-3
+    astray-requires
+    goes-on-requires
     returns)
