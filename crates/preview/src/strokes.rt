@@ -34,7 +34,6 @@ use tracing::Hand;
 use tracing::at_rest;
 use tracing::closed;
 use tracing::cross;
-use tracing::dashing;
 use tracing::elements;
 
 // A proved loop has to end: these go round so often at most, which no input uses up.
@@ -132,17 +131,6 @@ fn after(d: Drawing, l: Listed, block: &[u8], before: Look, seen: Look, hand: Ha
     }
 }
 
-// The strokes of a feed as text, dashed or whole, and a cross where a byte was refused.
-fn drawn(text: &mut [u8; 65536], d: Drawing, l: Listed, at: Point, radius: u64) -> Hand
-    requires { ⌜ l .fed .stored ≤ 64 ⌝ }
-{
-    let fed = l.fed;
-    let list = l.list;
-    let hand = dashing(text, d.hand, d.astray);
-    let far = elements(text, hand, list, fed.stored, radius);
-    crossed(text, far, at, fed.number, d.refused, radius)
-}
-
 // One feed, with its strokes as text.
 fn step(d: Drawing, block: &[u8], text: &mut [u8; 65536], radius: u64) -> Drawing
     requires { ⌜ Usable (d .machine .state) ⌝ }
@@ -157,7 +145,10 @@ fn step(d: Drawing, block: &[u8], text: &mut [u8; 65536], radius: u64) -> Drawin
     let fed = l.fed;
     let next = fed.machine;
     let seen = next.look();
-    let far = drawn(text, d, l, seen.location, radius);
+    let hand = d.hand;
+    let list = l.list;
+    let drawn = elements(text, hand, list, fed.stored, d.astray, radius);
+    let far = crossed(text, drawn, seen.location, fed.number, d.refused, radius);
     after(d, l, block, before, seen, far)
 }
 

@@ -53,7 +53,7 @@ pub fn closed(text: &mut [u8; 65536], h: Hand) -> Hand {
 }
 
 // From here on lines are dashed, or whole: no path goes on from one to the other.
-pub fn dashing(text: &mut [u8; 65536], h: Hand, dashed: bool) -> Hand {
+fn dashing(text: &mut [u8; 65536], h: Hand, dashed: bool) -> Hand {
     if h.dashed == dashed {
         return h;
     }
@@ -139,17 +139,18 @@ fn element(text: &mut [u8; 65536], h: Hand, s: Stroke, radius: u64) -> Hand {
     line(text, from, s)
 }
 
-// The first strokes of a list.
+// The first strokes of a list, dashed or whole.
 pub fn elements(
     text: &mut [u8; 65536],
     h: Hand,
     list: [Stroke; 64],
     count: usize,
+    dashed: bool,
     radius: u64,
 ) -> Hand
     requires { ⌜ count ≤ 64 ⌝ }
 {
-    let mut far = h;
+    let mut far = dashing(text, h, dashed);
     let mut i = 0;
     while i < count {
         let s = list[i];

@@ -5,10 +5,13 @@ use Rattle.tracing.proofs.elements.Statement.{statement}
 use Rattle.tracing.proofs.elements.Tie as tie
 
 abbrev Inv-loop : tie.InvT-loop
-Inv-loop text₀ count radius list far₀ i₀ text far i = (i ≤ count)
+Inv-loop text₀ count dashed radius list far₀ i₀ text far i = (i ≤ count)
 
 abbrev μ-loop : tie.MeasureT-loop
-μ-loop text₀ count radius list far₀ i₀ text far i = count - i
+μ-loop text₀ count dashed radius list far₀ i₀ text far i = count - i
+
+dashing-requires : tie.Need-dashing-requires Inv-loop μ-loop
+dashing-requires c κs = search needs
 
 loop-holds : tie.Need-loop-holds Inv-loop μ-loop
 loop-holds c = search needs
@@ -40,6 +43,7 @@ elements-spec =
     (tie.spec
     Inv-loop
     μ-loop
+    dashing-requires
     loop-holds
     mul-s
     array-copy-out-s

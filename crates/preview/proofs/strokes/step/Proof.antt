@@ -58,26 +58,29 @@ usable c =
     rw (listed c) (feed-usable (s .args .d .machine .state) (partOf (s .args .d) (now (s .args .block))) 0 64 (s .pre .0))
 
 look-requires-2 : tie.Need-look-requires-2
-look-requires-2 c κs = usable (c .before .before)
+look-requires-2 c κs = let l : tie.After-feed-list = search in usable l
 
-drawn-requires : tie.Need-drawn-requires
-drawn-requires c κs = few (c .before .before .before .before)
+elements-requires : tie.Need-elements-requires
+elements-requires c κs = let l : tie.After-feed-list = search in few l
+
+crossed-requires : tie.Need-crossed-requires
+crossed-requires c κs = search needs
 
 after-requires : tie.Need-after-requires
 after-requires c κs =
-    let l : tie.After-feed-list = c .before .before .before .before .before in
+    let l : tie.After-feed-list = search in
     let s = l .before .before .before .before .before .before in
     let long : length (now (s .args .block)) < 2 ^ 64 = search needs in
     (few l, rw (listed l) (omega (arith, step-within (s .args .d) (now (s .args .block)) (s .args .d .hand) (s .pre .1), long)), usable l)
 
 returns : tie.Need-returns
 returns c =
-    let e : tie.After-drawn = search in
+    let e : tie.After-crossed = search in
     let v : tie.After-look2 = search in
     let l : tie.After-feed-list = search in
     let p : tie.After-look = search in
     let s : tie.Start = search in
-    rw (c .after .ensures) (λ i. afterOf (s .args .d) (listed l i) (now (s .args .block)) (p .look .ensures i) ((v .look2 .ensures ∙ ap (λ (x : Listed). lookAt (x .fed .machine .state)) (listed l)) i) (e .drawn .result))
+    rw (c .after .ensures) (λ i. afterOf (s .args .d) (listed l i) (now (s .args .block)) (p .look .ensures i) ((v .look2 .ensures ∙ ap (λ (x : Listed). lookAt (x .fed .machine .state)) (listed l)) i) (e .crossed .result))
 
 pub step-spec : {M : Type 1} → statement M
 step-spec =
@@ -90,6 +93,7 @@ step-spec =
     part-feed-list-end
     feed-list-requires
     look-requires-2
-    drawn-requires
+    elements-requires
+    crossed-requires
     after-requires
     returns)
