@@ -1,16 +1,17 @@
 -- Slot by slot.
 use mathlib.Core.Bool.{Bool, true, false, cond}
-use mathlib.Core.List.{List}
-use mathlib.Core.Path.{_≡_, refl, sym, ap, _∙_}
-use Prim.Native.Nat.{ℕ, zero, suc, _+_, _-_, _*_, _≤_, _<_}
+use mathlib.Core.List.{List, [], _∷_, _++_}
+use mathlib.Core.Path.{_≡_, refl, ap, _∙_}
+use Prim.Native.Nat.{ℕ, suc, _+_, _-_, _*_, _%_, _≤_, _<_}
 use native.Mathlib.Omega.{arith}
 use lib.Dec.{ltb}
-use lib.IntN.{ℤ}
-use borrow.Author.Tests.{ltb-true}
+use lib.IntN.{ℤ, pos, natAbs}
+use borrow.Author.Tests.{ltb-true, lt-ltb, le-ltb, eq-eqb, ne-eqb}
+use Rattle.exact.specs.Whole.{_<?_}
+use Rattle.console.specs.Sums.{added}
 use Rattle.rows.specs.declared.Row.{Row}
 use Rattle.rows.specs.Rows.{rowAt}
-use Rattle.repeats.specs.declared.Repeats.{Repeats}
-use Rattle.repeats.specs.Repeats.{most, same, keptOf, among, recordedOf, linesRecorded, allOf, allLines}
+use Rattle.repeats.specs.Repeats.{most, countAt, markedAt, marks, sizeAt, same, lowOf, markOf, keptOf, among, soughtOf, soughtIn, paintedOf, paintedAll}
 
 pub among-none : (lines : List ℤ) (l : Row) → among lines 0 l ≡ false
 unfolding among
@@ -43,20 +44,42 @@ kept-few count = go (ltb count most) refl
     go true e = let h : count < most = ltb-true count most e in omega (arith, h)
     go false e = omega arith
 
--- ---- record by record
+-- ---- marks
 
-module _ (r : Repeats) (lines records : List ℤ) (i : ℕ) where
-  pub all-none : (n : ℕ) → n ≡ 0 → (allOf r lines records i n ≡ r) × (allLines r lines records i n ≡ lines)
-  unfolding allOf allLines
-  all-none n z = (rw z refl, rw z refl)
+pub low-most : (z : ℤ) → lowOf z ≤ 65536
+unfolding lowOf
+low-most z = go (z <? pos 0)
+  where
+    go : (t : Bool) → cond t (65536 - natAbs z % 65536) (natAbs z % 65536) ≤ 65536
+    go true = omega arith
+    go false = omega arith
 
-  module _ {l : Row} (is : l ≡ rowAt records (i * 5)) {q : Repeats} {kept : List ℤ} (e : q ≡ recordedOf r lines l) (k : kept ≡ linesRecorded r lines l) where
-    one : (n : ℕ) → (allOf r lines records i (suc n) ≡ allOf q kept records (i + 1) n) × (allLines r lines records i (suc n) ≡ allLines q kept records (i + 1) n)
-    unfolding allOf allLines
-    one n = (rw (e, k, is) refl, rw (e, k, is) refl)
+pub mark-below : (l : Row) → markOf l < marks
+unfolding markOf
+mark-below l = omega arith
 
-    pub all-one : (n : ℕ) → i < n → (allOf r lines records i (n - i) ≡ allOf q kept records (i + 1) (n - (i + 1))) × (allLines r lines records i (n - i) ≡ allLines q kept records (i + 1) (n - (i + 1)))
-    all-one n h =
-        let p : n - i ≡ suc (n - (i + 1)) = omega (arith, h) in
-        let o = one (n - (i + 1)) in
-        (ap (allOf r lines records i) p ∙ o .0, ap (allLines r lines records i) p ∙ o .1)
+-- ---- a line that is looked for
+
+module _ (kept : List ℤ) (l : Row) {count last : ℕ} (c : count ≡ sizeAt kept countAt) (m : last ≡ sizeAt kept (markedAt + markOf l)) where
+  pub sought-never : last ≡ 0 → soughtIn kept l ≡ false
+  unfolding soughtIn soughtOf
+  sought-never z = rw (← c, ← m, eq-eqb last 0 z) refl
+
+  module _ (some : last ≡ 0 → ⊥) where
+    pub sought-kept : count < added last most → soughtIn kept l ≡ among kept (keptOf count) l
+    unfolding soughtIn soughtOf
+    sought-kept h = rw (← c, ← m, ne-eqb last 0 some, lt-ltb count (added last most) h) refl
+
+    pub sought-gone : added last most ≤ count → soughtIn kept l ≡ false
+    unfolding soughtIn soughtOf
+    sought-gone h = rw (← c, ← m, ne-eqb last 0 some, le-ltb count (added last most) h) refl
+
+-- strokes after strokes
+pub painted-append : (kept : List ℤ) (xs ys : List Row) → paintedAll kept (xs ++ ys) ≡ paintedAll (paintedAll kept xs) ys
+unfolding paintedAll
+painted-append kept [] ys = refl
+painted-append kept (x ∷ xs) ys = painted-append (paintedOf kept x) xs ys
+
+pub painted-none : (kept : List ℤ) → paintedAll kept [] ≡ kept
+unfolding paintedAll
+painted-none kept = refl

@@ -1,25 +1,45 @@
--- Lines that are painted twice: those that have the two ends of one of the last 4096 lines, either way round. The n-th line is kept in slot n modulo 4096, over the one that was 4096
--- lines before it, so that the slots have the last 4096. A dot, which ends where it begins, is no line: writers put the pen down where a line begins. A line is a row of pen, x0, y0, x1
--- and y1.
+-- Lines that are painted twice: those that have the two ends of one of the last 4096 lines, either way round. A dot, which ends where it begins, is no line: writers put the pen down
+-- where a line begins. A line is a row of pen, x0, y0, x1 and y1. What is kept of lines is one list of numbers.
 use mathlib.Core.Bool.{Bool, true, false, cond}
-use mathlib.Core.List.{List}
-use Prim.Native.Nat.{ℕ, zero, suc, _+_, _*_, _%_}
-use lib.Dec.{ltb}
-use lib.IntN.{ℤ, pos}
-use Rattle.exact.specs.Whole.{_≡?_}
+use mathlib.Core.List.{List, [], _∷_}
+use Prim.Native.Nat.{ℕ, zero, suc, _+_, _-_, _*_, _%_}
+use lib.Dec.{eqb, ltb, leb}
+use lib.IntN.{ℤ, pos, natAbs}
+use lib.ListN.{length, getD, set}
+use Rattle.exact.specs.Whole.{_≡?_, _<?_}
 use Rattle.console.specs.Sums.{added}
 use Rattle.rows.specs.declared.Row.{Row}
-use Rattle.rows.specs.Rows.{rowAt, withRow}
+use Rattle.rows.specs.Rows.{row, rowAt, withRow}
 use Rattle.repeats.specs.declared.Repeats.{Repeats}
 
 abbrev pub most : ℕ
 most = 4096
 
-abbrev pub numbers : ℕ
-numbers = most * 5
+-- ---- the list: 4096 rows, the n-th line in slot n modulo 4096, over the one that was 4096 lines before it; how many lines there were; how many of them were painted before; the first
+-- of these; and for each mark the last line that has it, counted from 1
 
-abbrev pub noRepeats : Repeats
-noRepeats = record { count = 0; twice = 0; first = record { a = pos 0; b = pos 0; c = pos 0; d = pos 0; e = pos 0 } }
+abbrev pub countAt : ℕ
+countAt = 20480
+
+abbrev pub twiceAt : ℕ
+twiceAt = 20481
+
+abbrev pub firstAt : ℕ
+firstAt = 20485
+
+abbrev pub markedAt : ℕ
+markedAt = 20490
+
+abbrev pub marks : ℕ
+marks = 32749
+
+abbrev pub room : ℕ
+room = 53239
+
+abbrev pub sizeAt : List ℤ → ℕ → ℕ
+sizeAt kept i = natAbs (getD kept i (pos 0))
+
+-- ---- two lines
 
 unfoldable pub sameWay : Row → Row → Bool
 sameWay l m = cond (l .b ≡? m .b) (cond (l .c ≡? m .c) (cond (l .d ≡? m .d) (cond (l .e ≡? m .e) true false) false) false) false
@@ -31,45 +51,54 @@ otherWay l m = cond (l .b ≡? m .d) (cond (l .c ≡? m .e) (cond (l .d ≡? m .
 unfoldable pub same : Row → Row → Bool
 same l m = cond (sameWay l m) true (otherWay l m)
 
+-- a number by its last 16 bits, and the mark of a line: by the middle between its ends, so that it is the same either way round
+unfoldable pub lowOf : ℤ → ℕ
+lowOf z = cond (z <? pos 0) (65536 - natAbs z % 65536) (natAbs z % 65536)
+
+unfoldable pub markOf : Row → ℕ
+markOf l = ((lowOf (l .b) + lowOf (l .d)) * 31 + (lowOf (l .c) + lowOf (l .e)) * 1237) % marks
+
+-- ---- one stroke more
+
 -- so many lines are kept of `count`
 unfoldable pub keptOf : ℕ → ℕ
 keptOf count = cond (ltb count most) count most
 
 -- one of the first n slots has the ends of l
 unfoldable pub among : List ℤ → ℕ → Row → Bool
-among lines zero l = false
-among lines (suc n) l = cond (same l (rowAt lines (n * 5))) true (among lines n l)
+among kept zero l = false
+among kept (suc n) l = cond (same l (rowAt kept (n * 5))) true (among kept n l)
 
-unfoldable pub againOf : Repeats → Row → Repeats
-againOf r l =
-    cond (ltb 0 (r .twice))
-    (record { count = added (r .count) 1; twice = added (r .twice) 1; first = r .first })
-    (record { count = added (r .count) 1; twice = 1; first = l })
+-- of `count` lines the one that was last of l's mark is still kept, and one of those that are kept has the ends of l
+unfoldable pub soughtOf : List ℤ → ℕ → ℕ → Row → Bool
+soughtOf kept count last l = cond (eqb last 0) false (cond (ltb count (added last most)) (among kept (keptOf count) l) false)
 
-unfoldable pub countedOf : Repeats → Row → Bool → Repeats
-countedOf r l found = cond found (againOf r l) (record { count = added (r .count) 1; twice = r .twice; first = r .first })
+unfoldable pub soughtIn : List ℤ → Row → Bool
+soughtIn kept l = soughtOf kept (sizeAt kept countAt) (sizeAt kept (markedAt + markOf l)) l
 
--- a stroke more, with the lines kept so far, and the lines that are kept after it
-unfoldable pub paintedOf : Repeats → List ℤ → Row → Repeats
-paintedOf r lines l = cond (otherWay l l) r (countedOf r l (among lines (keptOf (r .count)) l))
+-- a count as a number of the list
+unfoldable pub numberOf : ℕ → ℤ
+numberOf n = cond (leb n 9223372036854775807) (pos n) (pos 9223372036854775807)
 
-unfoldable pub linesAfter : Repeats → List ℤ → Row → List ℤ
-linesAfter r lines l = cond (otherWay l l) lines (withRow l (r .count % most * 5) lines)
+unfoldable pub keptWith : List ℤ → Row → List ℤ
+keptWith kept l =
+    let next = numberOf (added (sizeAt kept countAt) 1) in
+    set (set (withRow l (sizeAt kept countAt % most * 5) kept) countAt next) (markedAt + markOf l) next
 
--- a record of a plot: a stroke, or a refusal, whose pen is 0
-unfoldable pub recordedOf : Repeats → List ℤ → Row → Repeats
-recordedOf r lines l = cond (l .a ≡? pos 0) r (paintedOf r lines l)
+unfoldable pub againOf : List ℤ → Row → List ℤ
+againOf kept l =
+    let more = set kept twiceAt (numberOf (added (sizeAt kept twiceAt) 1)) in
+    cond (eqb (sizeAt kept twiceAt) 0) (withRow l firstAt more) more
 
-unfoldable pub linesRecorded : Repeats → List ℤ → Row → List ℤ
-linesRecorded r lines l = cond (l .a ≡? pos 0) lines (linesAfter r lines l)
+-- a dot changes nothing, nor does a stroke in a list without room
+unfoldable pub paintedOf : List ℤ → Row → List ℤ
+paintedOf kept l =
+    cond (ltb (length kept) room) kept (cond (otherWay l l) kept (cond (soughtIn kept l) (againOf (keptWith kept l) l) (keptWith kept l)))
 
--- n records from the i-th on, one after the other: what is counted, and what is kept
-unfoldable pub allOf : Repeats → List ℤ → List ℤ → ℕ → ℕ → Repeats
-allOf r lines records i zero = r
-allOf r lines records i (suc n) =
-    let l = rowAt records (i * 5) in allOf (recordedOf r lines l) (linesRecorded r lines l) records (i + 1) n
+-- strokes one after the other
+unfoldable pub paintedAll : List ℤ → List Row → List ℤ
+paintedAll kept [] = kept
+paintedAll kept (l ∷ ls) = paintedAll (paintedOf kept l) ls
 
-unfoldable pub allLines : Repeats → List ℤ → List ℤ → ℕ → ℕ → List ℤ
-allLines r lines records i zero = lines
-allLines r lines records i (suc n) =
-    let l = rowAt records (i * 5) in allLines (recordedOf r lines l) (linesRecorded r lines l) records (i + 1) n
+unfoldable pub toldOf : List ℤ → Repeats
+toldOf kept = cond (ltb (length kept) room) (record { twice = 0; first = row (pos 0) (pos 0) (pos 0) (pos 0) (pos 0) }) (record { twice = sizeAt kept twiceAt; first = rowAt kept firstAt })

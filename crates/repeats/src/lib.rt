@@ -1,39 +1,35 @@
 // Lines that are painted twice: the last 4096 lines are kept, and each next one is looked for among them.
 ghost use mathlib.Core.Path.{_≡_};
-ghost use Prim.Native.Nat.{_*_, _≤_};
+ghost use Prim.Native.Nat.{_<_, _≤_};
 ghost use lib.ListN.{length};
 ghost use Rattle.repeats.specs.Repeats as S;
 use console::sum;
+use decimals::size;
 use rows::Row;
 use rows::put_row;
 use rows::row_at;
 
-// So many lines are kept, in rows of five numbers (pen, x0, y0, x1, y1): the n-th in slot n modulo 4096, over the one that was 4096 lines ago.
-pub const KEPT: usize = 4096;
+// What is kept, in a lent list. First the last 4096 lines, in rows of five numbers (pen, x0, y0, x1, y1): the n-th in slot n modulo 4096, over the one that
+// was 4096 lines ago. Then how many lines there were, and how many of them were painted before; the first of these; and for each mark the last line that has
+// it, counted from 1.
+const KEPT: usize = 4096;
 
-pub const NUMBERS: usize = KEPT * 5;
+const COUNT: usize = KEPT * 5;
 
-// How many lines were painted, how many of them a second time, and the first of these.
+const TWICE: usize = COUNT + 1;
+
+const FIRST: usize = COUNT + 5;
+
+const MARKED: usize = COUNT + 10;
+
+const MARKS: usize = 32749;
+
+pub const ROOM: usize = MARKED + MARKS;
+
+// How many lines were painted a second time, and the first of these.
 pub struct Repeats {
-    pub count: u64,
     pub twice: u64,
     pub first: Row,
-}
-
-pub fn no_repeats() -> Repeats
-    ensures { λ r. ⌜ r ≡ S.noRepeats ⌝ }
-{
-    Repeats {
-        count: 0,
-        twice: 0,
-        first: Row {
-            a: 0,
-            b: 0,
-            c: 0,
-            d: 0,
-            e: 0,
-        },
-    }
 }
 
 // Whether two strokes have the same ends.
@@ -95,7 +91,7 @@ fn kept(count: u64) -> usize
 
 // Whether one of so many slots has the ends of a line.
 fn among(lines: &[i64], count: usize, l: Row) -> bool
-    requires { ⌜ (count ≤ S.most) × (S.numbers ≤ length (now lines)) ⌝ }
+    requires { ⌜ (count ≤ S.most) × (S.room ≤ length (now lines)) ⌝ }
     ensures { λ r. ⌜ r ≡ S.among (now (lines .entry)) count l ⌝ }
 {
     let mut i = count;
@@ -108,77 +104,122 @@ fn among(lines: &[i64], count: usize, l: Row) -> bool
     false
 }
 
-// One line more that is painted again.
-fn again(r: Repeats, l: Row) -> Repeats
-    ensures { λ q. ⌜ q ≡ S.againOf r l ⌝ }
+// The size of a number of the list.
+fn size_at(lines: &[i64], at: usize) -> u64
+    requires { ⌜ at < length (now lines) ⌝ }
+    ensures { λ r. ⌜ r ≡ S.sizeAt (now (lines .entry)) at ⌝ }
 {
-    let first = r.first;
-    if r.twice > 0 {
+    size(lines[at])
+}
+
+// A number by its last 16 bits.
+fn low(z: i64) -> u64
+    ensures { λ r. ⌜ r ≡ S.lowOf z ⌝ }
+{
+    let n = size(z) % 65536;
+    if z < 0 {
+        return 65536 - n;
+    }
+    n
+}
+
+// The mark of a line, the same either way round: by the middle between its ends.
+fn mark(l: Row) -> usize
+    ensures { λ r. ⌜ r ≡ S.markOf l ⌝ }
+{
+    let across = low(l.b) + low(l.d);
+    let along = low(l.c) + low(l.e);
+    ((across * 31 + along * 1237) % 32749) as usize
+}
+
+// Whether a line was painted before. It is looked for only if one of its mark is still kept: most lines are new, and to look through all takes long.
+fn sought(lines: &[i64], l: Row) -> bool
+    requires { ⌜ S.room ≤ length (now lines) ⌝ }
+    ensures { λ r. ⌜ r ≡ S.soughtIn (now (lines .entry)) l ⌝ }
+{
+    let count = size_at(lines, COUNT);
+    let last = size_at(lines, MARKED + mark(l));
+    if last == 0 {
+        return false;
+    }
+    if count < sum(last, 4096) {
+        return among(lines, kept(count), l);
+    }
+    false
+}
+
+// A count as a number of the list.
+fn number(n: u64) -> i64
+    ensures { λ r. ⌜ r ≡ S.numberOf n ⌝ }
+{
+    if n <= 0x7FFF_FFFF_FFFF_FFFF {
+        return n as i64;
+    }
+    0x7FFF_FFFF_FFFF_FFFF
+}
+
+// A line is kept, and is the last one of its mark.
+fn keep(lines: &mut [i64], l: Row)
+    requires { ⌜ S.room ≤ length (now lines) ⌝ }
+    ensures { λ _. ⌜ now (lines .exit) ≡ S.keptWith (now (lines .entry)) l ⌝ }
+{
+    let count = size_at(lines, COUNT);
+    let next = number(sum(count, 1));
+    let place = MARKED + mark(l);
+    put_row(lines, (count % 4096) as usize * 5, l);
+    lines[COUNT] = next;
+    lines[place] = next;
+}
+
+// One more that was painted before; the first is told.
+fn again(lines: &mut [i64], l: Row)
+    requires { ⌜ S.room ≤ length (now lines) ⌝ }
+    ensures { λ _. ⌜ now (lines .exit) ≡ S.againOf (now (lines .entry)) l ⌝ }
+{
+    let twice = size_at(lines, TWICE);
+    lines[TWICE] = number(sum(twice, 1));
+    if twice == 0 {
+        put_row(lines, FIRST, l);
+    }
+}
+
+// One stroke more; a dot is no line. A list without room keeps nothing.
+pub fn painted(lines: &mut [i64], l: Row)
+    ensures { λ _. ⌜ now (lines .exit) ≡ S.paintedOf (now (lines .entry)) l ⌝ }
+{
+    if lines.len() < ROOM {
+        return;
+    }
+    if other_way(l, l) {
+        return;
+    }
+    let found = sought(lines, l);
+    keep(lines, l);
+    if found {
+        again(lines, l);
+    }
+}
+
+// What the list tells.
+pub fn told(lines: &[i64]) -> Repeats
+    ensures { λ r. ⌜ r ≡ S.toldOf (now (lines .entry)) ⌝ }
+{
+    if lines.len() < ROOM {
         return Repeats {
-            count: sum(r.count, 1),
-            twice: sum(r.twice, 1),
-            first: first,
+            twice: 0,
+            first: Row {
+                a: 0,
+                b: 0,
+                c: 0,
+                d: 0,
+                e: 0,
+            },
         };
     }
+    let twice = size_at(lines, TWICE);
+    let first = row_at(lines, FIRST);
     Repeats {
-        count: sum(r.count, 1),
-        twice: 1,
-        first: l,
-    }
-}
-
-fn counted(r: Repeats, l: Row, found: bool) -> Repeats
-    ensures { λ q. ⌜ q ≡ S.countedOf r l found ⌝ }
-{
-    let first = r.first;
-    if found {
-        return again(r, l);
-    }
-    Repeats {
-        count: sum(r.count, 1),
-        twice: r.twice,
+        twice: twice,
         first: first,
     }
-}
-
-// One stroke more; a dot is no line. The kept lines are changed in place.
-pub fn painted(r: Repeats, lines: &mut [i64], l: Row) -> Repeats
-    requires { ⌜ S.numbers ≤ length (now lines) ⌝ }
-    ensures { λ q. ⌜ q ≡ S.paintedOf r (now (lines .entry)) l ⌝ }
-    ensures { λ _. ⌜ now (lines .exit) ≡ S.linesAfter r (now (lines .entry)) l ⌝ }
-{
-    if other_way(l, l) {
-        return r;
-    }
-    let found = among(lines, kept(r.count), l);
-    put_row(lines, (r.count % 4096) as usize * 5, l);
-    counted(r, l, found)
-}
-
-// A record of a plot: a stroke, or a refusal, whose pen is 0.
-fn recorded(r: Repeats, lines: &mut [i64], l: Row) -> Repeats
-    requires { ⌜ S.numbers ≤ length (now lines) ⌝ }
-    ensures { λ q. ⌜ q ≡ S.recordedOf r (now (lines .entry)) l ⌝ }
-    ensures { λ _. ⌜ now (lines .exit) ≡ S.linesRecorded r (now (lines .entry)) l ⌝ }
-{
-    if l.a == 0 {
-        return r;
-    }
-    painted(r, lines, l)
-}
-
-// So many records, one after the other.
-pub fn recorded_all(r: Repeats, lines: &mut [i64], records: &[i64], count: usize) -> Repeats
-    requires { ⌜ (S.numbers ≤ length (now lines)) × (count * 5 ≤ length (now records)) ⌝ }
-    ensures { λ q. ⌜ q ≡ S.allOf r (now (lines .entry)) (now (records .entry)) 0 count ⌝ }
-    ensures { λ _. ⌜ now (lines .exit) ≡ S.allLines r (now (lines .entry)) (now (records .entry)) 0 count ⌝ }
-{
-    let mut repeats = r;
-    let mut i = 0;
-    while i < count {
-        let l = row_at(records, i * 5);
-        repeats = recorded(repeats, lines, l);
-        i += 1;
-    }
-    repeats
 }

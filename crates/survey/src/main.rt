@@ -1,5 +1,9 @@
 // The program survey: HP-GL in, one page of text on standard output: what is painted, what is cut off, what is refused, and whether the drawing is fit to
 // paint.
+ghost use mathlib.Core.Bool.{false};
+ghost use mathlib.Core.Path.{_≡_};
+ghost use Rattle.hpgl.specs.Machine.{occupied};
+ghost use Rattle.hpgl.specs.Valid.{Usable};
 use arguments::desk::asked;
 use arguments::desk::ready;
 use arguments::desk::refused;
@@ -8,7 +12,20 @@ use machine::Machine;
 mod page;
 
 use page::page;
+use surveying::Surveyed;
 use surveying::survey;
+
+// Surveys standard input. A file in its place is told by its name, which is looked up before a read can fail: errno is then that of the read.
+fn named(machine: Machine, file: usize) -> Surveyed
+    requires { ⌜ Usable (machine .state) × (occupied (machine .state .work) ≡ false) ⌝ }
+{
+    if file == 0 {
+        return survey(machine, b"standard input");
+    }
+    let mut word = io::buffer();
+    let n = os::arg(file, &mut word);
+    survey(machine, &word[..n])
+}
 
 fn main() {
     let r = asked();
@@ -26,5 +43,5 @@ fn main() {
         return;
     }
     let machine = started.machine;
-    page(hard, survey(machine), r.scale);
+    page(hard, named(machine, r.file), r.scale);
 }

@@ -23,6 +23,7 @@ use output::put_bytes;
 use output::put_natural;
 use output::put_words;
 use output::whole_then;
+use repeats::Repeats;
 use surveying::Surveyed;
 use words::harmless;
 use words::of_kind;
@@ -167,6 +168,27 @@ fn boxes(text: &mut [u8; 65536], used: usize, t: Tally, hard: Rect, scale: u8) -
     end = put_bytes(text, end, b"clipped by the limits, ");
     end = natural_then(text, end, t.hidden, b' ');
     put_bytes(text, end, b"hidden outside them\n\n")
+}
+
+// How many lines are painted twice, if any, and where the first is.
+fn twice(text: &mut [u8; 65536], used: usize, r: Repeats) -> usize {
+    let first = r.first;
+    if r.twice == 0 {
+        return used;
+    }
+    let mut end = put_bytes(text, used, b"Twice:    ");
+    end = natural_then(text, end, r.twice, b' ');
+    end = put_bytes(
+        text,
+        end,
+        b"painted over a line with the same two ends, the first from ",
+    );
+    end = whole_then(text, end, first.b, b' ');
+    end = whole_then(text, end, first.c, b' ');
+    end = put_bytes(text, end, b"to ");
+    end = whole_then(text, end, first.d, b' ');
+    end = whole_then(text, end, first.e, b'\n');
+    put_byte(text, end, b'\n')
 }
 
 // What stands between places, and after the last.
@@ -329,16 +351,32 @@ fn reasons(text: &mut [u8; 65536], used: usize, s: Surveyed, harm: u64, cut: u64
     end
 }
 
+// Lines painted twice, as a reason to look first.
+fn again(text: &mut [u8; 65536], used: usize, twice: u64) -> usize {
+    if twice == 0 {
+        return used;
+    }
+    let end = put_bytes(text, used, b" lines painted twice: ");
+    natural_then(text, end, twice, b'.')
+}
+
 // What to look at before a drawing is painted that is fit.
-fn warnings(text: &mut [u8; 65536], used: usize, t: Tally, hard: Rect) -> usize {
+fn warnings(text: &mut [u8; 65536], used: usize, s: Surveyed, hard: Rect) -> usize {
+    let t = s.tally;
     let p = t.paint;
     let painted = p.area;
+    let r = s.repeats;
     if little(painted, hard) {
-        return put_bytes(
+        let end = put_bytes(
             text,
             used,
             b", but look first: less than nine tenths of the sheet is used, across and along. Was it written at another scale?",
         );
+        return again(text, end, r.twice);
+    }
+    if r.twice > 0 {
+        let end = put_bytes(text, used, b", but look first:");
+        return again(text, end, r.twice);
     }
     used
 }
@@ -348,7 +386,7 @@ fn verdict(text: &mut [u8; 65536], used: usize, s: Surveyed, hard: Rect) -> usiz
     let r = s.refusals;
     if fit(t, r, s.broken, s.types, s.lost, s.unended, s.unread) {
         let end = put_bytes(text, used, b"fit to paint");
-        return warnings(text, end, t, hard);
+        return warnings(text, end, s, hard);
     }
     let end = put_bytes(text, used, b"not fit to paint:");
     reasons(text, end, s, harms(r, s.broken), cut_off(t))
@@ -358,10 +396,12 @@ pub fn page(hard: Rect, s: Surveyed, scale: u8) {
     let t = s.tally;
     let p = t.paint;
     let r = s.refusals;
+    let repeated = s.repeats;
     let mut text = io::large_buffer();
     let mut end = title(&mut text, 0, hard, scale);
     end = paint(&mut text, end, p, scale);
     end = boxes(&mut text, end, t, hard, scale);
+    end = twice(&mut text, end, repeated);
     end = replies(&mut text, end, s.replies);
     end = refused(&mut text, end, r);
     end = verdict(&mut text, end, s, hard);

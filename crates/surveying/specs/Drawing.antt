@@ -27,6 +27,7 @@ use Rattle.inking.specs.Inked.{inkedState}
 use Rattle.scanning.specs.declared.Types.{Types}
 use Rattle.scanning.specs.Escapes.{belongs, noEscapes, escapesIn, brokenAtEnd}
 use Rattle.scanning.specs.Pieces.{modeAfter, pieceOf}
+use Rattle.repeats.specs.Repeats.{toldOf}
 use Rattle.counting.specs.Tally.{nothingOf, countedOf}
 use Rattle.counting.specs.Verdict.{segmentsOf}
 use Rattle.counting.specs.Names.{unnamed, escaped, lettersBefore, nameOf}
@@ -75,6 +76,10 @@ unfoldable pub bytesFrom : Drawing → List ℕ → List ℕ → ℕ → Drawing
 bytesFrom d block [] at = d
 bytesFrom d block (b ∷ bs) at =
     bytesFrom (wentOn d block (takeState (d .machine .state) b) (at + 1) (takeNumber (d .machine .state) b)) block bs (at + 1)
+
+-- so far in a block: another machine, and other counts
+abbrev pub goneTo : Drawing → Machine → Tally → Refusals → ℕ → Drawing
+goneTo d m t r n = record { machine = m; before = d .before; letters = d .letters; nobody = d .nobody; tally = t; refusals = r; replies = n }
 
 -- the next block begins after this one
 abbrev pub endedOf : Drawing → List ℕ → Drawing
@@ -150,9 +155,11 @@ begunOf m = record {
   first = 0;
 }
 
-unfoldable pub finishedOf : Watched → Types → Bool → Surveyed
-finishedOf w types unread = record {
+-- with the lines that are kept of all strokes
+unfoldable pub finishedOf : Watched → Types → Bool → List ℤ → Surveyed
+finishedOf w types unread lines = record {
   tally = w .drawing .tally;
+  repeats = toldOf lines;
   refusals = w .drawing .refusals;
   broken = brokenAtEnd (w .escapes);
   replies = w .drawing .replies;

@@ -53,7 +53,7 @@ use Rattle.counting.specs.Tally.{countedOf}
 use Rattle.surveying.specs.declared.Drawing.{Drawing}
 use Rattle.surveying.specs.declared.Painted.{Painted}
 use Rattle.surveying.specs.declared.Replied.{Replied}
-use Rattle.surveying.specs.Drawing.{waitsOf, drawnOff, replyBytes, fetchedOff, judgedOf, refusedAt, refusalsAfter, wentOn, bytesFrom, endedOf, blockOf, stretch, placesOf, unnamedIn}
+use Rattle.surveying.specs.Drawing.{waitsOf, drawnOff, replyBytes, fetchedOff, judgedOf, refusedAt, refusalsAfter, wentOn, bytesFrom, goneTo, endedOf, blockOf, stretch, placesOf, unnamedIn}
 
 pub was-false : (b : Bool) → not b ≡ true → b ≡ false
 was-false true e = sym e
@@ -65,7 +65,7 @@ was-true false e = sym e
 
 -- ---- segments one by one
 
-work-waits : (m : State) (w : Work) → waitsOf (workSegment m w) ≡ true → 0 < waiting w
+pub work-waits : (m : State) (w : Work) → waitsOf (workSegment m w) ≡ true → 0 < waiting w
 unfolding waitsOf workSegment waiting
 work-waits m work.Nothing h = absurd (false≢true h)
 work-waits m (work.Line a b) h = omega arith
@@ -123,7 +123,7 @@ module _ (m : State) (t : Tally) where
 
 -- ---- a reply
 
-silent : (w : Work) → occupied w ≡ false → replying w ≡ false
+pub silent : (w : Work) → occupied w ≡ false → replying w ≡ false
 silent w h = go (replying w) refl
   where
     go : (b : Bool) → replying w ≡ b → b ≡ false
@@ -158,12 +158,12 @@ abbrev pub withRefusals : Drawing → Refusals → Drawing
 withRefusals d r = record { machine = d .machine; before = d .before; letters = d .letters; nobody = d .nobody; tally = d .tally; refusals = r; replies = d .replies }
 
 -- a segment or a reply waits: a run takes no byte, and none is refused
-record Stays (m : State) (at : ℕ) (r : Ran) : Type 0 where
-  state : r .machine .state ≡ m
-  place : r .at ≡ at
-  number : judgedOf (r .number) ≡ 0
+pub record Stays (m : State) (at : ℕ) (r : Ran) : Type 0 where
+  pub state : r .machine .state ≡ m
+  pub place : r .at ≡ at
+  pub number : judgedOf (r .number) ≡ 0
 
-run-stays : (m : State) (bs : List ℕ) (at : ℕ) → occupied (m .work) ≡ true → Stays m at (runOf m bs at)
+pub run-stays : (m : State) (bs : List ℕ) (at : ℕ) → occupied (m .work) ≡ true → Stays m at (runOf m bs at)
 unfolding runOf judgedOf untaken counted
 run-stays m [] at h = record { state = refl; place = refl; number = refl }
 run-stays m (b ∷ bs) at h = rw (held-number m b h, held-state m b h) (go (eqb (waiting (m .work)) 0))
@@ -202,7 +202,7 @@ module _ (block : List ℕ) where
   went-refused d m at n w f = rw (ne-eqb n 0 f, off-idle m (d .tally) (free-idle (m .work) w), fetched-none m (d .replies) (silent (m .work) w)) refl
 
   -- past one byte
-  one-on : (at b : ℕ) (bs : List ℕ) → drop at block ≡ b ∷ bs → drop (at + 1) block ≡ bs
+  pub one-on : (at b : ℕ) (bs : List ℕ) → drop at block ≡ b ∷ bs → drop (at + 1) block ≡ bs
   one-on at b bs e = sym (drop-drop 1 at block) ∙ ap (drop 1) e
 
   -- where a run leads
@@ -262,7 +262,7 @@ low-plain b = go (eqb b 9 || eqb b 10 || eqb b 13 || eqb b 32 || eqb b (code ","
     go false false false false = refl
 
 -- what is no letter for a name is none for the reader
-plain-class : (b : ℕ) → letterOf b ≡ 0 → NoLetter b
+pub plain-class : (b : ℕ) → letterOf b ≡ 0 → NoLetter b
 unfolding letterOf classOf isLetter
 plain-class b = go (ltb b 48) (leb b 57) (eqb b 59) (ltb b 65) (leb b 90) (ltb b 97) (leb b 122) refl refl
   where
@@ -282,7 +282,7 @@ every : {P Q : ℕ → Type 0} → ((b : ℕ) → P b → Q b) → {bs : List �
 every h none = none
 every h (more {x} p ps) = more (h x p) (every h ps)
 
-abbrev Plain : ℕ → Type 0
+abbrev pub Plain : ℕ → Type 0
 Plain b = letterOf b ≡ 0
 
 module _ (block : List ℕ) where
@@ -419,20 +419,20 @@ pub record Far (d : Drawing) (block : List ℕ) (machine : Machine) (tally : Tal
   pub place : at ≤ length block
   pub usable : Usable (machine .state)
   pub free : occupied (machine .state .work) ≡ false
-  pub follows : bytesFrom d block block 0 ≡ bytesFrom (record { machine = machine; before = d .before; letters = d .letters; nobody = d .nobody; tally = tally; refusals = refusals; replies = replies }) block (drop at block) at
+  pub follows : bytesFrom d block block 0 ≡ bytesFrom (goneTo d machine tally refusals replies) block (drop at block) at
 
 module _ (d : Drawing) (block : List ℕ) where
   pub far-begun : Usable (d .machine .state) → occupied (d .machine .state .work) ≡ false → Far d block (d .machine) (d .tally) (d .refusals) (d .replies) 0
   far-begun u w = record { place = omega arith; usable = u; free = w; follows = refl }
 
   pub far-ended : {m : Machine} {t : Tally} {q : Refusals} {n : ℕ} {at : ℕ} → Far d block m t q n at → length block ≤ at
-      → endedOf (record { machine = m; before = d .before; letters = d .letters; nobody = d .nobody; tally = t; refusals = q; replies = n }) block ≡ blockOf d block
+      → endedOf (goneTo d m t q n) block ≡ blockOf d block
   unfolding blockOf bytesFrom
   far-ended {m} {t} {q} {n} {at} f h = ap (λ (e : Drawing). endedOf e block) (sym (f .follows ∙ rw (drop-of-length-le block h) refl))
 
   module _ {m : Machine} {t : Tally} {q : Refusals} {n : ℕ} {at : ℕ} (f : Far d block m t q n at) where
     abbrev so-far : Drawing
-    so-far = record { machine = m; before = d .before; letters = d .letters; nobody = d .nobody; tally = t; refusals = q; replies = n }
+    so-far = goneTo d m t q n
 
     -- where the bytes that are left lead
     rest : at + length (drop at block) ≡ length block
@@ -494,13 +494,13 @@ module _ (d : Drawing) (block : List ℕ) where
       are : bytes ≡ take len (drop at block)
       are = ap (drop at) (take-add at len block) ∙ drop-at (take at block) (take len (drop at block)) at (length-take-le at block (f .place))
 
-      whole : drop at block ≡ bytes ++ drop len (drop at block)
+      pub whole : drop at block ≡ bytes ++ drop len (drop at block)
       whole = rw are (sym (take-append-drop len (drop at block)))
 
       within : at + length bytes ≤ length block
       within = omega (arith, rest, ap length whole, length-append bytes (drop len (drop at block)))
 
-      letters : Every Plain bytes
+      pub letters : Every Plain bytes
       letters = rw are (subst (λ (k : ℕ). Every Plain (take k (drop at block))) (sym is) (letterless-plain stretch (drop at block)))
 
       module _ (room : ℕ) {g : Gathered} (e : g ≡ plottedOf (plotFrom (m .state) bytes at room)) where

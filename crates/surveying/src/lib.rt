@@ -7,6 +7,8 @@ ghost use Prim.Native.Nat.{_*_, _≤_};
 ghost use lib.ListN.{length, take};
 ghost use Rattle.hpgl.specs.Machine.{waiting, occupied};
 ghost use Rattle.hpgl.specs.Valid.{Usable};
+ghost use Rattle.repeats.specs.Repeats.{paintedAll};
+ghost use Rattle.surveying.specs.Strokes as T;
 ghost use Rattle.surveying.specs.Drawing as S;
 use console::sum;
 use counting::names::Letters;
@@ -23,11 +25,19 @@ use counting::tally::counted;
 use counting::tally::nothing;
 use counting::verdict::segments;
 use decimals::size;
+use hpgl::Drawn;
 use hpgl::Segment;
+use hpgl::Stroke;
 use inking::inked;
+use libc::STDERR_FILENO;
 use libc::STDIN_FILENO;
 use machine::Machine;
 use reader::UNKNOWN;
+use repeats::ROOM;
+use repeats::Repeats;
+use repeats::painted;
+use repeats::told;
+use rows::Row;
 use rulekit::numbers::BUSY;
 use scanning::Types;
 use scanning::escapes::Escapes;
@@ -40,6 +50,7 @@ use scanning::no_types;
 use scanning::piece;
 use scanning::types_in;
 use streams::read;
+use streams::write_all;
 
 // A proved loop has to end: this one reads so many blocks at most, which no input uses up.
 const TURNS: u64 = 0x800000000000;
@@ -88,10 +99,11 @@ struct Watched {
     first: u64,
 }
 
-// A whole input: what is counted and refused, escape sequences that are broken off, replies, line types with numbers, lines without a pen, whether its last
-// instruction is open, and whether some of it could not be read.
+// A whole input: what is counted and refused, lines painted twice, escape sequences that are broken off, replies, line types with numbers, lines without a
+// pen, whether its last instruction is open, and whether some of it could not be read.
 pub struct Surveyed {
     pub tally: Tally,
+    pub repeats: Repeats,
     pub refusals: Refusals,
     pub broken: u64,
     pub replies: u64,
@@ -112,10 +124,35 @@ fn waits(s: Segment) -> bool
     }
 }
 
+// A stroke as a line among those that were painted: its ends, whatever its pen.
+fn ends_of(s: Stroke) -> Row
+    ensures { λ r. ⌜ r ≡ T.endsOf s ⌝ }
+{
+    Row {
+        a: 0,
+        b: s.x0,
+        c: s.y0,
+        d: s.x1,
+        e: s.y1,
+    }
+}
+
+// What is drawn of a segment is looked for among the lines that were painted, and kept.
+fn traced(lines: &mut [i64], d: Drawn)
+    ensures { λ _. ⌜ now (lines .exit) ≡ paintedAll (now (lines .entry)) (T.rowsOf d) ⌝ }
+{
+    match d {
+        Drawn::Idle => {}
+        Drawn::Hidden => {}
+        Drawn::Stroke(s) => painted(lines, ends_of(s)),
+    }
+}
+
 // Draws and counts the segments that wait.
-fn drawn_off(first: Machine, before: Tally) -> Painted
+fn drawn_off(first: Machine, before: Tally, lines: &mut [i64]) -> Painted
     requires { ⌜ Usable (first .state) ⌝ }
     ensures { λ r. ⌜ (r ≡ S.drawnOff (waiting (first .state .work)) (first .state) before) × Usable (r .machine .state) × (waiting (r .machine .state .work) ≡ 0) ⌝ }
+    ensures { λ _. ⌜ now (lines .exit) ≡ paintedAll (now (lines .entry)) (T.strokesAt (first .state)) ⌝ }
 {
     let mut machine = first;
     let mut tally = before;
@@ -130,6 +167,7 @@ fn drawn_off(first: Machine, before: Tally) -> Painted
         let w = machine.draw();
         let drawn = w.drawn;
         tally = counted(tally, s, drawn);
+        traced(lines, drawn);
         machine = w.machine;
     }
 }
@@ -217,11 +255,36 @@ fn unnamed(
     noted(refusals, UNKNOWN, nobody, &list[..count])
 }
 
+// The drawing after a block.
+fn ended(
+    d: Drawing,
+    block: &[u8],
+    machine: Machine,
+    tally: Tally,
+    refusals: Refusals,
+    replies: u64,
+) -> Drawing
+    ensures { λ r. ⌜ r ≡ S.endedOf (S.goneTo d machine tally refusals replies) (now (block .entry)) ⌝ }
+{
+    let letters = d.letters;
+    let nobody = d.nobody;
+    Drawing {
+        machine: machine,
+        before: sum(d.before, block.len() as u64),
+        letters: letters_before(letters, block, block.len()),
+        nobody: nobody,
+        tally: tally,
+        refusals: refusals,
+        replies: replies,
+    }
+}
+
 // A block: the machine runs up to a byte that leaves segments, which are drawn, or a reply, which is fetched, or that is refused. After that it is outside an
 // instruction, and bytes without letters leave nothing but refusals.
-fn block_of(d: Drawing, block: &[u8]) -> Drawing
+fn block_of(d: Drawing, block: &[u8], lines: &mut [i64]) -> Drawing
     requires { ⌜ Usable (d .machine .state) × (occupied (d .machine .state .work) ≡ false) ⌝ }
     ensures { λ r. ⌜ (r ≡ S.blockOf d (now (block .entry))) × Usable (r .machine .state) × (occupied (r .machine .state .work) ≡ false) ⌝ }
+    ensures { λ _. ⌜ now (lines .exit) ≡ paintedAll (now (lines .entry)) (T.strokesFrom (d .machine .state) (now (block .entry))) ⌝ }
 {
     let mut space = records();
     let numbers: &mut [i64] = &mut space;
@@ -239,7 +302,7 @@ fn block_of(d: Drawing, block: &[u8]) -> Drawing
         at = r.at;
         let number = judged(r.number);
         if number == 0 {
-            let p = drawn_off(machine, tally);
+            let p = drawn_off(machine, tally, lines);
             tally = p.tally;
             let f = fetched_off(p.machine, replies);
             machine = f.machine;
@@ -256,15 +319,7 @@ fn block_of(d: Drawing, block: &[u8]) -> Drawing
         at = g.at;
         refusals = unnamed(refusals, nobody, numbers, g.stored, before);
     }
-    Drawing {
-        machine: machine,
-        before: sum(before, block.len() as u64),
-        letters: letters_before(letters, block, block.len()),
-        nobody: nobody,
-        tally: tally,
-        refusals: refusals,
-        replies: replies,
-    }
+    ended(d, block, machine, tally, refusals, replies)
 }
 
 // The drawing with a pen in hand, and nothing counted yet.
@@ -294,7 +349,9 @@ fn lost_in(d: Drawing, piece: &[u8]) -> u64
     let machine = d.machine;
     let seen = machine.look();
     if seen.pen == 0 {
-        let drawn = block_of(with_pen(d), piece);
+        // a list without room: what is not painted is not painted twice
+        let mut none = [0; 1];
+        let drawn = block_of(with_pen(d), piece, &mut none);
         let tally = drawn.tally;
         return segments(tally);
     }
@@ -357,15 +414,16 @@ fn last(piece: &[u8]) -> u8
 }
 
 // A piece: within it no other pen is taken, and all bytes belong to an escape sequence or none does.
-fn piece_of(w: Watched, piece: &[u8]) -> Watched
+fn piece_of(w: Watched, piece: &[u8], lines: &mut [i64]) -> Watched
     requires { ⌜ Usable (w .drawing .machine .state) × (occupied (w .drawing .machine .state .work) ≡ false) ⌝ }
     ensures { λ r. ⌜ (r ≡ S.pieceDone w (now (piece .entry))) × Usable (r .drawing .machine .state) × (occupied (r .drawing .machine .state .work) ≡ false) ⌝ }
+    ensures { λ _. ⌜ now (lines .exit) ≡ paintedAll (now (lines .entry)) (T.strokesFrom (w .drawing .machine .state) (now (piece .entry))) ⌝ }
 {
     let escapes = w.escapes;
     let d = entered(w.drawing, byte_name(escapes.state, piece));
     let place = sum(d.before, 1);
     let more = lost_in(d, piece);
-    let next = block_of(d, piece);
+    let next = block_of(d, piece, lines);
     Watched {
         drawing: next,
         mode: mode_after(w.mode, last(piece)),
@@ -376,9 +434,10 @@ fn piece_of(w: Watched, piece: &[u8]) -> Watched
 }
 
 // A block, piece by piece.
-fn pieces(w: Watched, block: &[u8]) -> Watched
+fn pieces(w: Watched, block: &[u8], lines: &mut [i64]) -> Watched
     requires { ⌜ Usable (w .drawing .machine .state) × (occupied (w .drawing .machine .state .work) ≡ false) ⌝ }
     ensures { λ r. ⌜ (r ≡ S.watchedOf w (now (block .entry))) × Usable (r .drawing .machine .state) × (occupied (r .drawing .machine .state .work) ≡ false) ⌝ }
+    ensures { λ _. ⌜ now (lines .exit) ≡ paintedAll (now (lines .entry)) (T.strokesFrom (w .drawing .machine .state) (now (block .entry))) ⌝ }
 {
     let mut far = w;
     let mut at = 0;
@@ -389,7 +448,7 @@ fn pieces(w: Watched, block: &[u8]) -> Watched
         }
         let escapes = far.escapes;
         let n = piece(far.mode, escapes.state, block, at);
-        far = piece_of(far, &block[at..at + n]);
+        far = piece_of(far, &block[at..at + n], lines);
         at += n;
         turns -= 1;
     }
@@ -410,9 +469,9 @@ fn open_end(machine: Machine) -> bool
 }
 
 // What there is to say of a drawing that has been read, or could not be.
-fn finished(w: Watched, types: Types, unread: bool) -> Surveyed
+fn finished(w: Watched, types: Types, unread: bool, lines: &[i64]) -> Surveyed
     requires { ⌜ Usable (w .drawing .machine .state) ⌝ }
-    ensures { λ r. ⌜ r ≡ S.finishedOf w types unread ⌝ }
+    ensures { λ r. ⌜ r ≡ S.finishedOf w types unread (now (lines .entry)) ⌝ }
 {
     let d = w.drawing;
     let machine = d.machine;
@@ -421,6 +480,7 @@ fn finished(w: Watched, types: Types, unread: bool) -> Surveyed
     let escapes = w.escapes;
     Surveyed {
         tally: tally,
+        repeats: told(lines),
         refusals: refusals,
         broken: broken_at_end(escapes),
         replies: d.replies,
@@ -453,27 +513,29 @@ fn begun(machine: Machine) -> Watched
     }
 }
 
-// Standard input to its end, or to a read that fails, which is told at once.
-pub fn survey(machine: Machine) -> Surveyed
+// Standard input to its end, or to a read that fails, which is told at once, with the name of the input.
+pub fn survey(machine: Machine, input: &[u8]) -> Surveyed
     requires { ⌜ Usable (machine .state) × (occupied (machine .state .work) ≡ false) ⌝ }
 {
     let mut block = io::large_buffer();
+    let mut lines = [0; ROOM];
     let mut types = no_types();
     let mut w = begun(machine);
     let mut turns = TURNS;
     while turns > 0 {
         let got = read(STDIN_FILENO, &mut block);
         if !got.good {
-            os::fail(b"survey: standard input");
-            return finished(w, types, true);
+            write_all(STDERR_FILENO, b"survey: ");
+            os::fail(input);
+            return finished(w, types, true, &lines);
         }
         let n = got.count;
         if n == 0 {
-            return finished(w, types, false);
+            return finished(w, types, false, &lines);
         }
         types = types_in(types, &block[..n]);
-        w = pieces(w, &block[..n]);
+        w = pieces(w, &block[..n], &mut lines);
         turns -= 1;
     }
-    finished(w, types, true)
+    finished(w, types, true, &lines)
 }

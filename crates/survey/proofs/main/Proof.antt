@@ -31,8 +31,8 @@ refused-requires c κs = search needs
 returns-2 : tie.Need-returns-2
 returns-2 c = search needs
 
-survey-requires : tie.Need-survey-requires
-survey-requires c κs = let f : tie.After-fresh = search in (started-usable _ (f .fresh .ensures), started-free _ (f .fresh .ensures))
+named-requires : tie.Need-named-requires
+named-requires c κs = let f : tie.After-fresh = search in (started-usable _ (f .fresh .ensures), started-free _ (f .fresh .ensures))
 
 page-requires : tie.Need-page-requires
 page-requires c κs = search needs
@@ -53,6 +53,6 @@ main-spec =
     slice-aggregate-refused
     refused-requires
     returns-2
-    survey-requires
+    named-requires
     page-requires
     returns-3)

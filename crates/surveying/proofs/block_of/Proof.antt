@@ -1,32 +1,30 @@
 -- Each turn goes further, and what is left comes to the same.
 use borrow.Author.Needs.{needs}
-use mathlib.Core.Path.{_≡_, sym, ap, _∙_}
+use mathlib.Core.Path.{_≡_, refl, sym, ap, _∙_}
 use Prim.Native.Nat.{ℕ, _-_, _<_}
 use native.Mathlib.Omega.{arith}
 use denote.Ref.{now}
 use mathlib.Core.List.{List}
 use lib.IntN.{ℤ}
-use lib.ListN.{length}
+use lib.ListN.{length, drop}
 use lib.Seq.{length-take-le}
-use Rattle.machine.specs.declared.Machine.{Machine}
-use Rattle.counting.specs.declared.names.Letters.{Letters}
-use Rattle.counting.specs.declared.refusals.Refusals.{Refusals}
-use Rattle.counting.specs.declared.tally.Tally.{Tally}
-use Rattle.surveying.specs.declared.Drawing.{Drawing}
-use Rattle.surveying.specs.Drawing.{stretchNumbers, unnamedIn}
+use Rattle.repeats.specs.Repeats.{paintedAll}
+use Rattle.surveying.specs.declared.Painted.{Painted}
+use Rattle.surveying.specs.declared.Replied.{Replied}
+use Rattle.surveying.specs.Drawing.{stretchNumbers, unnamedIn, fetchedOff}
 use Rattle.surveying.specs.Laws.{Far, far-begun, far-ended, ran-further, ran-usable, ran-outside, far-drawn, far-refused, stretch-within, plotted-further, plotted-few, far-plotted}
+use Rattle.surveying.specs.Strokes.{strokesFrom}
+use Rattle.surveying.specs.StrokeLaws.{off-settled, traced-end, traced-drawn, traced-refused, plotted-strokes}
 use Rattle.surveying.proofs.block_of.Statement.{statement}
 use Rattle.surveying.proofs.block_of.Tie as tie
 
-abbrev begun : Machine → ℕ → Letters → Letters → Tally → Refusals → ℕ → Drawing
-begun m n l o t r k = record { machine = m; before = n; letters = l; nobody = o; tally = t; refusals = r; replies = k }
-
 abbrev Inv-loop : tie.InvT-loop
-Inv-loop block numbers₀ letters nobody before machine₀ tally₀ refusals₀ replies₀ at₀ numbers machine tally refusals replies at =
-    Far (begun machine₀ before letters nobody tally₀ refusals₀ replies₀) block machine tally refusals replies at × (length numbers ≡ stretchNumbers)
+Inv-loop d block lines₀ numbers₀ letters nobody before machine₀ tally₀ refusals₀ replies₀ at₀ lines numbers machine tally refusals replies at =
+    Far d block machine tally refusals replies at × (length numbers ≡ stretchNumbers) × (length lines ≡ length lines₀)
+    × (paintedAll lines₀ (strokesFrom (d .machine .state) block) ≡ paintedAll lines (strokesFrom (machine .state) (drop at block)))
 
 abbrev μ-loop : tie.MeasureT-loop
-μ-loop block numbers₀ letters nobody before machine₀ tally₀ refusals₀ replies₀ at₀ numbers machine tally refusals replies at =
+μ-loop d block lines₀ numbers₀ letters nobody before machine₀ tally₀ refusals₀ replies₀ at₀ lines numbers machine tally refusals replies at =
     length block - at
 
 -- from the loop back to its start
@@ -43,7 +41,7 @@ loop-holds : tie.Need-loop-holds Inv-loop μ-loop
 loop-holds c =
     let s : tie.Start Inv-loop μ-loop = search in
     let r : tie.After-records Inv-loop μ-loop = search in
-    (far-begun (s .args .d) (now (s .args .block)) (s .pre .0) (s .pre .1), sym (r .records .ensures))
+    (far-begun (s .args .d) (now (s .args .block)) (s .pre .0) (s .pre .1), sym (r .records .ensures), refl, refl)
 
 run-requires : tie.Need-run-requires Inv-loop μ-loop
 run-requires c κs = let l : tie.At-loop Inv-loop μ-loop = search in l .loop .inv .0 .usable
@@ -59,7 +57,7 @@ drawn-off-requires c κs =
     ran-usable (s .args .d) (now (s .args .block)) (l .loop .inv .0) (r .run .result) (r .run .ensures)
 
 fetched-off-requires : tie.Need-fetched-off-requires Inv-loop μ-loop
-fetched-off-requires c κs = let p : tie.After-drawn-off Inv-loop μ-loop = search in p .drawn-off .ensures .1
+fetched-off-requires c κs = let p : tie.After-drawn-off Inv-loop μ-loop = search in p .drawn-off .ensures .0 .1
 
 -- from a run back to the turn of the loop; it takes a byte, so that fewer are left
 abbrev turn : tie.After-run Inv-loop μ-loop → tie.In-loop Inv-loop μ-loop
@@ -99,8 +97,13 @@ loop-again c =
     let p = drawn k in
     let r = run-drawn p in
     let l = loop-at r in
-    let s = start l in
-    (far-drawn (s .args .d) (now (s .args .block)) (l .loop .inv .0) (r .run .result) (r .run .ensures) (judged-drawn p .judged .ensures) (quiet p .if1 .taken) (p .drawn-off .ensures .0) (p .drawn-off .ensures .1) (p .drawn-off .ensures .2) (k .fetched-off .ensures .0) (k .fetched-off .ensures .1), l .loop .inv .1)
+    let s = start l in (
+      far-drawn (s .args .d) (now (s .args .block)) (l .loop .inv .0) (r .run .result) (r .run .ensures) (judged-drawn p .judged .ensures) (quiet p .if1 .taken) (p .drawn-off .ensures .0 .0) (p .drawn-off .ensures .0 .1) (p .drawn-off .ensures .0 .2) (k .fetched-off .ensures .0) (k .fetched-off .ensures .1),
+      l .loop .inv .1,
+      p .drawn-off .kept .1 .1 .0 ∙ l .loop .inv .2,
+      l .loop .inv .3 ∙ traced-drawn (now (s .args .block)) (l .loop .lines) (l .loop .machine .state) (l .loop .at) (l .loop .inv .0 .free) (r .run .ensures) (p .drawn-off .ensures .1)
+          (ap (λ (x : Replied). x .machine .state) (k .fetched-off .ensures .0 ∙ ap (λ (x : Painted). fetchedOff (x .machine .state) (l .loop .replies)) (p .drawn-off .ensures .0 .0)) ∙ off-settled (r .run .result .machine .state) (l .loop .tally) (l .loop .replies)),
+    )
 
 refused-requires : tie.Need-refused-requires Inv-loop μ-loop
 refused-requires c κs = search needs
@@ -121,7 +124,12 @@ loop-again-2 c =
     let e : tie.Else1 Inv-loop μ-loop = search in
     let j : tie.After-judged Inv-loop μ-loop = search in
     let k : tie.After-refused Inv-loop μ-loop = search in
-    (far-refused (s .args .d) (now (s .args .block)) (l .loop .inv .0) (r .run .result) (r .run .ensures) (j .judged .ensures) (e .if1 .left) (k .refused .ensures), l .loop .inv .1)
+    let o = ran-outside (s .args .d) (now (s .args .block)) (l .loop .inv .0) (r .run .result) (r .run .ensures) (j .judged .ensures) (e .if1 .left) in (
+      far-refused (s .args .d) (now (s .args .block)) (l .loop .inv .0) (r .run .result) (r .run .ensures) (j .judged .ensures) (e .if1 .left) (k .refused .ensures),
+      l .loop .inv .1,
+      l .loop .inv .2,
+      l .loop .inv .3 ∙ traced-refused (now (s .args .block)) (l .loop .lines) (l .loop .machine .state) (l .loop .at) (l .loop .inv .0 .free) (r .run .ensures) o,
+    )
 
 -- from what follows the search for a letter back to the run, and to the loop
 abbrev run-of : tie.After-letterless Inv-loop μ-loop → tie.After-run Inv-loop μ-loop
@@ -195,21 +203,27 @@ loop-again-3 c =
       far-plotted (s .args .d) (now (s .args .block)) (far-of n) (n .letterless .result) (n .letterless .ensures) _ (g .plot .ensures .0) o _
           (c .unnamed .ensures ∙ ap (λ (ns : List ℤ). unnamedIn (n .before .refused .result) (s .args .d .nobody) (s .args .d .before) ns (g .plot .result .stored)) (g .plot .ensures .1)),
       g .plot .kept .1 .1 .1 .0 ∙ l .loop .inv .1,
+      l .loop .inv .2,
+      l .loop .inv .3
+          ∙ traced-refused (now (s .args .block)) (l .loop .lines) (l .loop .machine .state) (l .loop .at) (l .loop .inv .0 .free) (run-of n .run .ensures) o
+          ∙ ap (paintedAll (l .loop .lines)) (plotted-strokes (s .args .d) (now (s .args .block)) (far-of n) (n .letterless .result) (n .letterless .ensures) _ (g .plot .ensures .0) o),
     )
 
-sum-requires : tie.Need-sum-requires Inv-loop μ-loop
-sum-requires c κs = search needs
+ended-requires : tie.Need-ended-requires Inv-loop μ-loop
+ended-requires c κs = search needs
 
-letters-before-requires : tie.Need-letters-before-requires Inv-loop μ-loop
-letters-before-requires c κs = search needs
+same-length : tie.Need-same-length Inv-loop μ-loop
+same-length c = let l : tie.At-loop Inv-loop μ-loop = search in l .loop .inv .2
 
 returns : tie.Need-returns Inv-loop μ-loop
 returns c =
     let l : tie.At-loop Inv-loop μ-loop = search in
     let s = start l in
-    let u : tie.After-sum Inv-loop μ-loop = search in
+    let e : tie.After-ended Inv-loop μ-loop = search in
     let f = l .loop .inv .0 in
-    (rw (c .letters-before .ensures, u .sum .ensures) (far-ended (s .args .d) (now (s .args .block)) f (omega arith)), f .usable, f .free)
+    let is = e .ended .ensures in
+    let all = far-ended (s .args .d) (now (s .args .block)) f (omega arith) in
+    ((is ∙ all, rw is (f .usable), rw is (f .free)), sym (l .loop .inv .3 ∙ traced-end (l .loop .lines) (l .loop .machine .state) (now (s .args .block)) (l .loop .at) (omega arith)))
 
 pub block-of-spec : {M : Type 1} → statement M
 block-of-spec =
@@ -236,6 +250,6 @@ block-of-spec =
     unnamed-requires
     loop-less-3
     loop-again-3
-    sum-requires
-    letters-before-requires
+    ended-requires
+    same-length
     returns)
