@@ -21,7 +21,7 @@ enum { BLOCK = 65536, ROOM = 4096, LINE = 128, TEXT = 65536 };
 
 static vutaroi_machine machine;
 static uint8_t block[BLOCK];
-static int64_t records[ROOM * VUTAROI_RECORD];
+static vutaroi_stroke strokes[ROOM];
 static char text[TEXT];
 static size_t used;
 
@@ -63,16 +63,16 @@ static int flush(void)
     return 1;
 }
 
-/* The lines of some records, and of a refusal on the byte `place`, where number is one; 0 where a write failed. */
+/* The lines of the first strokes, and of a refusal on the byte `place`, where number is one; 0 where a write failed. */
 static int print(uint64_t stored, int number, uint64_t place)
 {
     for (uint64_t i = 0; i < stored; i++) {
-        const int64_t *r = records + i * VUTAROI_RECORD;
+        const vutaroi_stroke *s = strokes + i;
         if (TEXT - used < LINE && !flush())
             return 0;
-        used += (size_t)snprintf(text + used, LINE, "%" PRId64 " %" PRId64 " %" PRId64 " %" PRId64 " %" PRId64 "\n", r[0], r[1], r[2], r[3], r[4]);
+        used += (size_t)snprintf(text + used, LINE, "%" PRId64 " %" PRId64 " %" PRId64 " %" PRId64 " %" PRId64 "\n", s->pen, s->x0, s->y0, s->x1, s->y1);
     }
-    if (number == 0 || number == VUTAROI_FULL || number == VUTAROI_BUSY)
+    if (number == VUTAROI_NONE || number == VUTAROI_FULL || number == VUTAROI_BUSY)
         return 1;
     if (TEXT - used < LINE && !flush())
         return 0;
@@ -119,7 +119,7 @@ static int print_block(size_t count, uint64_t before)
 
     do {
         uint64_t answer[2];
-        number = vutaroi_feed(&machine, VUTAROI_NUMBERS, block + at, count - at, records, ROOM * VUTAROI_RECORD, answer, 2);
+        number = vutaroi_feed(&machine, VUTAROI_NUMBERS, block + at, count - at, vutaroi_records(strokes), ROOM * VUTAROI_RECORD, answer, 2);
         if (number == VUTAROI_NO_MACHINE || number == VUTAROI_SHORT)
             return damaged(number);
         at += answer[0];

@@ -23,20 +23,7 @@
  * On disk. A machine may be copied, and kept as its VUTAROI_NUMBERS numbers of 64 bits, in the order and with the byte order of the processor
  * that wrote them. A library that writes another form has another version in the first number, and answers 40 to this one.
  *
- * Numbers. 0 stands for none; else it says why a byte or a call was refused:
- *    1  unknown byte or name, number with no instruction, not known in polygon mode
- *    2  count of numbers
- *    3  number or setting out of range
- *    6  location out of range
- *    7  too many polygon bytes
- *   10  bad hard limits
- *   20  take while a segment or a reply waits
- *   21  list of records full
- *   31  buffer shorter than the reply
- *   32  a stroke to be written has a pen other than 1 to 8, or an end out of range
- *   33  output too short for the text
- *   40  no machine
- *   41  a list is too short
+ * Numbers. Each call answers one of enum vutaroi_number, 0 for none; vutaroi_draw answers one of enum vutaroi_drawn, 40 or 41.
  */
 #ifndef VUTAROI_H
 #define VUTAROI_H
@@ -54,7 +41,7 @@ extern "C" {
 /* The version of a machine's form, which is its first number. */
 #define VUTAROI_FORM 5
 
-/* The numbers of a machine, and of a record: a stroke is pen, x0, y0, x1, y1. */
+/* The numbers of a machine, and of a record, which is a vutaroi_stroke. */
 #define VUTAROI_NUMBERS 650
 #define VUTAROI_RECORD 5
 
@@ -64,28 +51,51 @@ extern "C" {
 /* The bytes of stack that a call needs. */
 #define VUTAROI_STACK 65536
 
+/* Why a byte or a call was refused, by the numbers of documents 01 and 02; 40 and 41 are of this library alone. */
+enum vutaroi_number {
+    VUTAROI_NONE = 0,        /* not refused */
+    VUTAROI_UNKNOWN = 1,     /* unknown byte or name, number with no instruction, not known in polygon mode */
+    VUTAROI_COUNT = 2,       /* count of numbers */
+    VUTAROI_RANGE = 3,       /* number or setting out of range */
+    VUTAROI_LOCATION = 6,    /* location out of range */
+    VUTAROI_POLYGON = 7,     /* too many polygon bytes */
+    VUTAROI_LIMITS = 10,     /* bad hard limits */
+    VUTAROI_PITCH = 11,      /* unknown pitch code; of the drive, which has no call here */
+    VUTAROI_DRIVE = 12,      /* stroke out of the range of the drive; likewise */
+    VUTAROI_BUSY = 20,       /* take while a segment or a reply waits; feed and plot: a reply waits, fetch it, and hand on the bytes after those taken */
+    VUTAROI_FULL = 21,       /* no record was free: hand on the bytes after those taken, and a free list */
+    VUTAROI_BUFFER = 31,     /* buffer shorter than the reply, which still waits */
+    VUTAROI_UNWRITABLE = 32, /* a stroke to be written has a pen other than 1 to 8, or an end out of range */
+    VUTAROI_OUTPUT = 33,     /* output too short for the text */
+    VUTAROI_NO_MACHINE = 40, /* no machine */
+    VUTAROI_SHORT = 41       /* a list is too short */
+};
+
 /* What vutaroi_draw answers: no segment waits; one was worked off and nothing of it shows; one was worked off, and `stroke` has it. */
-#define VUTAROI_IDLE 0
-#define VUTAROI_HIDDEN 1
-#define VUTAROI_STROKE 2
-
-/* The number of a call that stopped because a reply waits; fetch it, and hand on the bytes after those it took. */
-#define VUTAROI_BUSY 20
-
-/* The number of a call that stopped because no record was free; hand it the bytes after those it took, and a free list. */
-#define VUTAROI_FULL 21
-
-/* The number of a fetch whose buffer is shorter than the reply. */
-#define VUTAROI_BUFFER 31
-
-/* The numbers of a call that was handed what is no machine, or a list that is too short. */
-#define VUTAROI_NO_MACHINE 40
-#define VUTAROI_SHORT 41
+enum vutaroi_drawn { VUTAROI_IDLE = 0, VUTAROI_HIDDEN = 1, VUTAROI_STROKE = 2 };
 
 /* A machine. Only the calls write it. */
 typedef struct vutaroi_machine {
     int64_t numbers[VUTAROI_NUMBERS];
 } vutaroi_machine;
+
+/* A record by names. That of a refusal, which vutaroi_plot stores, has no pen: pen is 0, x0 the number and y0 the place of the byte. */
+typedef struct vutaroi_stroke {
+    int64_t pen;
+    int64_t x0;
+    int64_t y0;
+    int64_t x1;
+    int64_t y1;
+} vutaroi_stroke;
+
+/* A stroke is just its five numbers: this does not compile where one had gaps. */
+typedef char vutaroi_stroke_has_no_gaps[sizeof(vutaroi_stroke) == VUTAROI_RECORD * sizeof(int64_t) ? 1 : -1];
+
+/* A list of strokes as the list of numbers that the calls are lent: VUTAROI_RECORD for each. */
+static inline int64_t *vutaroi_records(vutaroi_stroke *strokes)
+{
+    return (int64_t *)(void *)strokes;
+}
 
 /* 10000 * major + 100 * minor + patch. */
 uint32_t vutaroi_version(void);
