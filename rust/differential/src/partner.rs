@@ -39,8 +39,7 @@ pub fn write(strokes: &[Record], out: &mut [u8]) -> (usize, u8) {
 pub fn write_own(strokes: &[vutaroi::Stroke], out: &mut [u8]) -> (usize, u8) {
     match vutaroi::write(strokes, out) {
         Ok(length) => (length, number::NONE),
-        Err(vutaroi::NotWritten::Stroke) => (0, number::STROKE),
-        Err(vutaroi::NotWritten::Short) => (0, number::OUTPUT),
+        Err(refusal) => (0, refusal.number()),
     }
 }
 
@@ -56,19 +55,26 @@ fn stroke(s: vutaroi::Stroke) -> Stroke {
 }
 
 fn fed(f: vutaroi::Fed) -> Fed {
-    Fed { taken: f.taken, stored: f.stored, number: f.number }
+    Fed { taken: f.taken, stored: f.stored, number: number_of(f.stopped) }
 }
 
-/// The proved library refuses no machine of its own: a refusal is a difference, and ends the test.
+/// The number of a refusal, 0 for none.
+pub fn number_of(refusal: Option<vutaroi::Refusal>) -> u8 {
+    refusal.map_or(number::NONE, vutaroi::Refusal::number)
+}
+
+/// The proved library refuses no machine of its own: a refusal is a difference, and ends the test. Where
+/// the refusal itself is the answer, 40 is one that no baseline gives.
 const OWN: &str = "the library takes each machine that its calls left";
 
 impl Partner for vutaroi::Machine {
     fn fresh([left, bottom, right, top]: [i64; 4]) -> (Self, u8) {
-        vutaroi::Machine::fresh(left, bottom, right, top)
+        let (machine, refusal) = vutaroi::Machine::fresh_anyway(left, bottom, right, top);
+        (machine, number_of(refusal))
     }
 
     fn take(&mut self, byte: u8) -> u8 {
-        vutaroi::Machine::take(self, byte).expect(OWN)
+        number_of(vutaroi::Machine::take(self, byte).err())
     }
 
     fn draw(&mut self) -> Drawn {
@@ -92,8 +98,10 @@ impl Partner for vutaroi::Machine {
 
     #[cfg(feature = "replies")]
     fn fetch(&mut self, buffer: &mut [u8]) -> (usize, u8) {
-        let answer = vutaroi::Machine::fetch(self, buffer).expect(OWN);
-        (answer.length, answer.number)
+        match vutaroi::Machine::fetch(self, buffer) {
+            Ok(length) => (length, number::NONE),
+            Err(refusal) => (0, refusal.number()),
+        }
     }
 
     /// A library from before change request 5 has no such call, and makes no reply.

@@ -2,14 +2,10 @@
 //! the crate. What makes it sound: a slice crosses as its pointer and its length, no two overlap, and
 //! the library is proved for all lists: one that is no machine is refused.
 
-use crate::{Fed, Fetched, Mark, NoMachine, Stroke};
+use crate::{Fed, Mark, Refusal, Stroke};
 
 /// The numbers of a machine: `VUTAROI_NUMBERS` of `include/vutaroi.h`.
 pub const NUMBERS: usize = 650;
-
-/// The numbers of a call that was handed no machine, or a list that is too short.
-const NO_MACHINE: u8 = 40;
-const SHORT: u8 = 41;
 
 /// The numbers of a stroke or a mark.
 const RECORD_NUMBERS: usize = 5;
@@ -70,11 +66,17 @@ extern "C" {
 
 type State = [i64; NUMBERS];
 
-/// The number of a call, unless the library found no machine.
-fn gone(number: u8) -> Result<u8, NoMachine> {
-    match number {
-        NO_MACHINE | SHORT => Err(NoMachine),
-        _ => Ok(number),
+/// A number that says that something was refused.
+fn answered(number: u8) -> Result<(), Refusal> {
+    Refusal::of(number).map_or(Ok(()), Err)
+}
+
+/// What a call stopped with, unless the library found no machine. (No list of these calls is too short,
+/// which is 41.)
+fn stopped(number: u8) -> Result<Option<Refusal>, Refusal> {
+    match Refusal::of(number) {
+        Some(refusal) if refusal >= Refusal::NO_MACHINE => Err(refusal),
+        stopped => Ok(stopped),
     }
 }
 
@@ -83,30 +85,39 @@ pub fn version() -> u32 {
     unsafe { vutaroi_version() }
 }
 
-pub fn fresh(left: i64, bottom: i64, right: i64, top: i64, state: &mut State) -> u8 {
+pub fn fresh(
+    left: i64,
+    bottom: i64,
+    right: i64,
+    top: i64,
+    state: &mut State,
+) -> Result<(), Refusal> {
     // SAFETY: the count is the list's.
-    unsafe { vutaroi_fresh(left, bottom, right, top, state.as_mut_ptr(), NUMBERS) }
+    answered(unsafe { vutaroi_fresh(left, bottom, right, top, state.as_mut_ptr(), NUMBERS) })
 }
 
-pub fn take(state: &mut State, byte: u8) -> Result<u8, NoMachine> {
+pub fn take(state: &mut State, byte: u8) -> Result<(), Refusal> {
     // SAFETY: the count is the list's.
-    gone(unsafe { vutaroi_take(state.as_mut_ptr(), NUMBERS, byte) })
+    answered(unsafe { vutaroi_take(state.as_mut_ptr(), NUMBERS, byte) })
 }
 
-pub fn draw(state: &mut State, stroke: &mut Stroke) -> Result<u8, NoMachine> {
+/// 0, 1 or 2: idle, hidden, or the stroke.
+pub fn draw(state: &mut State, stroke: &mut Stroke) -> Result<u8, Refusal> {
     let numbers: *mut Stroke = stroke;
     // SAFETY: the counts are the lists', and a stroke is five numbers.
-    gone(unsafe { vutaroi_draw(state.as_mut_ptr(), NUMBERS, numbers.cast(), RECORD_NUMBERS) })
+    let drawn =
+        unsafe { vutaroi_draw(state.as_mut_ptr(), NUMBERS, numbers.cast(), RECORD_NUMBERS) };
+    stopped(drawn).map(|_| drawn)
 }
 
-pub fn look(state: &State) -> Result<[i64; 5], NoMachine> {
+pub fn look(state: &State) -> Result<[i64; 5], Refusal> {
     let mut seen = [0; 5];
     // SAFETY: the counts are the lists'; the call only reads the state.
-    gone(unsafe { vutaroi_look(state.as_ptr(), NUMBERS, seen.as_mut_ptr(), seen.len()) })?;
+    answered(unsafe { vutaroi_look(state.as_ptr(), NUMBERS, seen.as_mut_ptr(), seen.len()) })?;
     Ok(seen)
 }
 
-pub fn fetch(state: &mut State, out: &mut [u8]) -> Result<Fetched, NoMachine> {
+pub fn fetch(state: &mut State, out: &mut [u8]) -> Result<usize, Refusal> {
     let mut answer = [0u64; 1];
     // SAFETY: the counts are the lists'.
     let number = unsafe {
@@ -119,10 +130,10 @@ pub fn fetch(state: &mut State, out: &mut [u8]) -> Result<Fetched, NoMachine> {
             answer.len(),
         )
     };
-    Ok(Fetched { length: answer[0] as usize, number: gone(number)? })
+    answered(number).map(|()| answer[0] as usize)
 }
 
-pub fn feed(state: &mut State, bytes: &[u8], strokes: &mut [Stroke]) -> Result<Fed, NoMachine> {
+pub fn feed(state: &mut State, bytes: &[u8], strokes: &mut [Stroke]) -> Result<Fed, Refusal> {
     let mut answer = [0u64; 2];
     // SAFETY: the counts are the lists'; a stroke is five numbers, and any will do.
     let number = unsafe {
@@ -140,7 +151,7 @@ pub fn feed(state: &mut State, bytes: &[u8], strokes: &mut [Stroke]) -> Result<F
     fed(answer, number)
 }
 
-pub fn plot(state: &mut State, bytes: &[u8], marks: &mut [Mark]) -> Result<Fed, NoMachine> {
+pub fn plot(state: &mut State, bytes: &[u8], marks: &mut [Mark]) -> Result<Fed, Refusal> {
     let mut answer = [0u64; 2];
     // SAFETY: the counts are the lists'; a mark is five numbers, and any will do.
     let number = unsafe {
@@ -158,8 +169,8 @@ pub fn plot(state: &mut State, bytes: &[u8], marks: &mut [Mark]) -> Result<Fed, 
     fed(answer, number)
 }
 
-/// The bytes written, and the number.
-pub fn write(strokes: &[Stroke], out: &mut [u8]) -> (usize, u8) {
+/// The bytes written.
+pub fn write(strokes: &[Stroke], out: &mut [u8]) -> Result<usize, Refusal> {
     let mut answer = [0u64; 1];
     // SAFETY: the counts are the lists'; a stroke is five numbers, and any will do.
     let number = unsafe {
@@ -172,9 +183,9 @@ pub fn write(strokes: &[Stroke], out: &mut [u8]) -> (usize, u8) {
             answer.len(),
         )
     };
-    (answer[0] as usize, number)
+    answered(number).map(|()| answer[0] as usize)
 }
 
-fn fed([taken, stored]: [u64; 2], number: u8) -> Result<Fed, NoMachine> {
-    Ok(Fed { taken: taken as usize, stored: stored as usize, number: gone(number)? })
+fn fed([taken, stored]: [u64; 2], number: u8) -> Result<Fed, Refusal> {
+    Ok(Fed { taken: taken as usize, stored: stored as usize, stopped: stopped(number)? })
 }

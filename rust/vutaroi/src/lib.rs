@@ -1,57 +1,54 @@
 //! An HP-GL machine for painting rink lines: bytes in, strokes and replies out.
 //!
-//! A safe wrapper of the proved library `libvutaroi.a`. Each method is one call of it; the library's
-//! contracts say what a call does (README.md: what crosses the boundary, and what is not proved
-//! there). Numbers are those of document 01, 0 for none.
+//! A safe wrapper of the proved library `libvutaroi.a`. Each call of it is one function here; the
+//! library's contracts say what a call does (README.md: what crosses the boundary, and what is not
+//! proved there). What a call refuses is an error, a [`Refusal`] with the number of documents 01 and
+//! 02.
 //!
 //! ```
-//! use vutaroi::{Machine, Mark};
+//! use vutaroi::{Machine, Made, Stroke};
 //!
-//! let (mut machine, _) = Machine::fresh(-10000, -7000, 10000, 7000);
-//! let mut marks = [Mark::default(); 64];
-//! let fed = machine.plot(b"IN;SP1;PA0,0;PD100,50;", &mut marks)?;
-//! for mark in &marks[..fed.stored] {
-//!     println!("{mark:?}");
+//! let mut machine = Machine::fresh(-10000, -7000, 10000, 7000)?;
+//! for made in machine.plotted(b"IN;SP1;PA0,0;PD100,50;XX;OA;") {
+//!     match made? {
+//!         Made::Stroke(stroke) => assert_eq!(stroke, Stroke { pen: 1, x0: 0, y0: 0, x1: 100, y1: 50 }),
+//!         Made::Refused(refused) => assert_eq!(refused.to_string(), "byte 24 refused with 1"),
+//!         Made::Reply(reply) => assert_eq!(&*reply, b"100,50,1\r\n"),
+//!     }
 //! }
-//! assert_eq!(marks[0].numbers, [1, 0, 0, 100, 50]);
-//! # Ok::<(), vutaroi::NoMachine>(())
+//! # Ok::<(), vutaroi::Refusal>(())
 //! ```
 //!
-//! The library tests a machine before it uses it, so every call but [`Machine::fresh`] answers a
-//! `Result`: a machine that was changed in memory is [`NoMachine`], and nothing is painted of it.
+//! The library tests a machine before it uses it, so every call on one may answer
+//! [`Refusal::NO_MACHINE`]: of a machine that was changed in memory nothing is painted.
 
 mod calls;
+mod plotted;
+mod refusal;
 
-use std::error::Error;
 use std::fmt;
 
 pub use calls::NUMBERS;
+pub use plotted::{Made, Plotted, Reply};
+pub use refusal::{Refusal, Refused};
 
 /// The bytes of the longest reply: `VUTAROI_REPLY` of `include/vutaroi.h`.
 pub const REPLY: usize = 37;
 
 /// The machine. It comes from [`Machine::fresh`], or from numbers that were kept, and only the calls
 /// change it.
-#[derive(Clone)]
+#[derive(Clone, PartialEq, Eq)]
 pub struct Machine {
     state: [i64; NUMBERS],
 }
 
-/// What was handed to the library is no machine: it was changed where it was kept, or it has another
-/// form.
-#[derive(Clone, Copy, Debug, PartialEq, Eq, Hash)]
-pub struct NoMachine;
-
-impl fmt::Display for NoMachine {
-    fn fmt(&self, f: &mut fmt::Formatter<'_>) -> fmt::Result {
-        f.write_str("no machine, or one that was changed")
-    }
-}
-
-impl Error for NoMachine {}
-
 /// The version of the library that is linked: 10000 times its major number, 100 times its minor
 /// number, and its patch.
+///
+/// ```
+/// assert_eq!(vutaroi::version(), 100); // 0.1.0
+/// ```
+#[must_use]
 pub fn version() -> u32 {
     calls::version()
 }
@@ -72,50 +69,48 @@ pub struct Stroke {
     pub y1: i64,
 }
 
-/// Why [`write`] wrote nothing.
-#[derive(Clone, Copy, Debug, PartialEq, Eq, Hash)]
-pub enum NotWritten {
-    /// 32: a stroke has a pen other than 1 to 8, or an end outside -32768 to 32767.
-    Stroke,
-    /// 33: the output is shorter than the text.
-    Short,
-}
-
-impl fmt::Display for NotWritten {
+/// As the program strokes prints it.
+///
+/// ```
+/// let stroke = vutaroi::Stroke { pen: 1, x0: 0, y0: 0, x1: 100, y1: -50 };
+/// assert_eq!(stroke.to_string(), "1 0 0 100 -50");
+/// ```
+impl fmt::Display for Stroke {
     fn fmt(&self, f: &mut fmt::Formatter<'_>) -> fmt::Result {
-        f.write_str(match self {
-            NotWritten::Stroke => {
-                "a stroke has a pen other than 1 to 8, or an end outside -32768 to 32767"
-            }
-            NotWritten::Short => "the output is too short",
-        })
+        let Stroke { pen, x0, y0, x1, y1 } = self;
+        write!(f, "{pen} {x0} {y0} {x1} {y1}")
     }
 }
 
-impl Error for NotWritten {}
-
 /// The most bytes of HP-GL that so many strokes can take.
-pub fn most_bytes(strokes: usize) -> usize {
+#[must_use]
+pub const fn most_bytes(strokes: usize) -> usize {
     3 + 36 * strokes
 }
 
 /// Strokes as HP-GL, from the start of the output on: how many bytes it has; the bytes after them keep
 /// their content. A fresh machine whose hard limits contain all ends makes just these strokes of it.
-pub fn write(strokes: &[Stroke], out: &mut [u8]) -> Result<usize, NotWritten> {
-    match calls::write(strokes, out) {
-        (length, 0) => Ok(length),
-        (_, 32) => Err(NotWritten::Stroke),
-        _ => Err(NotWritten::Short),
-    }
-}
-
-/// A refused byte.
-#[derive(Clone, Copy, Debug, PartialEq, Eq, Hash)]
-pub struct Refusal {
-    /// Document 01's number of the cause.
-    pub number: u8,
-    /// The place of the byte among those of the call, counted from 1.
-    pub byte: usize,
+///
+/// ```
+/// use vutaroi::{most_bytes, write, Refusal, Stroke};
+///
+/// let mut strokes = [Stroke { pen: 1, x0: 0, y0: 0, x1: 5, y1: 5 }];
+/// let mut out = [0; most_bytes(1)];
+/// let length = write(&strokes, &mut out)?;
+/// assert_eq!(&out[..length], b"IN;SP1;PU0,0;PD5,5;");
+///
+/// strokes[0].pen = 9;
+/// assert_eq!(write(&strokes, &mut out), Err(Refusal::UNWRITABLE));
+/// # Ok::<(), Refusal>(())
+/// ```
+///
+/// # Errors
+///
+/// [`Refusal::UNWRITABLE`]: a stroke has a pen other than 1 to 8, or an end outside -32768 to 32767.
+/// [`Refusal::OUTPUT`]: the output is shorter than the text; [`most_bytes`] are enough. With both,
+/// nothing was written.
+pub fn write(strokes: &[Stroke], out: &mut [u8]) -> Result<usize, Refusal> {
+    calls::write(strokes, out)
 }
 
 /// A record of [`Machine::plot`]: a stroke or a refusal, as five numbers.
@@ -128,6 +123,7 @@ pub struct Mark {
 
 /// What [`Machine::draw`] answers.
 #[derive(Clone, Copy, Debug, PartialEq, Eq, Hash)]
+#[must_use]
 pub enum Drawn {
     /// No segment waited.
     Idle,
@@ -152,68 +148,113 @@ pub struct Look {
     pub bytes: i64,
 }
 
-/// What [`Machine::fetch`] answers.
-#[derive(Clone, Copy, Debug, PartialEq, Eq, Hash)]
-pub struct Fetched {
-    /// The bytes that were written, from the first on; the others keep their content.
-    pub length: usize,
-    /// 31 if the buffer was shorter than the reply, which still waits; else 0.
-    pub number: u8,
-}
-
 /// How far [`Machine::feed`] or [`Machine::plot`] went.
 #[derive(Clone, Copy, Debug, PartialEq, Eq, Hash)]
+#[must_use = "it says where to go on, and how many records are new"]
 pub struct Fed {
     /// The bytes that were taken.
     pub taken: usize,
     /// The records that were stored, from the first on; the others keep their content.
     pub stored: usize,
-    /// The number of the last byte, if it was refused; 21 if the list was full; 20 if a reply waits
-    /// and the next byte, which is not counted, has to wait for it; 0 if all was done.
-    pub number: u8,
+    /// Why it stopped before all was done: [`Refusal::BUSY`] if a reply waits, and the next byte, which
+    /// is not counted, has to wait for it; [`Refusal::FULL`] if no record was free; else, of feed, that
+    /// of the last byte that was taken.
+    pub stopped: Option<Refusal>,
 }
 
 impl Mark {
     /// The stroke, if it is one.
+    #[must_use]
     pub fn as_stroke(&self) -> Option<Stroke> {
         let [pen, x0, y0, x1, y1] = self.numbers;
         (pen != 0).then_some(Stroke { pen, x0, y0, x1, y1 })
     }
 
-    /// The refusal, if it is one.
-    pub fn as_refusal(&self) -> Option<Refusal> {
+    /// The refusal, if it is one. A mark that no call has stored yet is neither.
+    #[must_use]
+    pub fn as_refused(&self) -> Option<Refused> {
         let [pen, number, byte, _, _] = self.numbers;
-        (pen == 0).then_some(Refusal { number: number as u8, byte: byte as usize })
+        let refusal = u8::try_from(number).ok().and_then(Refusal::of)?;
+        (pen == 0).then_some(Refused { refusal, byte: byte as usize })
+    }
+}
+
+/// Its [`Look`]: 650 numbers say nothing to a reader.
+impl fmt::Debug for Machine {
+    fn fmt(&self, f: &mut fmt::Formatter<'_>) -> fmt::Result {
+        match self.look() {
+            Ok(look) => f.debug_tuple("Machine").field(&look).finish(),
+            Err(refusal) => f.debug_tuple("Machine").field(&refusal).finish(),
+        }
     }
 }
 
 impl Machine {
-    /// A machine with hard limits, each -32768 to 32767, `left < right`, `bottom < top`. Others give
-    /// the number 10 and a machine with the limits 0, 0, 1, 1.
-    pub fn fresh(left: i64, bottom: i64, right: i64, top: i64) -> (Machine, u8) {
+    /// A machine with hard limits, each -32768 to 32767, `left < right`, `bottom < top`.
+    ///
+    /// ```
+    /// use vutaroi::{Machine, Refusal};
+    ///
+    /// assert!(Machine::fresh(-30000, -15000, 30000, 15000).is_ok());
+    /// assert_eq!(Machine::fresh(0, 0, 0, 10).unwrap_err(), Refusal::LIMITS);
+    /// ```
+    ///
+    /// # Errors
+    ///
+    /// [`Refusal::LIMITS`] with other limits.
+    pub fn fresh(left: i64, bottom: i64, right: i64, top: i64) -> Result<Machine, Refusal> {
+        match Machine::fresh_anyway(left, bottom, right, top) {
+            (machine, None) => Ok(machine),
+            (_, Some(refusal)) => Err(refusal),
+        }
+    }
+
+    /// As [`Machine::fresh`], and where the limits are refused the machine that document 01 gives then,
+    /// which has the limits 0, 0, 1, 1.
+    #[must_use]
+    pub fn fresh_anyway(
+        left: i64,
+        bottom: i64,
+        right: i64,
+        top: i64,
+    ) -> (Machine, Option<Refusal>) {
         let mut state = [0; NUMBERS];
-        let number = calls::fresh(left, bottom, right, top, &mut state);
-        (Machine { state }, number)
+        let refusal = calls::fresh(left, bottom, right, top, &mut state).err();
+        (Machine { state }, refusal)
     }
 
     /// The machine that numbers hold which [`Machine::numbers`] gave, on this kind of processor.
-    pub fn from_numbers(numbers: [i64; NUMBERS]) -> Result<Machine, NoMachine> {
+    ///
+    /// # Errors
+    ///
+    /// [`Refusal::NO_MACHINE`] where they were changed, or are those of another form.
+    pub fn from_numbers(numbers: [i64; NUMBERS]) -> Result<Machine, Refusal> {
         calls::look(&numbers)?;
         Ok(Machine { state: numbers })
     }
 
     /// The machine as numbers, to be kept.
+    #[must_use]
     pub fn numbers(&self) -> &[i64; NUMBERS] {
         &self.state
     }
 
-    /// Takes one byte. While a segment or a reply waits the number is 20, and nothing changes.
-    pub fn take(&mut self, byte: u8) -> Result<u8, NoMachine> {
+    /// Takes one byte.
+    ///
+    /// # Errors
+    ///
+    /// Why the byte was refused. [`Refusal::BUSY`] while a segment or a reply waits: then nothing
+    /// changed. [`Refusal::NO_MACHINE`].
+    pub fn take(&mut self, byte: u8) -> Result<(), Refusal> {
         calls::take(&mut self.state, byte)
     }
 
     /// Works off one waiting segment.
-    pub fn draw(&mut self) -> Result<Drawn, NoMachine> {
+    ///
+    /// # Errors
+    ///
+    /// [`Refusal::NO_MACHINE`].
+    pub fn draw(&mut self) -> Result<Drawn, Refusal> {
         let mut stroke = Stroke::default();
         Ok(match calls::draw(&mut self.state, &mut stroke)? {
             0 => Drawn::Idle,
@@ -223,31 +264,68 @@ impl Machine {
     }
 
     /// Where the carriage is, and with what. It changes nothing.
-    pub fn look(&self) -> Result<Look, NoMachine> {
+    ///
+    /// # Errors
+    ///
+    /// [`Refusal::NO_MACHINE`].
+    pub fn look(&self) -> Result<Look, Refusal> {
         let [x, y, pen, down, bytes] = calls::look(&self.state)?;
         Ok(Look { x, y, pen, down: down != 0, bytes })
     }
 
-    /// Writes the reply that waits, that of OA, OP, OW, OH or OE, closed by 13 and 10, into a
-    /// buffer. With no reply waiting the length is 0. [`REPLY`] bytes hold any reply; where the
-    /// buffer is shorter than this one, nothing is written and it still waits.
-    pub fn fetch(&mut self, out: &mut [u8]) -> Result<Fetched, NoMachine> {
+    /// Writes the reply that waits, that of OA, OP, OW, OH or OE, closed by 13 and 10, from the start of
+    /// the buffer on: how many bytes it has, 0 where none waits. [`REPLY`] bytes hold any reply.
+    ///
+    /// # Errors
+    ///
+    /// [`Refusal::BUFFER`] where the buffer is shorter than the reply: nothing was written, and it still
+    /// waits. [`Refusal::NO_MACHINE`].
+    pub fn fetch(&mut self, out: &mut [u8]) -> Result<usize, Refusal> {
         calls::fetch(&mut self.state, out)
     }
 
     /// Bytes in, strokes out: draws while a segment waits and a record is free, else takes the next
-    /// byte. Stops after a byte that is refused, which counts as taken; with 21 where a segment waits
-    /// and no record is free; with 20 before a byte that a waiting reply refuses, which does not
-    /// count; or with 0 where all bytes are taken and no segment waits.
-    pub fn feed(&mut self, bytes: &[u8], strokes: &mut [Stroke]) -> Result<Fed, NoMachine> {
+    /// byte. Stops after a byte that is refused, which counts as taken; with [`Refusal::FULL`] where a
+    /// segment waits and no record is free; with [`Refusal::BUSY`] before a byte that a waiting reply
+    /// refuses, which does not count; or with none where all bytes are taken and no segment waits.
+    ///
+    /// # Errors
+    ///
+    /// [`Refusal::NO_MACHINE`].
+    pub fn feed(&mut self, bytes: &[u8], strokes: &mut [Stroke]) -> Result<Fed, Refusal> {
         calls::feed(&mut self.state, bytes, strokes)
     }
 
     /// As [`Machine::feed`], but a refused byte is stored as a mark among the strokes, and the bytes
     /// after it are taken. A byte is taken only while a record is free, since it may be refused:
-    /// without one the number is 21. It too stops with 20 where a reply waits.
-    pub fn plot(&mut self, bytes: &[u8], marks: &mut [Mark]) -> Result<Fed, NoMachine> {
+    /// without one it stops with [`Refusal::FULL`]. It too stops with [`Refusal::BUSY`] where a reply
+    /// waits.
+    ///
+    /// ```
+    /// use vutaroi::{Machine, Mark};
+    ///
+    /// let mut machine = Machine::fresh(-10000, -7000, 10000, 7000)?;
+    /// let mut marks = [Mark::default(); 64];
+    /// let fed = machine.plot(b"IN;SP1;PA0,0;PD100,50;", &mut marks)?;
+    /// assert_eq!((fed.taken, fed.stored, fed.stopped), (22, 1, None));
+    /// assert_eq!(marks[0].numbers, [1, 0, 0, 100, 50]);
+    /// # Ok::<(), vutaroi::Refusal>(())
+    /// ```
+    ///
+    /// # Errors
+    ///
+    /// [`Refusal::NO_MACHINE`].
+    pub fn plot(&mut self, bytes: &[u8], marks: &mut [Mark]) -> Result<Fed, Refusal> {
         calls::plot(&mut self.state, bytes, marks)
+    }
+
+    /// All that bytes make, one by one and in its order: strokes, refused bytes and replies, each reply
+    /// fetched as soon as it is made. Bytes are taken as the iterator runs; where it is left before its
+    /// end, the machine has taken more than was seen.
+    ///
+    /// It ends after [`Refusal::NO_MACHINE`], the only error that it gives.
+    pub fn plotted<'a>(&'a mut self, bytes: &'a [u8]) -> Plotted<'a> {
+        Plotted::new(self, bytes)
     }
 }
 
@@ -255,11 +333,15 @@ impl Machine {
 mod tests {
     use super::*;
 
+    fn fresh() -> Machine {
+        Machine::fresh(-10000, -7000, 10000, 7000).expect("limits in range")
+    }
+
     fn drawn() -> Machine {
-        let (mut machine, _) = Machine::fresh(-10000, -7000, 10000, 7000);
+        let mut machine = fresh();
         assert_eq!(
-            machine.plot(b"SP1;PA0,0;PD100,5", &mut [Mark::default(); 8]).map(|f| f.number),
-            Ok(0)
+            machine.plot(b"SP1;PA0,0;PD100,5", &mut [Mark::default(); 8]).map(|f| f.stopped),
+            Ok(None)
         );
         machine
     }
@@ -274,24 +356,24 @@ mod tests {
 
     #[test]
     fn a_list_is_used_to_its_end() {
-        let (mut machine, _) = Machine::fresh(-10000, -7000, 10000, 7000);
+        let mut machine = fresh();
         let mut strokes = [Stroke::default(); 2];
         let fed = machine.feed(b"SP1;PD1,1,2,2,3,3;", &mut strokes);
-        assert_eq!(fed, Ok(Fed { taken: 18, stored: 2, number: 21 }));
+        assert_eq!(fed, Ok(Fed { taken: 18, stored: 2, stopped: Some(Refusal::FULL) }));
         assert_eq!(strokes[1], Stroke { pen: 1, x0: 1, y0: 1, x1: 2, y1: 2 });
         let mut marks = [Mark::default(); 2];
         let fed = machine.plot(b"??", &mut marks);
-        assert_eq!(fed, Ok(Fed { taken: 1, stored: 2, number: 21 }));
+        assert_eq!(fed, Ok(Fed { taken: 1, stored: 2, stopped: Some(Refusal::FULL) }));
         assert_eq!(marks.map(|m| m.numbers), [[1, 2, 2, 3, 3], [0, 1, 1, 0, 0]]);
     }
 
     #[test]
     fn byte_by_byte() {
-        let (mut machine, _) = Machine::fresh(-10000, -7000, 10000, 7000);
-        assert!(b"SP2;PD7,9".iter().all(|&byte| machine.take(byte) == Ok(0)));
+        let mut machine = fresh();
+        assert!(b"SP2;PD7,9".iter().all(|&byte| machine.take(byte) == Ok(())));
         assert_eq!(machine.draw(), Ok(Drawn::Idle));
-        assert_eq!(machine.take(b';'), Ok(0));
-        assert_eq!(machine.take(b';'), Ok(20));
+        assert_eq!(machine.take(b';'), Ok(()));
+        assert_eq!(machine.take(b';'), Err(Refusal::BUSY));
         let stroke = Stroke { pen: 2, x0: 0, y0: 0, x1: 7, y1: 9 };
         assert_eq!(machine.draw(), Ok(Drawn::Stroke(stroke)));
         assert_eq!(machine.look(), Ok(Look { x: 7, y: 9, pen: 2, down: true, bytes: 0 }));
@@ -299,19 +381,54 @@ mod tests {
 
     #[test]
     fn a_reply_waits_until_it_is_fetched() {
-        let (mut machine, _) = Machine::fresh(-10000, -7000, 10000, 7000);
+        let mut machine = fresh();
         let mut marks = [Mark::default(); 4];
         let mut out = *b"0123456789";
-        assert_eq!(machine.fetch(&mut []), Ok(Fetched { length: 0, number: 0 }));
+        assert_eq!(machine.fetch(&mut []), Ok(0));
         let fed = machine.plot(b"PA3,-4;OA;PU;", &mut marks);
-        assert_eq!(fed, Ok(Fed { taken: 10, stored: 0, number: 20 }));
-        assert_eq!(machine.take(b';'), Ok(20));
-        assert_eq!(machine.fetch(&mut out[..7]), Ok(Fetched { length: 0, number: 31 }));
+        assert_eq!(fed, Ok(Fed { taken: 10, stored: 0, stopped: Some(Refusal::BUSY) }));
+        assert_eq!(machine.take(b';'), Err(Refusal::BUSY));
+        assert_eq!(machine.fetch(&mut out[..7]), Err(Refusal::BUFFER));
         assert_eq!(&out, b"0123456789");
-        assert_eq!(machine.fetch(&mut out), Ok(Fetched { length: 8, number: 0 }));
+        assert_eq!(machine.fetch(&mut out), Ok(8));
         assert_eq!(&out, b"3,-4,0\r\n89");
-        assert_eq!(machine.fetch(&mut out), Ok(Fetched { length: 0, number: 0 }));
-        assert_eq!(machine.take(b';'), Ok(0));
+        assert_eq!(machine.fetch(&mut out), Ok(0));
+        assert_eq!(machine.take(b';'), Ok(()));
+    }
+
+    #[test]
+    fn a_changed_machine_is_refused_by_every_call() {
+        let mut bad = drawn();
+        bad.state[7] ^= 1;
+        let refused = Some(Refusal::NO_MACHINE);
+        assert_eq!(bad.take(b';').err(), refused);
+        assert_eq!(bad.draw().err(), refused);
+        assert_eq!(bad.look().err(), refused);
+        assert_eq!(bad.fetch(&mut [0; REPLY]).err(), refused);
+        assert_eq!(bad.feed(b";", &mut [Stroke::default()]).err(), refused);
+        assert_eq!(bad.plot(b";", &mut [Mark::default()]).err(), refused);
+        assert_eq!(bad.plotted(b";").collect::<Vec<_>>(), [Err(Refusal::NO_MACHINE)]);
+        assert_eq!(format!("{bad:?}"), "Machine(Refusal(40))");
+    }
+
+    #[test]
+    fn bad_limits_give_a_machine_of_one_unit() {
+        let (mut machine, refusal) = Machine::fresh_anyway(5, 5, 5, 6);
+        assert_eq!(refusal, Some(Refusal::LIMITS));
+        let mut out = [0; REPLY];
+        assert!(b"OH;".iter().all(|&byte| machine.take(byte) == Ok(())));
+        assert_eq!(machine.fetch(&mut out).map(|length| &out[..length]), Ok(&b"0,0,1,1\r\n"[..]));
+    }
+
+    #[test]
+    fn a_machine_is_shown_by_its_look() {
+        let shown = "Machine(Look { x: 0, y: 0, pen: 1, down: true, bytes: 0 })";
+        assert_eq!(format!("{:?}", drawn()), shown);
+    }
+
+    #[test]
+    fn an_empty_mark_is_neither() {
+        assert_eq!((Mark::default().as_stroke(), Mark::default().as_refused()), (None, None));
     }
 
     #[test]
@@ -320,7 +437,7 @@ mod tests {
         for i in 0..NUMBERS {
             let mut bad = good;
             bad[i] ^= 1;
-            assert_eq!(Machine::from_numbers(bad).err(), Some(NoMachine), "number {i}");
+            assert_eq!(Machine::from_numbers(bad).err(), Some(Refusal::NO_MACHINE), "number {i}");
         }
     }
 
@@ -334,12 +451,12 @@ mod tests {
         let one = stroke(1, 0, 0, 5, 5);
         let edge = stroke(8, -32768, 32767, 32767, -32768);
         let dot = stroke(3, 0, 0, 0, 0);
-        let rows: [(&[Stroke], usize, Result<&str, NotWritten>); 16] = [
+        let rows: [(&[Stroke], usize, Result<&str, Refusal>); 16] = [
             (&[], 3, Ok("IN;")),
-            (&[], 2, Err(NotWritten::Short)),
+            (&[], 2, Err(Refusal::OUTPUT)),
             (&[one], 100, Ok("IN;SP1;PU0,0;PD5,5;")),
             (&[one], 19, Ok("IN;SP1;PU0,0;PD5,5;")),
-            (&[one], 18, Err(NotWritten::Short)),
+            (&[one], 18, Err(Refusal::OUTPUT)),
             (&[one, stroke(1, 5, 5, 9, 9)], 100, Ok("IN;SP1;PU0,0;PD5,5;PU5,5;PD9,9;")),
             (
                 &[one, stroke(2, 5, 5, 9, 9), stroke(1, 0, 0, 1, 1)],
@@ -349,12 +466,12 @@ mod tests {
             (&[edge], 100, Ok("IN;SP8;PU-32768,32767;PD32767,-32768;")),
             (&[stroke(3, 7, -7, 7, -7)], 100, Ok("IN;SP3;PU7,-7;PD7,-7;")),
             (&[dot, dot], 100, Ok("IN;SP3;PU0,0;PD0,0;PU0,0;PD0,0;")),
-            (&[stroke(0, 0, 0, 5, 5)], 100, Err(NotWritten::Stroke)),
-            (&[stroke(9, 0, 0, 5, 5)], 0, Err(NotWritten::Stroke)),
-            (&[one, stroke(1, 32768, 0, 5, 5)], 100, Err(NotWritten::Stroke)),
-            (&[stroke(1, 0, -32769, 5, 5)], 100, Err(NotWritten::Stroke)),
-            (&[stroke(1, 0, 0, 5, 40000)], 100, Err(NotWritten::Stroke)),
-            (&[stroke(-1, 0, 0, 5, 5)], 100, Err(NotWritten::Stroke)),
+            (&[stroke(0, 0, 0, 5, 5)], 100, Err(Refusal::UNWRITABLE)),
+            (&[stroke(9, 0, 0, 5, 5)], 0, Err(Refusal::UNWRITABLE)),
+            (&[one, stroke(1, 32768, 0, 5, 5)], 100, Err(Refusal::UNWRITABLE)),
+            (&[stroke(1, 0, -32769, 5, 5)], 100, Err(Refusal::UNWRITABLE)),
+            (&[stroke(1, 0, 0, 5, 40000)], 100, Err(Refusal::UNWRITABLE)),
+            (&[stroke(-1, 0, 0, 5, 5)], 100, Err(Refusal::UNWRITABLE)),
         ];
         for (strokes, room, said) in rows {
             let mut out = vec![7; room];
@@ -374,14 +491,20 @@ mod tests {
         let line = stroke(1, 0, 0, 10, 10);
         let both = [line, stroke(2, 5, 5, 5, 5)];
         let rows: [(&[Stroke], i64, usize, Fed, &[Stroke]); 3] = [
-            (&both, 10, 2, Fed { taken: 37, stored: 2, number: 0 }, &both),
-            (&both, 10, 1, Fed { taken: 37, stored: 1, number: 21 }, &both[..1]),
-            (&both[..1], 5, 2, Fed { taken: 21, stored: 1, number: 0 }, &[stroke(1, 0, 0, 5, 5)]),
+            (&both, 10, 2, Fed { taken: 37, stored: 2, stopped: None }, &both),
+            (&both, 10, 1, Fed { taken: 37, stored: 1, stopped: Some(Refusal::FULL) }, &both[..1]),
+            (
+                &both[..1],
+                5,
+                2,
+                Fed { taken: 21, stored: 1, stopped: None },
+                &[stroke(1, 0, 0, 5, 5)],
+            ),
         ];
         for (strokes, limit, records, said, painted) in rows {
             let mut out = vec![0; most_bytes(strokes.len())];
             let length = write(strokes, &mut out).expect("pens and ends are in range");
-            let (mut machine, _) = Machine::fresh(0, 0, limit, limit);
+            let mut machine = Machine::fresh(0, 0, limit, limit).expect("limits in range");
             let mut back = vec![Stroke::default(); records];
             assert_eq!(machine.feed(&out[..length], &mut back), Ok(said), "{strokes:?}");
             assert_eq!(&back[..said.stored], painted);
@@ -407,10 +530,10 @@ mod tests {
             .collect();
         let mut out = vec![0; most_bytes(strokes.len())];
         let length = write(&strokes, &mut out).expect("pens and ends are in range");
-        let (mut machine, _) = Machine::fresh(-32768, -32768, 32767, 32767);
+        let mut machine = Machine::fresh(-32768, -32768, 32767, 32767).expect("limits in range");
         let mut back = vec![Stroke::default(); strokes.len()];
         let fed = machine.feed(&out[..length], &mut back);
-        assert_eq!(fed, Ok(Fed { taken: length, stored: strokes.len(), number: 0 }));
+        assert_eq!(fed, Ok(Fed { taken: length, stored: strokes.len(), stopped: None }));
         assert_eq!(back, strokes);
     }
 

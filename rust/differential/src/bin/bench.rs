@@ -15,7 +15,7 @@
 use baseline::{number, Stroke, LONGEST_REPLY};
 use differential::least::{Least, Times};
 use differential::loads::{Load, LIMITS, LOADS};
-use differential::partner::{own, write_own, Partner, Record};
+use differential::partner::{number_of, own, write_own, Partner, Record};
 use std::hint::black_box;
 use std::io::Write;
 use std::process::ExitCode;
@@ -124,7 +124,7 @@ fn proved(bytes: &[u8], mut seen: impl FnMut(Made<vutaroi::Mark>)) -> Times {
     in_blocks(bytes, |at, part| {
         let plot = |machine: &mut vutaroi::Machine, bytes: &[u8], list: &mut [vutaroi::Mark]| {
             let fed = machine.plot(bytes, list).expect("a machine of the calls");
-            (fed.taken, fed.stored, fed.number)
+            (fed.taken, fed.stored, number_of(fed.stopped))
         };
         block(&mut machine, &mut list, (at, part), plot, &mut seen)
     })
