@@ -164,6 +164,7 @@ pub struct Fed {
 
 impl Mark {
     /// The stroke, if it is one.
+    #[inline]
     #[must_use]
     pub fn as_stroke(&self) -> Option<Stroke> {
         let [pen, x0, y0, x1, y1] = self.numbers;
@@ -171,6 +172,7 @@ impl Mark {
     }
 
     /// The refusal, if it is one. A mark that no call has stored yet is neither.
+    #[inline]
     #[must_use]
     pub fn as_refused(&self) -> Option<Refused> {
         let [pen, number, byte, _, _] = self.numbers;

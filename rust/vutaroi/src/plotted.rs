@@ -92,13 +92,15 @@ impl<'a> Plotted<'a> {
     }
 
     /// The next mark of those that were stored.
+    #[inline]
     fn mark(&mut self) -> Option<Made> {
         let mark = self.marks[..self.stored].get(self.seen)?;
         self.seen += 1;
-        if let Some(Refused { refusal, byte }) = mark.as_refused() {
-            return Some(Made::Refused(Refused { refusal, byte: self.before + byte }));
+        if let Some(stroke) = mark.as_stroke() {
+            return Some(Made::Stroke(stroke));
         }
-        mark.as_stroke().map(Made::Stroke)
+        let Refused { refusal, byte } = mark.as_refused()?;
+        Some(Made::Refused(Refused { refusal, byte: self.before + byte }))
     }
 
     fn plot(&mut self) -> Result<(), Refusal> {
@@ -126,15 +128,11 @@ impl<'a> Plotted<'a> {
             Next::Nothing => Ok(None),
         }
     }
-}
 
-impl Iterator for Plotted<'_> {
-    type Item = Result<Made, Refusal>;
-
-    fn next(&mut self) -> Option<Self::Item> {
-        if let Some(made) = self.mark() {
-            return Some(Ok(made));
-        }
+    /// What comes next where all marks of the last call were seen. Apart, so that a loop over many marks
+    /// has no more than these in it.
+    #[cold]
+    fn after_the_marks(&mut self) -> Option<Result<Made, Refusal>> {
         while self.next != Next::Nothing {
             match self.step() {
                 Ok(None) => {}
@@ -146,6 +144,18 @@ impl Iterator for Plotted<'_> {
             }
         }
         None
+    }
+}
+
+impl Iterator for Plotted<'_> {
+    type Item = Result<Made, Refusal>;
+
+    #[inline]
+    fn next(&mut self) -> Option<Self::Item> {
+        match self.mark() {
+            Some(made) => Some(Ok(made)),
+            None => self.after_the_marks(),
+        }
     }
 }
 
