@@ -28,10 +28,10 @@ impl Form for Csv {
         text.push_numbers(&[pen, x0, y0, x1, y1], b',', b",,\n");
     }
 
-    fn refused(&mut self, text: &mut Text, number: u8, byte: i64) {
+    fn refused(&mut self, text: &mut Text, number: u8, byte: usize) {
         text.push(&self.file);
         text.push(b",refusal,,,,,,");
-        text.push_numbers(&[number.into(), byte], b',', b"\n");
+        text.push_numbers(&[number.into(), byte as i64], b',', b"\n");
     }
 }
 

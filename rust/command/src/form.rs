@@ -6,11 +6,14 @@ use crate::sheets::Limits;
 use crate::streams::{Input, Name, Output};
 use crate::text::Text;
 use std::io;
-use vutaroi::{Machine, Made, Refusal, Stroke};
+use vutaroi::{Machine, Mark, Refusal, Refused, Stroke, REPLY};
 
 /// The bytes of a read. What they make is written before the next one, so that a package that asks and
 /// waits is answered.
 const BLOCK: usize = 65_536;
+
+/// The marks of one call.
+const ROOM: usize = 1024;
 
 /// How drawings are written.
 pub trait Form {
@@ -21,13 +24,13 @@ pub trait Form {
     /// A stroke.
     fn stroke(&mut self, text: &mut Text, stroke: &Stroke);
     /// A refused byte, by its number and its place in the drawing, counted from 1.
-    fn refused(&mut self, text: &mut Text, number: u8, byte: i64);
+    fn refused(&mut self, text: &mut Text, number: u8, byte: usize);
     /// A reply; whether it is written.
     fn reply(&mut self, _text: &mut Text, _reply: &[u8]) -> bool {
         false
     }
     /// After a drawing of so many bytes.
-    fn close(&mut self, _text: &mut Text, _bytes: i64) {}
+    fn close(&mut self, _text: &mut Text, _bytes: usize) {}
     /// After the last drawing.
     fn end(&mut self, _text: &mut Text) {}
 }
@@ -42,48 +45,89 @@ pub fn drawings(
     for name in &request.inputs {
         let mut input = name.open()?;
         form.open(output.text(), name, &request.limits);
-        let bytes = drawing(name, &mut input, &request.limits, form, output)?;
+        let bytes = Drawing::new(name, &request.limits, form, output)?.whole(&mut input)?;
         form.close(output.text(), bytes);
     }
     form.end(output.text());
     Ok(())
 }
 
-/// One drawing, block by block; its bytes.
-fn drawing(
-    name: &Name,
-    input: &mut Input<'_>,
-    &[left, bottom, right, top]: &Limits,
-    form: &mut impl Form,
-    output: &mut Output,
-) -> Result<i64, Failure> {
-    let refused = |refusal: Refusal| Failure::File(name.to_string(), io::Error::other(refusal));
-    let mut machine = Machine::fresh(left, bottom, right, top).map_err(refused)?;
-    let mut block = vec![0; BLOCK];
-    let mut before = 0;
-    loop {
-        let got = input.read(&mut block)?;
-        if got == 0 {
-            return Ok(before);
-        }
-        for made in machine.plotted(&block[..got]) {
-            put(form, output, &made.map_err(refused)?, before)?;
-        }
-        output.flush()?;
-        before += got as i64;
-    }
+/// A drawing on its way through a machine.
+struct Drawing<'a, F> {
+    name: &'a Name,
+    machine: Machine,
+    marks: Vec<Mark>,
+    /// The bytes that were taken.
+    taken: usize,
+    form: &'a mut F,
+    output: &'a mut Output,
 }
 
-/// What bytes made that come after as many as `before`; a reply is written out at once.
-fn put(form: &mut impl Form, output: &mut Output, made: &Made, before: i64) -> Result<(), Failure> {
-    match made {
-        Made::Stroke(stroke) => form.stroke(output.text(), stroke),
-        Made::Refused(r) => form.refused(output.text(), r.refusal.number(), before + r.byte as i64),
-        Made::Reply(reply) => {
-            if form.reply(output.text(), reply) {
-                return output.flush();
+/// The library refuses no machine that its calls left; if it does, the drawing cannot go on.
+fn refused(name: &Name, refusal: Refusal) -> Failure {
+    Failure::File(name.to_string(), io::Error::other(refusal))
+}
+
+impl<'a, F: Form> Drawing<'a, F> {
+    fn new(
+        name: &'a Name,
+        &[left, bottom, right, top]: &Limits,
+        form: &'a mut F,
+        output: &'a mut Output,
+    ) -> Result<Drawing<'a, F>, Failure> {
+        let fresh = Machine::fresh(left, bottom, right, top);
+        let machine = fresh.map_err(|refusal| refused(name, refusal))?;
+        Ok(Drawing { name, machine, marks: vec![Mark::default(); ROOM], taken: 0, form, output })
+    }
+
+    /// All of it, block by block; its bytes.
+    fn whole(mut self, input: &mut Input<'_>) -> Result<usize, Failure> {
+        let mut block = vec![0; BLOCK];
+        loop {
+            let got = input.read(&mut block)?;
+            if got == 0 {
+                return Ok(self.taken);
+            }
+            self.block(&block[..got])?;
+            self.output.flush()?;
+        }
+    }
+
+    /// The calls of `Machine::plotted`, without an item for each mark: to copy these takes time.
+    fn block(&mut self, mut bytes: &[u8]) -> Result<(), Failure> {
+        loop {
+            let fed = self.machine.plot(bytes, &mut self.marks);
+            let fed = fed.map_err(|refusal| refused(self.name, refusal))?;
+            self.put_marks(fed.stored)?;
+            self.put_reply()?;
+            self.taken += fed.taken;
+            bytes = &bytes[fed.taken..];
+            if fed.stopped.is_none() {
+                return Ok(());
             }
         }
     }
-    output.spill()
+
+    /// The first marks, of bytes that come after those taken before.
+    fn put_marks(&mut self, stored: usize) -> Result<(), Failure> {
+        for mark in &self.marks[..stored] {
+            if let Some(stroke) = mark.as_stroke() {
+                self.form.stroke(self.output.text(), &stroke);
+            } else if let Some(Refused { refusal, byte }) = mark.as_refused() {
+                self.form.refused(self.output.text(), refusal.number(), self.taken + byte);
+            }
+        }
+        self.output.spill()
+    }
+
+    /// The reply that waits, if one does, written out at once.
+    fn put_reply(&mut self) -> Result<(), Failure> {
+        let mut reply = [0; REPLY];
+        let fetched = self.machine.fetch(&mut reply);
+        let length = fetched.map_err(|refusal| refused(self.name, refusal))?;
+        if length > 0 && self.form.reply(self.output.text(), &reply[..length]) {
+            self.output.flush()?;
+        }
+        Ok(())
+    }
 }

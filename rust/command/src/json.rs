@@ -34,14 +34,14 @@ impl Form for Json {
         object(text, &[("pen", pen), ("x0", x0), ("y0", y0), ("x1", x1), ("y1", y1)]);
     }
 
-    fn refused(&mut self, text: &mut Text, number: u8, byte: i64) {
+    fn refused(&mut self, text: &mut Text, number: u8, byte: usize) {
         separate(text, &mut self.has_marks);
-        object(text, &[("number", number.into()), ("byte", byte)]);
+        object(text, &[("number", number.into()), ("byte", byte as i64)]);
     }
 
-    fn close(&mut self, text: &mut Text, bytes: i64) {
+    fn close(&mut self, text: &mut Text, bytes: usize) {
         text.push(b"],\"bytes\":");
-        text.push_number(bytes);
+        text.push_number(bytes as i64);
         text.push(b"}");
     }
 

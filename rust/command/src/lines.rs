@@ -12,9 +12,9 @@ impl Form for Lines {
         text.push_numbers(&[pen, x0, y0, x1, y1], b' ', b"\n");
     }
 
-    fn refused(&mut self, text: &mut Text, number: u8, byte: i64) {
+    fn refused(&mut self, text: &mut Text, number: u8, byte: usize) {
         text.push(b"E ");
-        text.push_numbers(&[number.into(), byte], b' ', b"\n");
+        text.push_numbers(&[number.into(), byte as i64], b' ', b"\n");
     }
 
     fn reply(&mut self, text: &mut Text, reply: &[u8]) -> bool {

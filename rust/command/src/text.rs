@@ -69,11 +69,24 @@ impl Text {
     }
 }
 
+/// Both digits of each number below 100.
+static PAIRS: [[u8; 2]; 100] = pairs();
+
+const fn pairs() -> [[u8; 2]; 100] {
+    let mut pairs = [[0; 2]; 100];
+    let mut n = 0;
+    while n < pairs.len() {
+        pairs[n] = [b'0' + (n / 10) as u8, b'0' + (n % 10) as u8];
+        n += 1;
+    }
+    pairs
+}
+
 /// Four digits, with zeros before.
 #[inline]
 fn digits(n: u32) -> [u8; 4] {
-    let digit = |ten: u32| b'0' + (n / ten % 10) as u8;
-    [digit(1000), digit(100), digit(10), digit(1)]
+    let ([a, b], [c, d]) = (PAIRS[(n / 100 % 100) as usize], PAIRS[(n % 100) as usize]);
+    [a, b, c, d]
 }
 
 /// A number below 10,000 without the zeros before it.
