@@ -379,7 +379,7 @@ pub fn gather(m: State, bytes: &[u8], from: usize, numbers: &mut [i64], on: bool
             work = work_after(work);
             continue;
         }
-        let q = reader.next(bytes, at);
+        let q = reading::next(reader, bytes, at);
         at = q.at;
         reader = q.reader;
         work = Work::Nothing;
@@ -452,7 +452,7 @@ pub fn gather(m: State, bytes: &[u8], from: usize, numbers: &mut [i64], on: bool
                 polygon = carriage.polygon;
                 if t.number > 0 {
                     // PM2 may be refused and end polygon mode all the same
-                    reader = reader.passed_over();
+                    reader = reading::passed_over(reader);
                     hand = noted(hand, t.number);
                     if on {
                         count = put_record(numbers, count, refusal_record(t.number, at));
@@ -479,7 +479,7 @@ pub fn gather(m: State, bytes: &[u8], from: usize, numbers: &mut [i64], on: bool
             Event::Refused(k) => number = k,
         }
         // refused: but for what is remembered of it, all else is as it was
-        reader = reader.passed_over();
+        reader = reading::passed_over(reader);
         hand = noted(hand, number);
         if on {
             count = put_record(numbers, count, refusal_record(number, at));

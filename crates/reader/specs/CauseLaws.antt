@@ -140,11 +140,11 @@ module _ (r : Reader) where
 
   label-caused : (b : ℕ) → Caused (labelOf r b .event)
   unfolding labelOf quietOf goOnOf
-  label-caused b = go (eqb b 3)
+  label-caused b = go (eqb b 3) _ _
     where
-      go : (t : Bool) → Caused (cond t (quietOf r Idle) (quietOf r Label) .event)
-      go true = tt
-      go false = tt
+      go : (t : Bool) (m n : Mode) → Caused (cond t (quietOf r m) (quietOf r n) .event)
+      go true m n = tt
+      go false m n = tt
 
   pub step-caused : (b : ℕ) → Caused (stepOf r b .event)
   unfolding stepOf byMode

@@ -32,7 +32,6 @@ use hpgl::Window;
 use hpgl::Work;
 use reader::Coordinates;
 use reader::Numbers;
-use reader::Reader;
 use rulekit::acts::done;
 use rulekit::acts::first_two;
 use rulekit::acts::refuse;
@@ -519,7 +518,7 @@ pub fn fresh_state(r: Rect) -> State
         down: false,
     };
     State {
-        reader: Reader::fresh(),
+        reader: reading::fresh(),
         core: fresh_core(hard_limits(r)),
         store: Store {
             edges: [none; MOST_EDGES],
