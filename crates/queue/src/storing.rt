@@ -12,7 +12,7 @@ use hpgl::Action;
 use hpgl::Edge;
 use hpgl::Store;
 use hpgl::Work;
-use plane::arc::parts;
+use placing::arc::parts;
 
 fn edge(p: Point, q: Point) -> Edge
     ensures { λ r. ⌜ r ≡ M.edge p q ⌝ }
