@@ -18,13 +18,14 @@ use sheets::below;
 use words::harmless;
 use words::of_kind;
 
-// A whole input, or what could be read and written of it: what is painted, what was refused, how often, and how many moves among it; how many bytes were read,
-// and whether the rest could not be.
+// A whole input, or what could be read and written of it: what is painted, what was refused, how often, how many moves among it, and how much that changes the
+// drawing; how many bytes were read, and whether the rest could not be.
 pub struct Painted {
     pub inks: Inks,
     pub refusals: Refusals,
     pub refused: u64,
     pub moves: u64,
+    pub harms: u64,
     pub read: u64,
     pub unread: bool,
     pub used: usize,
@@ -52,7 +53,7 @@ fn metres(text: &mut [u8; 65536], used: usize, n: u64) -> usize {
 
 // How large the sheet is on the ice, at which scale, and how far the lines of the grid are apart.
 fn place(text: &mut [u8; 65536], used: usize, s: Sheet, g: Grid) -> usize {
-    let mut end = row(text, used, s.margin, s.line);
+    let mut end = row(text, used, s.margin, sum(s.line, s.line));
     end = metres(text, end, g.across);
     end = put_bytes(text, end, b" by ");
     end = metres(text, end, g.along);
@@ -63,10 +64,26 @@ fn place(text: &mut [u8; 65536], used: usize, s: Sheet, g: Grid) -> usize {
     put_bytes(text, end, b" m from the lower left corner</text>\n")
 }
 
-// How many strokes and dots among them there are, how many refusals and moves among them.
+// A drawing of which a refusal changes something is not fit to paint; of any other survey decides.
+fn verdict(text: &mut [u8; 65536], used: usize, harms: u64) -> usize {
+    if harms > 0 {
+        return put_bytes(
+            text,
+            used,
+            b"<tspan style=\"fill:#d00000;font-weight:bold\">not fit to paint: refusals change the drawing</tspan></text>\n",
+        );
+    }
+    put_bytes(
+        text,
+        used,
+        b"survey tells whether it is fit to paint</text>\n",
+    )
+}
+
+// How many strokes and dots among them there are, how many refusals and moves among them, and what that means.
 fn counts(text: &mut [u8; 65536], used: usize, s: Sheet, i: Inks, p: Painted) -> usize {
     let strokes = i.strokes;
-    let mut end = row(text, used, s.margin, sum(s.line, s.line));
+    let mut end = row(text, used, s.margin, s.line);
     end = put_bytes(text, end, b"strokes: ");
     end = put_natural(text, end, total(strokes));
     end = put_bytes(text, end, b", of them dots: ");
@@ -75,7 +92,8 @@ fn counts(text: &mut [u8; 65536], used: usize, s: Sheet, i: Inks, p: Painted) ->
     end = put_natural(text, end, p.refused);
     end = put_bytes(text, end, b", of them moves: ");
     end = put_natural(text, end, p.moves);
-    put_bytes(text, end, b"</text>\n")
+    end = put_bytes(text, end, b". ");
+    verdict(text, end, p.harms)
 }
 
 // What the ring and the crosses are, or that the drawing is not whole.
@@ -244,8 +262,8 @@ fn legend(text: &mut [u8; 65536], used: usize, s: Sheet, g: Grid, i: Inks, from:
 pub fn summary(text: &mut [u8; 65536], used: usize, s: Sheet, g: Grid, p: Painted) -> usize {
     let inks = p.inks;
     let refusals = p.refusals;
-    let mut end = place(text, used, s, g);
-    end = counts(text, end, s, inks, p);
+    let mut end = counts(text, used, s, inks, p);
+    end = place(text, end, s, g);
     end = signs(text, end, s, inks, p.refused, p.unread);
     end = dashes(text, end, s, p.moves);
     let two = sum(s.line, s.line);

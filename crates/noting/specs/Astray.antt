@@ -9,21 +9,26 @@ use lib.ListN.{length, drop}
 use Rattle.exact.specs.Whole.{_≡?_}
 use Rattle.clip.specs.declared.Point.{Point}
 use Rattle.hpgl.specs.declared.Look.{Look}
-use Rattle.words.specs.Names.{refusedKind}
+use Rattle.words.specs.Names.{refusedKind, harmlessOf}
 use Rattle.counting.specs.declared.names.Letters.{Letters}
 use Rattle.counting.specs.Names.{unnamed, letterless, nameOf}
 use Rattle.noting.specs.Refusals.{refuses}
+
+abbrev pub kindNamed : ℕ → Letters → ℕ
+kindNamed number name = refusedKind number (name .first) (name .second)
 
 -- what would have moved the carriage, by its kind (words/specs/Names.antt): a move of the machine's own, a curve that it does not have, coded lines
 unfoldable pub movesOf : ℕ → Bool
 movesOf kind = cond (eqb kind (code "m")) true (cond (eqb kind (code "a")) true (eqb kind (code "e")))
 
-abbrev pub refusedName : ℕ → Letters → ℕ
-refusedName number name = refusedKind number (name .first) (name .second)
+-- of what is refused with a feed's number, on the byte before a place of a block; 0 for no refusal; l is for the letters before the block
+unfoldable pub kindAt : Letters → List ℕ → ℕ → ℕ → ℕ
+kindAt l block at number = cond (refuses number) (kindNamed number (nameOf l unnamed block at number)) 0
 
--- a feed's number is that of a refused move, on the byte before a place of a block; l is for the letters before the block
-unfoldable pub straysOf : Letters → List ℕ → ℕ → ℕ → Bool
-straysOf l block at number = cond (refuses number) (movesOf (refusedName number (nameOf l unnamed block at number))) false
+-- what changes the drawing, by its kind: each such refusal of a group is one of those for which survey calls a drawing unfit (`changes-harm`). Bytes of no name (b) may be an escape
+-- sequence's, which is harmless; here they are not told apart, and do not count
+unfoldable pub changesOf : ℕ → Bool
+changesOf kind = cond (eqb kind 0) false (cond (eqb kind (code "b")) false (cond (harmlessOf kind) false true))
 
 unfoldable pub samePoint : Point → Point → Bool
 samePoint a b = cond (a .x ≡? b .x) (cond (a .y ≡? b .y) true false) false

@@ -1,14 +1,27 @@
--- A part lies between its place and the end of the block.
-use mathlib.Core.Bool.{Bool, true, false, cond}
+-- What changes the drawing is harm, as survey counts it; a part lies between its place and the end of the block.
+use mathlib.Core.Bool.{Bool, true, false, cond, false≢true}
 use mathlib.Core.List.{List}
 use mathlib.Core.Path.{_≡_, refl}
+use Prim.Native.Char.{code}
 use Prim.Native.Nat.{ℕ, _+_, _-_, _≤_, _<_}
 use native.Mathlib.Omega.{arith}
 use borrow.Author.Tests.{ltb-true}
-use lib.Dec.{ltb}
+use lib.Dec.{eqb, ltb}
 use lib.ListN.{length, drop}
+use Rattle.words.specs.Names.{harmlessOf}
 use Rattle.counting.specs.Names.{letterless}
-use Rattle.noting.specs.Astray.{toLetter, partEnd}
+use Rattle.counting.specs.Refusals.{kindOfKey, harmOf}
+use Rattle.noting.specs.Astray.{changesOf, toLetter, partEnd}
+
+pub changes-harm : (key count : ℕ) → changesOf (kindOfKey key) ≡ true → harmOf key count ≡ count
+unfolding changesOf harmOf
+changes-harm key count = go (eqb (kindOfKey key) 0) (eqb (kindOfKey key) (code "b")) (harmlessOf (kindOfKey key))
+  where
+    go : (x y z : Bool) → cond x false (cond y false (cond z false true)) ≡ true → cond z 0 count ≡ count
+    go true y z e = absurd (false≢true e)
+    go false true z e = absurd (false≢true e)
+    go false false true e = absurd (false≢true e)
+    go false false false e = refl
 
 module _ (block : List ℕ) (at : ℕ) (within : at ≤ length block) where
   part-of : (n : ℕ) (t u : Bool) → ltb n (length block - at) ≡ u

@@ -11,10 +11,11 @@ use counting::names::letterless;
 use counting::names::name_of;
 use counting::names::no_letters;
 use hpgl::Look;
+use words::harmless;
 use words::refused_kind;
 
 // Whether an instruction of this kind would have moved the carriage.
-fn moves(kind: u8) -> bool
+pub fn moves(kind: u8) -> bool
     ensures { λ r. ⌜ r ≡ S.movesOf kind ⌝ }
 {
     if kind == b'm' {
@@ -26,15 +27,31 @@ fn moves(kind: u8) -> bool
     kind == b'e'
 }
 
-// Whether a feed's number is that of a refused move, on the byte before a place of a block; l is for the letters before the block.
-pub fn strays(l: Letters, block: &[u8], at: usize, number: u8) -> bool
-    ensures { λ r. ⌜ r ≡ S.straysOf l (now (block .entry)) at number ⌝ }
+// The kind of what is refused with a feed's number, on the byte before a place of a block; 0 for no refusal. l is for the letters before the block.
+pub fn kind_at(l: Letters, block: &[u8], at: usize, number: u8) -> u8
+    ensures { λ r. ⌜ r ≡ S.kindAt l (now (block .entry)) at number ⌝ }
 {
     if is_refusal(number) {
         let name = name_of(l, no_letters(), block, at, number);
-        return moves(refused_kind(number, name.first, name.second));
+        return refused_kind(number, name.first, name.second);
     }
-    false
+    0
+}
+
+// Whether a refusal of this kind changes the drawing, whatever else is said of it.
+pub fn changes(kind: u8) -> bool
+    ensures { λ r. ⌜ r ≡ S.changesOf kind ⌝ }
+{
+    if kind == 0 {
+        return false;
+    }
+    if kind == b'b' {
+        return false;
+    }
+    if harmless(kind) {
+        return false;
+    }
+    true
 }
 
 fn same_point(a: Point, b: Point) -> bool

@@ -15,7 +15,7 @@ use Rattle.console.specs.Sums.{added}
 use Rattle.counting.specs.Names.{lettersBefore}
 use Rattle.noting.specs.Inks.{inksOf}
 use Rattle.noting.specs.Refusals.{refuses, refusedOf}
-use Rattle.noting.specs.Astray.{straysOf, astrayOf, partEnd}
+use Rattle.noting.specs.Astray.{kindAt, movesOf, changesOf, astrayOf, partEnd}
 use Rattle.tracing.specs.declared.Hand.{Hand}
 use Rattle.captions.specs.declared.Painted.{Painted}
 use Rattle.preview.specs.declared.strokes.Drawing.{Drawing}
@@ -44,8 +44,9 @@ afterOf d l block before seen hand = record {
   inks = inksOf (d .inks) (take (l .fed .stored) (l .list));
   refusals = refusedOf (d .refusals) (d .letters) block (d .at + l .fed .taken) (l .fed .number) (added (d .before) (d .at + l .fed .taken));
   refused = added (d .refused) (oneOf (refuses (l .fed .number)));
-  moves = added (d .moves) (oneOf (straysOf (d .letters) block (d .at + l .fed .taken) (l .fed .number)));
-  astray = astrayOf (d .astray) (straysOf (d .letters) block (d .at + l .fed .taken) (l .fed .number)) before seen;
+  moves = added (d .moves) (oneOf (movesOf (kindAt (d .letters) block (d .at + l .fed .taken) (l .fed .number))));
+  harms = added (d .harms) (oneOf (changesOf (kindAt (d .letters) block (d .at + l .fed .taken) (l .fed .number))));
+  astray = astrayOf (d .astray) (movesOf (kindAt (d .letters) block (d .at + l .fed .taken) (l .fed .number))) before seen;
   more = goesOn (l .fed .number) (d .at + l .fed .taken) (length block);
   hand = hand;
 }
@@ -71,6 +72,7 @@ begunOf d before = record {
   refusals = d .refusals;
   refused = d .refused;
   moves = d .moves;
+  harms = d .harms;
   astray = d .astray;
   more = true;
   hand = d .hand;
@@ -87,6 +89,7 @@ flushedOf d block hand = record {
   refusals = d .refusals;
   refused = d .refused;
   moves = d .moves;
+  harms = d .harms;
   astray = d .astray;
   more = d .more;
   hand = hand;
@@ -99,6 +102,7 @@ endedOf d before unread used = record {
   refusals = d .refusals;
   refused = d .refused;
   moves = d .moves;
+  harms = d .harms;
   read = before;
   unread = unread;
   used = used;

@@ -21,8 +21,10 @@ use libc::STDIN_FILENO;
 use machine::Machine;
 use noting::Inks;
 use noting::astray::astray;
+use noting::astray::changes;
+use noting::astray::kind_at;
+use noting::astray::moves;
 use noting::astray::part_end;
-use noting::astray::strays;
 use noting::inks_of;
 use noting::is_refusal;
 use noting::no_inks;
@@ -45,8 +47,8 @@ const REPLY: usize = 37;
 // So many refusals have a cross.
 const CROSSES: u64 = 40;
 
-// How far the drawing is: the machine, the bytes before the block and their last letters, the place in it, what is painted, what was refused, how often, and how
-// many moves among it, whether the carriage is astray, whether some of the block is left, and the text.
+// How far the drawing is: the machine, the bytes before the block and their last letters, the place in it, what is painted, what was refused, how often, how many
+// moves among it, and how much that changes the drawing, whether the carriage is astray, whether some of the block is left, and the text.
 struct Drawing {
     machine: Machine,
     before: u64,
@@ -56,6 +58,7 @@ struct Drawing {
     refusals: Refusals,
     refused: u64,
     moves: u64,
+    harms: u64,
     astray: bool,
     more: bool,
     hand: Hand,
@@ -115,7 +118,8 @@ fn after(d: Drawing, l: Listed, block: &[u8], before: Look, seen: Look, hand: Ha
     let list = l.list;
     let at = d.at + fed.taken;
     let place = sum(d.before, at as u64);
-    let stray = strays(letters, block, at, fed.number);
+    let kind = kind_at(letters, block, at, fed.number);
+    let stray = moves(kind);
     Drawing {
         machine: quiet(machine),
         before: d.before,
@@ -125,6 +129,7 @@ fn after(d: Drawing, l: Listed, block: &[u8], before: Look, seen: Look, hand: Ha
         refusals: refused(refusals, letters, block, at, fed.number, place),
         refused: sum(d.refused, one(is_refusal(fed.number))),
         moves: sum(d.moves, one(stray)),
+        harms: sum(d.harms, one(changes(kind))),
         astray: astray(d.astray, stray, before, seen),
         more: goes_on(fed.number, at, block.len()),
         hand: hand,
@@ -170,6 +175,7 @@ fn begun(d: Drawing, before: u64) -> Drawing
         refusals: refusals,
         refused: d.refused,
         moves: d.moves,
+        harms: d.harms,
         astray: d.astray,
         more: true,
         hand: hand,
@@ -228,6 +234,7 @@ fn flushed(d: Drawing, block: &[u8], text: &[u8; 65536]) -> Drawing
         refusals: refusals,
         refused: d.refused,
         moves: d.moves,
+        harms: d.harms,
         astray: d.astray,
         more: d.more,
         hand: written(text, hand),
@@ -254,6 +261,7 @@ fn ended(d: Drawing, before: u64, unread: bool, used: usize) -> Painted
         refusals: refusals,
         refused: d.refused,
         moves: d.moves,
+        harms: d.harms,
         read: before,
         unread: unread,
         used: used,
@@ -273,6 +281,7 @@ fn blank(machine: Machine, used: usize) -> Drawing
         refusals: none(),
         refused: 0,
         moves: 0,
+        harms: 0,
         astray: false,
         more: true,
         hand: at_rest(used),
