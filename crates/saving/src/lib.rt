@@ -7,8 +7,8 @@ ghost use Rattle.saved.specs.Saved.{stateNumbers, savedOf, loadedOf};
 
 mod carriage;
 mod edges;
+mod instruction;
 pub mod places;
-mod reading;
 pub mod sheet;
 pub mod work;
 
@@ -18,8 +18,8 @@ use edges::edges_at;
 use edges::put_edges;
 use hpgl::Core;
 use hpgl::State;
-use reading::put_reader;
-use reading::reader_at;
+use instruction::put_reader;
+use instruction::reader_at;
 use sheet::put_settings;
 use sheet::settings_at;
 use work::put_work;

@@ -9,16 +9,16 @@ ghost use Rattle.rows.specs.Rows.{rowAt};
 ghost use Rattle.wellformed.specs.Sound as S;
 
 mod carriage;
+mod instruction;
 mod places;
-mod reading;
 mod sheet;
 mod tests;
 mod work;
 
 use carriage::carriage_sound;
 use hpgl::MOST_EDGES;
-use reading::known_sound;
-use reading::reader_sound;
+use instruction::known_sound;
+use instruction::reader_sound;
 use rows::row_at;
 use saving::places::ACROSS;
 use saving::places::ALONG;
