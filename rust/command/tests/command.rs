@@ -5,10 +5,15 @@ use std::fs;
 use std::io::{Read, Write};
 use std::path::{Path, PathBuf};
 use std::process::{Command, Output, Stdio};
+use std::sync::mpsc::channel;
+use std::time::Duration;
 
 /// A drawing with strokes, refusals and replies, and what strokes prints of it (docs/USERS.md).
 const DRAWING: &str = "IN;SP1;PU0,0;PD1000,0;OA;SP9;OE;PD1000,500;";
 const LINES: &str = "1 0 0 1000 0\n1000,0,1\r\nE 3 29\n3\r\n1 1000 0 1000 500\n";
+
+/// How long an answer may take.
+const PATIENCE: Duration = Duration::from_secs(20);
 
 fn vutaroi() -> Command {
     Command::new(env!("CARGO_BIN_EXE_vutaroi"))
@@ -411,13 +416,18 @@ fn a_question_is_answered_while_the_pipe_is_open() {
     command.arg("strokes").stdin(Stdio::piped()).stdout(Stdio::piped());
     let mut child = command.spawn().expect("the program starts");
     let mut pipe = child.stdin.take().expect("a pipe");
-    let mut answers = child.stdout.take().expect("a pipe");
+    let printed = child.stdout.take().expect("a pipe");
+    // Read beside the test: an answer that does not come fails it, and does not hold it up.
+    let (told, answers) = channel();
+    std::thread::spawn(move || {
+        printed.bytes().map_while(Result::ok).try_for_each(|byte| told.send(byte))
+    });
     for (sent, due) in
         [("SP1;PD5,5;OA;", "1 0 0 5 5\n5,5,1\r\n"), ("?;", "E 1 14\n"), ("OE;", "1\r\n")]
     {
         pipe.write_all(sent.as_bytes()).expect("it reads");
-        let mut answer = vec![0; due.len()];
-        answers.read_exact(&mut answer).expect("it answers");
+        let next = |_| answers.recv_timeout(PATIENCE).expect("it answers in time");
+        let answer: Vec<u8> = due.bytes().map(next).collect();
         assert_eq!(text(&answer), due);
     }
     drop(pipe);
