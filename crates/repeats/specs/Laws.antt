@@ -7,11 +7,11 @@ use native.Mathlib.Omega.{arith}
 use lib.Dec.{ltb}
 use lib.IntN.{ℤ, pos, natAbs}
 use borrow.Author.Tests.{ltb-true, lt-ltb, le-ltb, eq-eqb, ne-eqb}
-use Rattle.exact.specs.Whole.{_<?_}
+use Rattle.exact.specs.Whole.{_<?_, _≡?_, ≡?-true}
 use Rattle.console.specs.Sums.{added}
 use Rattle.rows.specs.declared.Row.{Row}
 use Rattle.rows.specs.Rows.{rowAt}
-use Rattle.repeats.specs.Repeats.{most, countAt, markedAt, marks, sizeAt, same, lowOf, markOf, keptOf, among, soughtOf, soughtIn, paintedOf, paintedAll}
+use Rattle.repeats.specs.Repeats.{most, countAt, markedAt, marks, sizeAt, sameWay, otherWay, same, lowOf, markOf, keptOf, among, soughtOf, soughtIn, paintedOf, paintedAll}
 
 pub among-none : (lines : List ℤ) (l : Row) → among lines 0 l ≡ false
 unfolding among
@@ -57,6 +57,44 @@ low-most z = go (z <? pos 0)
 pub mark-below : (l : Row) → markOf l < marks
 unfolding markOf
 mark-below l = omega arith
+
+-- ---- lines with the same two ends have the same mark
+
+both : (s t : Bool) → cond s t false ≡ true → (s ≡ true) × (t ≡ true)
+both true true e = (refl, refl)
+both true false e = (refl, e)
+both false true e = (e, refl)
+both false false e = (e, e)
+
+four : (p q r s : Bool) → cond p (cond q (cond r (cond s true false) false) false) false ≡ true → (p ≡ true) × (q ≡ true) × (r ≡ true) × (s ≡ true)
+four p q r s e =
+    let a = both p (cond q (cond r (cond s true false) false) false) e in
+    let b = both q (cond r (cond s true false) false) (a .1) in
+    let c = both r (cond s true false) (b .1) in
+    (a .0, b .0, c .0, both s true (c .1) .0)
+
+turned : (a b c d : ℕ) → ((a + b) * 31 + (c + d) * 1237) % marks ≡ ((b + a) * 31 + (d + c) * 1237) % marks
+turned a b c d = omega arith
+
+pub mark-same : (l m : Row) → same l m ≡ true → markOf l ≡ markOf m
+unfolding same sameWay otherWay markOf
+mark-same l m e = go (sameWay l m) refl e
+  where
+    go : (t : Bool) → sameWay l m ≡ t → cond t true (otherWay l m) ≡ true → markOf l ≡ markOf m
+    go true w e =
+        let f = four (l .b ≡? m .b) (l .c ≡? m .c) (l .d ≡? m .d) (l .e ≡? m .e) w in
+        let b = ≡?-true (l .b) (m .b) (f .0) in
+        let c = ≡?-true (l .c) (m .c) (f .1) in
+        let d = ≡?-true (l .d) (m .d) (f .2) in
+        let q = ≡?-true (l .e) (m .e) (f .3) in
+        λ i. ((lowOf (b i) + lowOf (d i)) * 31 + (lowOf (c i) + lowOf (q i)) * 1237) % marks
+    go false w e =
+        let f = four (l .b ≡? m .d) (l .c ≡? m .e) (l .d ≡? m .b) (l .e ≡? m .c) e in
+        let b = ≡?-true (l .b) (m .d) (f .0) in
+        let c = ≡?-true (l .c) (m .e) (f .1) in
+        let d = ≡?-true (l .d) (m .b) (f .2) in
+        let q = ≡?-true (l .e) (m .c) (f .3) in
+        (λ i. ((lowOf (b i) + lowOf (d i)) * 31 + (lowOf (c i) + lowOf (q i)) * 1237) % marks) ∙ turned (lowOf (m .d)) (lowOf (m .b)) (lowOf (m .e)) (lowOf (m .c))
 
 -- ---- a line that is looked for
 
