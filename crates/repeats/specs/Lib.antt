@@ -1,2 +1,4 @@
 pub mod Repeats
 pub mod Laws
+pub mod Said
+pub mod SaidLaws
