@@ -1,4 +1,5 @@
--- "Lines painted twice (same two ends, either way round): counted among the last 4096 strokes." So it is said; the crate's list of numbers counts these and no others (`told-twice`, SaidLaws).
+-- "Lines painted twice (same two ends, either way round): counted among the last 4096 strokes." So it is said;
+-- the crate's list of numbers counts these and no others (`told-twice`, `told-first`, SaidLaws).
 use mathlib.Core.Bool.{Bool, true, false, cond}
 use mathlib.Core.List.{List, [], _∷_}
 use Prim.Native.Nat.{ℕ, zero, suc, _+_}
@@ -18,3 +19,8 @@ recent past l = within most past l
 unfoldable pub twiceIn : List Row → List Row → ℕ
 twiceIn past [] = 0
 twiceIn past (l ∷ ls) = cond (otherWay l l) (twiceIn past ls) (cond (recent past l) 1 0 + twiceIn (l ∷ past) ls)
+
+-- the first of them, or `none`
+unfoldable pub firstIn : Row → List Row → List Row → Row
+firstIn none past [] = none
+firstIn none past (l ∷ ls) = cond (otherWay l l) (firstIn none past ls) (cond (recent past l) l (firstIn none (l ∷ past) ls))

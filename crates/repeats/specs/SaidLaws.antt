@@ -8,17 +8,17 @@ use lib.Dec.{eqb, ltb}
 use lib.IntN.{ℤ, pos, natAbs}
 use lib.ListN.{length, getD, set, replicate, length-set, length-replicate, getD-replicate}
 use lib.Seq.{getD-set-same, getD-set-other}
-use borrow.Author.Tests.{ltb-true, ltb-false, eqb-true, eqb-false, le-ltb, le-leb}
+use borrow.Author.Tests.{ltb-true, ltb-false, eqb-true, eqb-false, eq-eqb, ne-eqb, le-ltb, le-leb}
 use Rattle.console.specs.Sums.{largest, added}
 use Rattle.rows.specs.declared.Row.{Row}
 use Rattle.rows.specs.Rows.{row, rowAt, withRow}
 use Rattle.repeats.specs.Repeats.{most, countAt, twiceAt, firstAt, markedAt, room, sizeAt, otherWay, same, markOf, keptOf, among, soughtIn, numberOf, keptWith, againOf, paintedOf, paintedAll, toldOf}
 use Rattle.repeats.specs.Laws.{mark-below, mark-same, sought-never, sought-kept, sought-gone}
-use Rattle.repeats.specs.Said.{within, recent, twiceIn}
+use Rattle.repeats.specs.Said.{within, recent, twiceIn, firstIn}
 
 -- ---- what is found, in the slots and among the lines before
 
-noLine : Row
+abbrev pub noLine : Row
 noLine = row (pos 0) (pos 0) (pos 0) (pos 0) (pos 0)
 
 or-later : (s t : Bool) → t ≡ true → cond s true t ≡ true
@@ -410,17 +410,89 @@ told-from kept past (l ∷ ls) h few =
     told-from (paintedOf kept l) (pastWith (otherWay l l) past l) ls (s .0) (omega (arith, few, past-few (otherWay l l) past l))
     ∙ omega (arith, s .1, twice-one past l ls)
 
--- what surveying starts with: a list of zeros that has room
-pub told-twice : (n : ℕ) (ls : List Row) → room ≤ n → length ls ≤ mostLines → toldOf (paintedAll (replicate n (pos 0)) ls) .twice ≡ twiceIn [] ls
-told-twice n ls enough few =
-    let zeros = replicate n (pos 0) in
-    let zero-at : (i : ℕ) → i < room → sizeAt zeros i ≡ 0 = λ i h. ap natAbs (getD-replicate n i (pos 0) (pos 0) (omega (arith, h, enough))) in
-    let none = zero-at twiceAt (omega arith) in
-    let h : Holds zeros [] = record {
-      long = omega (arith, enough, length-replicate n (pos 0));
-      count = zero-at countAt (omega arith);
-      few = omega (arith, none);
-      slots = λ i a b. absurd (omega (arith, b));
-      marked = λ i b. absurd (omega (arith, b));
-    } in
-    told-from zeros [] ls h (omega (arith, few)) ∙ omega (arith, none)
+-- ---- the first of them
+
+again-first : (kept : List ℤ) (l : Row) → room ≤ length kept → rowAt (againOf kept l) firstAt ≡ cond (eqb (sizeAt kept twiceAt) 0) l (rowAt kept firstAt)
+unfolding againOf
+again-first kept l h = go (eqb (sizeAt kept twiceAt) 0)
+  where
+    go : (t : Bool) → rowAt (cond t (withRow l firstAt (more kept l)) (more kept l)) firstAt ≡ cond t l (rowAt kept firstAt)
+    go true = row-same l firstAt (more kept l) (omega (arith, h, length-set kept twiceAt (numberOf (added (sizeAt kept twiceAt) 1))))
+    go false = rows-alike (more kept l) kept firstAt (λ j p q. getD-set-other kept twiceAt j (numberOf (added (sizeAt kept twiceAt) 1)) (pos 0) (λ e. omega (arith, p, e)))
+
+-- the first that is told after some strokes more
+abbrev firstFrom : List ℤ → List Row → List Row → Row
+firstFrom kept past ls = cond (eqb (sizeAt kept twiceAt) 0) (firstIn (rowAt kept firstAt) past ls) (rowAt kept firstAt)
+
+module _ (kept : List ℤ) (past : List Row) (l : Row) (h : Holds kept past) (small : length past < mostLines) where
+  kept-first : rowAt (keptWith kept l) firstAt ≡ rowAt kept firstAt
+  kept-first =
+      ap (λ (ks : List ℤ). rowAt ks firstAt) (kept-is kept past l h small)
+      ∙ rows-alike (after kept past l h small) kept firstAt (λ j p q. beyond kept past l h small j (omega (arith, p)) (λ e. omega (arith, q, e)))
+
+  first-one : (ls : List Row) → firstFrom (paintedOf kept l) (pastWith (otherWay l l) past l) ls ≡ firstFrom kept past (l ∷ ls)
+  unfolding firstIn
+  first-one ls = go (otherWay l l) (recent past l) refl refl
+    where
+      go : (dot found : Bool) → otherWay l l ≡ dot → recent past l ≡ found →
+          firstFrom (paintedOf kept l) (pastWith dot past l) ls
+          ≡ cond (eqb (sizeAt kept twiceAt) 0) (cond dot (firstIn (rowAt kept firstAt) past ls) (cond found l (firstIn (rowAt kept firstAt) (l ∷ past) ls))) (rowAt kept firstAt)
+      go true found e r = ap (λ (ks : List ℤ). firstFrom ks past ls) (painted-dot kept past l h small e)
+      go false false e r =
+          ap (λ (ks : List ℤ). firstFrom ks (l ∷ past) ls) (painted-line kept past l h small false e r)
+          ∙ (λ x. cond (eqb (kept-twice kept past l h small x) 0) (firstIn (kept-first x) (l ∷ past) ls) (kept-first x))
+      go false true e r =
+          let k = holds-kept kept past l h small in
+          let t = kept-twice kept past l h small in
+          let some = again-twice (keptWith kept l) l (k .long) (omega (arith, t, h .few, small)) in
+          let told : rowAt (againOf (keptWith kept l) l) firstAt ≡ cond (eqb (sizeAt kept twiceAt) 0) l (rowAt kept firstAt) = again-first (keptWith kept l) l (k .long) ∙ (λ x. cond (eqb (t x) 0) l (kept-first x)) in
+          ap (λ (ks : List ℤ). firstFrom ks (l ∷ past) ls) (painted-line kept past l h small true e r)
+          ∙ ap (λ (b : Bool). cond b (firstIn (rowAt (againOf (keptWith kept l) l) firstAt) (l ∷ past) ls) (rowAt (againOf (keptWith kept l) l) firstAt)) (ne-eqb (sizeAt (againOf (keptWith kept l) l) twiceAt) 0 (λ z. omega (arith, some, z)))
+          ∙ told
+
+first-from : (kept : List ℤ) (past ls : List Row) → Holds kept past → length past + length ls ≤ mostLines → toldOf (paintedAll kept ls) .first ≡ firstFrom kept past ls
+unfolding paintedAll toldOf firstIn
+first-from kept past [] h few = rw (le-ltb (length kept) room (h .long)) (either (eqb (sizeAt kept twiceAt) 0))
+  where
+    either : (t : Bool) → rowAt kept firstAt ≡ cond t (rowAt kept firstAt) (rowAt kept firstAt)
+    either true = refl
+    either false = refl
+first-from kept past (l ∷ ls) h few =
+    let s = stepped kept past l h (omega (arith, few)) in
+    first-from (paintedOf kept l) (pastWith (otherWay l l) past l) ls (s .0) (omega (arith, few, past-few (otherWay l l) past l))
+    ∙ first-one kept past l h (omega (arith, few)) ls
+
+-- ---- what surveying starts with: a list of zeros that has room
+module _ (n : ℕ) (enough : room ≤ n) where
+  abbrev zeros : List ℤ
+  zeros = replicate n (pos 0)
+
+  number-zero : (i : ℕ) → i < room → getD zeros i (pos 0) ≡ pos 0
+  number-zero i h = getD-replicate n i (pos 0) (pos 0) (omega (arith, h, enough))
+
+  none-twice : sizeAt zeros twiceAt ≡ 0
+  none-twice = ap natAbs (number-zero twiceAt (omega arith))
+
+  holds-zeros : Holds zeros []
+  holds-zeros = record {
+    long = omega (arith, enough, length-replicate n (pos 0));
+    count = ap natAbs (number-zero countAt (omega arith));
+    few = omega (arith, none-twice);
+    slots = λ i a b. absurd (omega (arith, b));
+    marked = λ i b. absurd (omega (arith, b));
+  }
+
+  none-first : rowAt zeros firstAt ≡ noLine
+  unfolding rowAt
+  none-first =
+      let z : (i : ℕ) → i < room → getD zeros i (pos 0) ≡ pos 0 = number-zero in
+      λ x. row (z firstAt (omega arith) x) (z (firstAt + 1) (omega arith) x) (z (firstAt + 2) (omega arith) x) (z (firstAt + 3) (omega arith) x) (z (firstAt + 4) (omega arith) x)
+
+  pub told-twice : (ls : List Row) → length ls ≤ mostLines → toldOf (paintedAll zeros ls) .twice ≡ twiceIn [] ls
+  told-twice ls few = told-from zeros [] ls holds-zeros (omega (arith, few)) ∙ omega (arith, none-twice)
+
+  pub told-first : (ls : List Row) → length ls ≤ mostLines → toldOf (paintedAll zeros ls) .first ≡ firstIn noLine [] ls
+  told-first ls few =
+      first-from zeros [] ls holds-zeros (omega (arith, few))
+      ∙ ap (λ (b : Bool). cond b (firstIn (rowAt zeros firstAt) [] ls) (rowAt zeros firstAt)) (eq-eqb (sizeAt zeros twiceAt) 0 none-twice)
+      ∙ ap (λ (r : Row). firstIn r [] ls) none-first
