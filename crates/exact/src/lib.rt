@@ -1,5 +1,7 @@
 // Exact whole numbers in i64: division that rounds down, and to the nearest (`/` truncates toward zero); and the range of 16 bits.
 // specs/Divide.antt and Int16.antt say what, specs/Nearest.antt what holds of it; the other files of specs/ are the project's toolkit for signed numbers.
+#![tactic(auto)]
+
 ghost use Rattle.std.specs.Prelude.{◌≡◌, pos};
 ghost use Rattle.exact.specs.Whole.{◌<ᶻ◌};
 ghost use Rattle.exact.specs.Fit.{Bd};
