@@ -1,4 +1,6 @@
 // Whole numbers as decimal text in a lent buffer, and any text byte by byte. specs/Decimal.antt has the text of each, specs/Puts.antt what it is to put one.
+#![tactic(auto)]
+
 ghost use Rattle.std.specs.Prelude.{◌∷◌, [], ◌≡◌, ◌+◌, ◌<◌, ◌≤◌, nat_abs, length};
 ghost use Rattle.decimals.specs.Decimal.{decimal, natural, sign, whole};
 ghost use Rattle.decimals.specs.Decimal.{digit as digit_of};

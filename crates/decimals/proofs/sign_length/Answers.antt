@@ -11,20 +11,17 @@ use Rattle.exact.specs.Whole.{lt_z-true, lt_z-false}
 use Rattle.exact.specs.Fit.{arg, num, lt-is, m64}
 use Rattle.decimals.specs.Decimal.{sign}
 use Rattle.decimals.specs.DecimalLaws.{sign_below, sign_above}
-use Rattle.decimals.proofs.sign_length.Statement.{statement}
-use Rattle.decimals.proofs.sign_length.Tie as tie
+use Rattle.decimals.proofs.sign_length.Goals as goal
+use Rattle.decimals.proofs.sign_length.Goals.{Start}
 
-minus : (s : tie.Start) → lt_z (m64 s.args.z) (pos 0) ≡ true → sign s.args.z ≡ code "-" ∷ []
+minus : (s : Start) → lt_z (m64 s.args.z) (pos 0) ≡ true → sign s.args.z ≡ code "-" ∷ []
 minus s e = sign_below s.args.z (lt_z-true _ _ (lt-is (arg w64 s.ranges.z) (num (pos 0)) e))
 
-none : (s : tie.Start) → lt_z (m64 s.args.z) (pos 0) ≡ false → sign s.args.z ≡ []
+none : (s : Start) → lt_z (m64 s.args.z) (pos 0) ≡ false → sign s.args.z ≡ []
 none s e = sign_above s.args.z (lt_z-false _ _ (lt-is (arg w64 s.ranges.z) (num (pos 0)) e))
 
-returns : tie.Need-returns
-returns c = sym (ap length (minus (search) c.if1.true))
+pub returns-then-z-lt0 : goal.returns-then-z-lt0
+returns-then-z-lt0 c = sym (ap length (minus (search) c.if-z-lt0.true))
 
-returns-2 : tie.Need-returns-2
-returns-2 c = sym (ap length (none (search) c.if1.false))
-
-pub sign-length-spec : {M : Type 1} → statement M
-sign-length-spec = tie.close (tie.spec returns returns-2)
+pub returns : goal.returns
+returns c = sym (ap length (none (search) c.if-z-lt0.false))
