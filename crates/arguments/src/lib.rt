@@ -42,7 +42,7 @@ const A_SCALE: u8 = 2;
 
 // What the words so far ask for: an outcome, with the word that made it; what the next word is; how many limits were given, and the limits; the scale, and
 // whether it was given; and the word that names a file, 0 for standard input.
-#[derive(Drop)]
+#[derive(Clone, Copy)]
 pub struct Request {
     pub outcome: u8,
     pub at: usize,

@@ -16,7 +16,7 @@ const MOST: usize = 64;
 const NUMBERS: usize = 5;
 
 // The answer: the next machine, bytes taken, strokes stored, and 01's number (0 for none).
-#[derive(Drop)]
+#[derive(Clone, Copy)]
 pub struct Fed {
     pub machine: Machine,
     pub taken: usize,
@@ -25,7 +25,7 @@ pub struct Fed {
 }
 
 // The next strokes to store, `count` of them from the start of `list` on. With them feed has got to `fed`, and if there is more it goes on from there.
-#[derive(Drop)]
+#[derive(Clone, Copy)]
 pub struct Batch {
     pub count: usize,
     pub more: bool,

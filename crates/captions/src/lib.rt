@@ -10,7 +10,7 @@ use words::{harmless, of_kind};
 
 // A whole input, or what could be read and written of it: what is painted, what was refused, how often, how many moves among it, and how much that changes the
 // drawing; how many bytes were read, and whether the rest could not be.
-#[derive(Drop)]
+#[derive(Clone, Copy)]
 pub struct Painted {
     pub inks: Inks,
     pub refusals: Refusals,
@@ -162,7 +162,7 @@ fn group(text: &mut [u8; 65536], used: usize, key: u64, count: u64, first: u64) 
 }
 
 // How far the lines are: how many bytes of text are gathered, where the next line stands, and how many refusals have one.
-#[derive(Drop)]
+#[derive(Clone, Copy)]
 struct Below {
     used: usize,
     y: u64,

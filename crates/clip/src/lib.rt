@@ -1,13 +1,14 @@
 // Points and boxes, and what is left of a segment in a box: specs/Clip.antt says what that is, specs/Exactness.antt that it is exact, specs/Nearness.antt what it is good for. The code is the crate clipping.
+#![tactic(auto)]
 
-#[derive(Drop)]
+#[derive(Clone, Copy)]
 pub struct Point {
     pub x: i64,
     pub y: i64,
 }
 
 // A box, edges included. Where left is above right, or bottom above top, it is empty.
-#[derive(Drop)]
+#[derive(Clone, Copy)]
 pub struct Rect {
     pub left: i64,
     pub bottom: i64,
@@ -15,7 +16,7 @@ pub struct Rect {
     pub top: i64,
 }
 
-#[derive(Drop)]
+#[derive(Clone, Copy)]
 pub enum Clipped {
     Hidden,
     Stroke(Point, Point),

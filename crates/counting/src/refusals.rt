@@ -11,7 +11,7 @@ pub const GROUPS: usize = 16;
 pub const PLACES: usize = 6;
 
 // A group has a key, which is 0 where it is free, a count, and six places; refusals for which no group is free are counted alone.
-#[derive(Drop)]
+#[derive(Clone, Copy)]
 pub struct Refusals {
     pub keys: [u64; 16],
     pub counts: [u64; 16],

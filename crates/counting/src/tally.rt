@@ -9,21 +9,21 @@ use measure::length;
 use turns::turn::{greater, lesser, ordered};
 
 // A box that may be none: with no box the area means nothing.
-#[derive(Drop)]
+#[derive(Clone, Copy)]
 pub struct Extent {
     pub some: bool,
     pub area: Rect,
 }
 
 // Where the last stroke ended, if there was one.
-#[derive(Drop)]
+#[derive(Clone, Copy)]
 pub struct End {
     pub some: bool,
     pub at: Point,
 }
 
 // What is painted: strokes and their lengths by pen, the ways between strokes, the end of the last one, and the box of all. Lengths are in tenths of a unit.
-#[derive(Drop)]
+#[derive(Clone, Copy)]
 pub struct Paint {
     pub strokes: [u64; 9],
     pub lengths: [u64; 9],
@@ -33,7 +33,7 @@ pub struct Paint {
 }
 
 // Segments by what the limits leave of them, what is painted, and the box of all segments before the limits cut them.
-#[derive(Drop)]
+#[derive(Clone, Copy)]
 pub struct Tally {
     pub whole: u64,
     pub clipped: u64,

@@ -11,7 +11,7 @@ use sequences::codes::{FED, ROOM, bytes_of};
 pub const BYTES: usize = 4096;
 
 // How far the bytes of a line are fed, and the bytes of text.
-#[derive(Drop)]
+#[derive(Clone, Copy)]
 struct Fed {
     machine: Machine,
     at: usize,

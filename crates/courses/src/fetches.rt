@@ -5,7 +5,7 @@ use machine::{Fetched, Machine};
 use outcomes::replies::{fitting, marked, put_fetched};
 
 // The machine after a fetch, and the bytes of text.
-#[derive(Drop)]
+#[derive(Clone, Copy)]
 pub struct Told {
     pub machine: Machine,
     pub used: usize,

@@ -14,7 +14,7 @@ mod fetches;
 pub use feeds::{BYTES, feed_all, feed_once};
 
 // A machine on its way through a sequence: whether fetches and draws are held back, the bytes taken, and the bytes of text.
-#[derive(Drop)]
+#[derive(Clone, Copy)]
 pub struct Course {
     pub machine: Machine,
     pub hold: bool,

@@ -15,7 +15,7 @@ use textlines::word::Limits;
 const BLOCKS: u64 = 0x800000000000;
 
 // Where the lines go.
-#[derive(Drop)]
+#[derive(Clone, Copy)]
 pub enum Sink {
     // to this file
     Write(i32),
@@ -24,7 +24,7 @@ pub enum Sink {
 }
 
 // How a run ended.
-#[derive(Drop)]
+#[derive(Clone, Copy)]
 pub enum End {
     Done,
     // no limits were asked for
@@ -38,7 +38,7 @@ pub enum End {
 }
 
 // What a run counted, and how it ended.
-#[derive(Drop)]
+#[derive(Clone, Copy)]
 pub struct Finished {
     pub read: u64,
     pub handed: u64,
@@ -47,7 +47,7 @@ pub struct Finished {
 }
 
 // What a block leaves: the machine, and whether its lines were delivered.
-#[derive(Drop)]
+#[derive(Clone, Copy)]
 struct Left {
     machine: Machine,
     good: bool,

@@ -9,7 +9,7 @@ use output::{finish, put_bytes, put_natural};
 use textlines::word::{Limits, Whole, limits_of, whole_of};
 
 // Where a word of a line starts and ends.
-#[derive(Drop)]
+#[derive(Clone, Copy)]
 struct Part {
     from: usize,
     to: usize,

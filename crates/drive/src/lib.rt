@@ -16,14 +16,14 @@ const BAD_PITCH: u8 = 11;
 const BAD_END: u8 = 12;
 
 // Two lengths in millimetres.
-#[derive(Drop)]
+#[derive(Clone, Copy)]
 pub struct Place {
     pub x: f32,
     pub y: f32,
 }
 
 // Travel holds its start, paint its end, a dot its place.
-#[derive(Drop)]
+#[derive(Clone, Copy)]
 pub enum Move {
     Travel(Place),
     Paint(Place),
@@ -31,7 +31,7 @@ pub enum Move {
 }
 
 // A travel and a paint move, one dot, or the number of the refusal.
-#[derive(Drop)]
+#[derive(Clone, Copy)]
 pub enum Moves {
     Two(Move, Move),
     One(Move),

@@ -35,7 +35,7 @@ pub fn feed(machine: Machine, bytes: &[u8], out: &mut [Stroke]) -> Fed
 }
 
 // A list of records by value, and the answer of a feed into it.
-#[derive(Drop)]
+#[derive(Clone, Copy)]
 pub struct Listed {
     pub list: [Stroke; 64],
     pub fed: Fed,

@@ -13,7 +13,7 @@ use exact::{floor_div, nearest_div};
 use turns::turn::{greater, lesser};
 
 // A side of a polygon, between two page points.
-#[derive(Drop)]
+#[derive(Clone, Copy)]
 pub struct Side {
     pub from: Point,
     pub to: Point,
@@ -97,14 +97,14 @@ pub fn crossing(e: Side, y: i64) -> i64
 }
 
 // Crossings of one row, the first n in order.
-#[derive(Drop)]
+#[derive(Clone, Copy)]
 pub struct Crossings {
     pub xs: [i64; 114],
     pub n: usize,
 }
 
 // A number that is carried on: a loop keeps signed numbers in structs.
-#[derive(Drop)]
+#[derive(Clone, Copy)]
 struct Carried {
     x: i64,
 }

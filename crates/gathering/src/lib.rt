@@ -26,7 +26,7 @@ use sines::table;
 const NUMBERS: usize = 5;
 
 // How far a feed or a plot went: the state, the place of the next byte, how many records are stored, and 01's number.
-#[derive(Drop)]
+#[derive(Clone, Copy)]
 pub struct Stopped {
     pub state: State,
     pub at: usize,
@@ -184,7 +184,7 @@ fn chords_left(circle: Circle, next: u16, left: u16) -> Work
 }
 
 // How far work was drawn: what still waits, and the count.
-#[derive(Drop)]
+#[derive(Clone, Copy)]
 struct Progress {
     work: Work,
     count: usize,
@@ -293,7 +293,7 @@ fn heavy(a: Action) -> bool
 }
 
 // The store after an action of a polygon that had `edges` edges, and what waits where it has `count`.
-#[derive(Drop)]
+#[derive(Clone, Copy)]
 struct Remade {
     store: Store,
     work: Work,

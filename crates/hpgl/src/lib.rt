@@ -9,21 +9,21 @@ use reader::Reader;
 pub const MOST_REPLY: usize = 37;
 
 // The exact position: base and offset on each axis.
-#[derive(Drop)]
+#[derive(Clone, Copy)]
 pub struct Position {
     pub x: ExactPosition,
     pub y: ExactPosition,
 }
 
 // The numbers of SC for one axis, in ten-thousandths.
-#[derive(Drop)]
+#[derive(Clone, Copy)]
 pub struct Range {
     pub min: i64,
     pub max: i64,
 }
 
 // The scale of SC. Off, the ranges mean nothing.
-#[derive(Drop)]
+#[derive(Clone, Copy)]
 pub struct Scale {
     pub on: bool,
     pub x: Range,
@@ -31,14 +31,14 @@ pub struct Scale {
 }
 
 // The window of IW: a box of locations, not turned. Where none is set the box means nothing.
-#[derive(Drop)]
+#[derive(Clone, Copy)]
 pub struct Window {
     pub set: bool,
     pub area: Rect,
 }
 
 // What belongs to the sheet, whoever paints on it: hard limits, P1, P2, scale, turn (its place in the table of turns), window.
-#[derive(Drop)]
+#[derive(Clone, Copy)]
 pub struct Settings {
     pub hard: Rect,
     pub p1: Point,
@@ -49,7 +49,7 @@ pub struct Settings {
 }
 
 // The pen: its number, down or up, and whether the PU or PD being read changed that and has carried out no pair yet.
-#[derive(Drop)]
+#[derive(Clone, Copy)]
 pub struct Pen {
     pub number: u8,
     pub down: bool,
@@ -57,7 +57,7 @@ pub struct Pen {
 }
 
 // What PM0 saved for PM2.
-#[derive(Drop)]
+#[derive(Clone, Copy)]
 pub struct Saved {
     pub position: Position,
     pub relative: bool,
@@ -66,7 +66,7 @@ pub struct Saved {
 
 // The polygon as it counts: whether polygon mode is on, its bytes, how many edges the store holds, whether the subpolygon has no point yet,
 // and its first point.
-#[derive(Drop)]
+#[derive(Clone, Copy)]
 pub struct Polygon {
     pub mode: bool,
     pub bytes: u16,
@@ -77,13 +77,13 @@ pub struct Polygon {
 }
 
 // What a carriage remembers beside them: the number that OE tells, 0 for none.
-#[derive(Drop)]
+#[derive(Clone, Copy)]
 pub struct Memory {
     pub refusal: u8,
 }
 
 // What belongs to the carriage: position, pen, relative or absolute mode, polygon, memory.
-#[derive(Drop)]
+#[derive(Clone, Copy)]
 pub struct Carriage {
     pub position: Position,
     pub pen: Pen,
@@ -93,14 +93,14 @@ pub struct Carriage {
 }
 
 // Everything that decides anything.
-#[derive(Drop)]
+#[derive(Clone, Copy)]
 pub struct Core {
     pub settings: Settings,
     pub carriage: Carriage,
 }
 
 // An edge of the polygon: the locations of its ends, not turned, and whether the second was reached pen down.
-#[derive(Drop)]
+#[derive(Clone, Copy)]
 pub struct Edge {
     pub from: Point,
     pub to: Point,
@@ -109,7 +109,7 @@ pub struct Edge {
 
 // A circle: its centre split on each axis, the way from the centre to vertex zero, the chord angle in tenths of a degree; the location of
 // vertex zero, and how far it goes round, in tenths of a degree.
-#[derive(Drop)]
+#[derive(Clone, Copy)]
 pub struct Circle {
     pub x: Centre,
     pub y: Centre,
@@ -120,7 +120,7 @@ pub struct Circle {
 }
 
 // What OA, OP, OW, OH or OE answers: so many numbers, of these four, as they were when it was carried out. Of no numbers it is no reply.
-#[derive(Drop)]
+#[derive(Clone, Copy)]
 pub struct Reply {
     pub count: u8,
     pub first: i64,
@@ -130,7 +130,7 @@ pub struct Reply {
 }
 
 // What an instruction hands to the store and to the waiting work.
-#[derive(Drop)]
+#[derive(Clone, Copy)]
 pub enum Action {
     Keep,
     // one move is drawn, between two page points
@@ -148,7 +148,7 @@ pub enum Action {
 }
 
 // What an event does: the new core, the action, and 01's number (0 for none).
-#[derive(Drop)]
+#[derive(Clone, Copy)]
 pub struct Acted {
     pub core: Core,
     pub action: Action,
@@ -159,14 +159,14 @@ pub struct Acted {
 pub const MOST_EDGES: usize = 112;
 
 // The edges that EP draws: as many as the polygon counts.
-#[derive(Drop)]
+#[derive(Clone, Copy)]
 pub struct Store {
     pub edges: [Edge; MOST_EDGES],
 }
 
 // The segments that wait, all from one byte: none; one move, between two page points; the chords of a circle, or the stored edges, from one
 // on, with how many are left. Or a reply waits: never both, for no byte is taken while anything does.
-#[derive(Drop)]
+#[derive(Clone, Copy)]
 pub enum Work {
     Nothing,
     Line(Point, Point),
@@ -176,7 +176,7 @@ pub enum Work {
 }
 
 // The whole machine.
-#[derive(Drop)]
+#[derive(Clone, Copy)]
 pub struct State {
     pub reader: Reader,
     pub core: Core,
@@ -185,7 +185,7 @@ pub struct State {
 }
 
 // A stroke: pen and ends, on the page.
-#[derive(Drop)]
+#[derive(Clone, Copy)]
 pub struct Stroke {
     pub pen: u8,
     pub x0: i64,
@@ -195,7 +195,7 @@ pub struct Stroke {
 }
 
 // What waits first, before it is clipped: nothing; an edge whose second end was reached pen up; a line between two page points.
-#[derive(Drop)]
+#[derive(Clone, Copy)]
 pub enum Segment {
     Nothing,
     PenUp,
@@ -203,7 +203,7 @@ pub enum Segment {
 }
 
 // What draw answers.
-#[derive(Drop)]
+#[derive(Clone, Copy)]
 pub enum Drawn {
     Idle,
     Hidden,
@@ -211,7 +211,7 @@ pub enum Drawn {
 }
 
 // What look answers.
-#[derive(Drop)]
+#[derive(Clone, Copy)]
 pub struct Look {
     pub location: Point,
     pub pen: u8,

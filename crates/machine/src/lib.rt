@@ -26,32 +26,32 @@ use settings::{fresh_state, good_limits};
 use sines::table;
 
 // A machine comes only from the calls below.
-#[derive(Drop)]
+#[derive(Clone, Copy)]
 pub struct Machine {
     state: State,
 }
 
 // What the calls answer: the machine, with 01's number (0 for none), or with what was drawn.
-#[derive(Drop)]
+#[derive(Clone, Copy)]
 pub struct Started {
     pub machine: Machine,
     pub number: u8,
 }
 
-#[derive(Drop)]
+#[derive(Clone, Copy)]
 pub struct Taken {
     pub machine: Machine,
     pub number: u8,
 }
 
-#[derive(Drop)]
+#[derive(Clone, Copy)]
 pub struct Worked {
     pub machine: Machine,
     pub drawn: Drawn,
 }
 
 // The machine after a fetch, how many bytes were written, and 02's number.
-#[derive(Drop)]
+#[derive(Clone, Copy)]
 pub struct Fetched {
     pub machine: Machine,
     pub length: usize,
@@ -59,7 +59,7 @@ pub struct Fetched {
 }
 
 // How far a run of bytes went: the place of the next byte, and the last one's number.
-#[derive(Drop)]
+#[derive(Clone, Copy)]
 pub struct Ran {
     pub machine: Machine,
     pub at: usize,
@@ -67,7 +67,7 @@ pub struct Ran {
 }
 
 // How far a feed or a plot went: the place of the next byte, how many records are stored, and 01's number.
-#[derive(Drop)]
+#[derive(Clone, Copy)]
 pub struct Gathered {
     pub machine: Machine,
     pub at: usize,

@@ -13,6 +13,7 @@ and_right false b t = absurd t
 
 pub holds : (t : Bool) → T t → t ≡ true
 holds true t = refl
+holds false t = elim t [ ]
 
 -- The test passes at every place below n.
 abbrev pub every : (ℕ → Bool) → ℕ → Bool

@@ -1,4 +1,6 @@
 // The table of instructions, and what is looked up in it.
+#![tactic(auto)]
+
 ghost use Rattle.std.specs.Prelude.{◌≡◌, ◌+◌, ◌*◌, ◌<◌};
 ghost use Rattle.mnemonics.specs.Table.{rows, row_of, names_of, find_of, begins_name, is_label, count_fits, takes_pairs, has_room, known_in_polygon, changes_settings};
 
@@ -98,7 +100,7 @@ const TABLE: [[u8; COLUMNS]; ROWS] = [
     [b'O', b'E', 0, 0, 1, 1, 0],
 ];
 
-#[derive(Drop)]
+#[derive(Clone, Copy)]
 pub enum Found {
     At(usize),
     Nowhere,

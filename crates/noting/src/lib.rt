@@ -16,7 +16,7 @@ use rulekit::numbers::{BUSY, LIST_FULL};
 pub mod astray;
 
 // Dots; and by pen, strokes and their lengths in tenths of a unit.
-#[derive(Drop)]
+#[derive(Clone, Copy)]
 pub struct Inks {
     pub dots: u64,
     pub strokes: [u64; 9],

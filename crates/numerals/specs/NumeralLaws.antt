@@ -205,14 +205,14 @@ ends-past : {n : Number} {s f : Bool} {v k : ℕ} (ds : List ℕ) → places ≤
 unfolding tail_from
 ends-past {f = true} {v} {k} [] h r = at-end v (rw (unit-past k h) (omega arith)) (le_refl v) r
 ends-past {f = false} {v} {k} [] h r = at-end v (rw (unit-past k h) (omega arith)) (le_refl v) r
-ends-past {f = f} {k = k} (d ∷ ds) h r = rw (or-true f) (ends-past ds (past-stays k d h) (reads-past-fourth d h r))
+ends-past {n = n} {s = s} {f = f} {v = v} {k = k} (d ∷ ds) h r = rw (or-true f) (ends-past {n = digit_of n d} ds (past-stays k d h) (reads-past-fourth d h r))
 
 -- The digits of the whole part.
 reads-digits : {n : Number} {s f : Bool} {v : ℕ} (ds : List ℕ) → Reads n s f false v 0 → Reads (read_digits n ds) s (f || some ds) false (worth_from v ds) 0
 reads-digits {f = true} [] r = r
 reads-digits {f = false} [] r = r
-reads-digits {f = true} (d ∷ ds) r = reads-digits ds (reads_whole d r)
-reads-digits {f = false} (d ∷ ds) r = reads-digits ds (reads_whole d r)
+reads-digits {n = n} {s = s} {f = true} {v = v} (d ∷ ds) r = reads-digits {n = digit_of n d} ds (reads_whole d r)
+reads-digits {n = n} {s = s} {f = false} {v = v} (d ∷ ds) r = reads-digits {n = digit_of n d} ds (reads_whole d r)
 
 -- The decimals, with i places free.
 ends-decimals : {n : Number} {s f : Bool} {v j : ℕ} (i : ℕ) (ds : List ℕ) → j + i ≡ places → Reads n s f true v j →
@@ -225,7 +225,7 @@ ends-decimals {f = false} (suc i) [] e r = ends (suc i) e r
 ends-decimals {n} {s} {f} {v} {j} zero (d ∷ ds) e r =
     let k : j ≡ places = omega arith in
     subst (λ (k : ℕ). Ends (read_digits n (d ∷ ds)) s (f || true) (v + carry_of s (tail_from k (d ∷ ds)))) k (ends-past (d ∷ ds) (omega arith) r)
-ends-decimals {f = f} {j = j} (suc i) (d ∷ ds) e r = rw (or-true f) (ends-decimals i ds (omega arith) (reads-decimal d (omega arith) r))
+ends-decimals {n = n} {s = s} {f = f} {v = v} {j = j} (suc i) (d ∷ ds) e r = rw (or-true f) (ends-decimals {n = digit_of n d} i ds (omega arith) (reads-decimal d (omega arith) r))
 
 -- The start, and the point.
 reads-start : (s : Bool) → Reads (start_of s) s false false 0 0

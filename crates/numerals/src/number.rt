@@ -26,7 +26,7 @@ const PAST: u32 = 327_680_000;
 // A byte below the digits is counted on past the largest number: 2^32, less the code of 0.
 const AROUND: u32 = 4_294_967_248;
 
-#[derive(Drop)]
+#[derive(Clone, Copy)]
 pub struct Number {
     pub negative: bool,
     // Whether it has a digit, and a point.
@@ -39,20 +39,20 @@ pub struct Number {
 }
 
 // A number with digits more, and the place after them.
-#[derive(Drop)]
+#[derive(Clone, Copy)]
 pub struct Scanned {
     pub number: Number,
     pub at: usize,
 }
 
 // Where a run of digits ends, and the magnitude that it comes to.
-#[derive(Drop)]
+#[derive(Clone, Copy)]
 pub struct Run {
     pub magnitude: u32,
     pub at: usize,
 }
 
-#[derive(Drop)]
+#[derive(Clone, Copy)]
 pub enum Value {
     Good(i64),
     Bad,

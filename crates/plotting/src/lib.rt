@@ -22,7 +22,7 @@ const MOST: usize = MARKS * LONGEST + MOST_REPLY;
 
 // How far the printing of a block is: the machine; the bytes of the blocks before; the place in this one; the bytes of text in the buffer; and
 // whether some of the block is still to be printed.
-#[derive(Drop)]
+#[derive(Clone, Copy)]
 pub struct Plot {
     pub machine: Machine,
     pub before: u64,

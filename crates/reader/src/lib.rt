@@ -9,7 +9,7 @@ pub const WRONG_COUNT: u8 = 2;
 pub const OUT_OF_RANGE: u8 = 3;
 
 // A pair of numbers, in ten-thousandths.
-#[derive(Drop)]
+#[derive(Clone, Copy)]
 pub struct Coordinates {
     pub x: i64,
     pub y: i64,
@@ -17,7 +17,7 @@ pub struct Coordinates {
 
 // An instruction's numbers, in ten-thousandths, and how many there are. Of an instruction that takes pairs only the first
 // number of an open pair is kept.
-#[derive(Drop)]
+#[derive(Clone, Copy)]
 pub struct Numbers {
     pub count: u8,
     pub first: i64,
@@ -28,7 +28,7 @@ pub struct Numbers {
 
 // What a byte means: nothing yet; an instruction is named; a pair is complete; an instruction has ended, with its numbers;
 // the byte is refused, with the cause's number.
-#[derive(Drop)]
+#[derive(Clone, Copy)]
 pub enum Event {
     Nothing,
     Named(usize),
@@ -38,7 +38,7 @@ pub enum Event {
 }
 
 // What becomes of a number that ends: it is kept among the others, completes a pair, or is refused.
-#[derive(Drop)]
+#[derive(Clone, Copy)]
 pub enum Closed {
     Kept(Numbers),
     Complete(Coordinates),
@@ -47,7 +47,7 @@ pub enum Closed {
 
 // Where the reader is: between instructions; after a first letter; in an instruction with no number open; in a number;
 // passing over what a refusal leaves of an instruction; in a label's text.
-#[derive(Drop)]
+#[derive(Clone, Copy)]
 pub enum Mode {
     Idle,
     First(u8),
@@ -57,7 +57,7 @@ pub enum Mode {
     Label,
 }
 
-#[derive(Drop)]
+#[derive(Clone, Copy)]
 pub struct Reader {
     pub mode: Mode,
     // The instruction that was named last, its numbers, and the number that is open or was the last.
@@ -66,14 +66,14 @@ pub struct Reader {
     pub number: Number,
 }
 
-#[derive(Drop)]
+#[derive(Clone, Copy)]
 pub struct Step {
     pub reader: Reader,
     pub event: Event,
 }
 
 // What bytes come to, up to the first that means something: the reader after it, what it means, and the place after it.
-#[derive(Drop)]
+#[derive(Clone, Copy)]
 pub struct Next {
     pub reader: Reader,
     pub event: Event,
@@ -81,7 +81,7 @@ pub struct Next {
 }
 
 // A pair that stands ahead, read at once, or nothing that is known yet.
-#[derive(Drop)]
+#[derive(Clone, Copy)]
 pub enum Ahead {
     Pair(Next),
     Unknown,

@@ -172,7 +172,7 @@ fn put_stroke(out: &mut [u8], at: usize, before: u8, s: Stroke) -> usize
 // ---- the list, judged and then written
 
 // How far a list is: whether it is judged or written, which stroke is next, the pen before it (0 before the first), and the answer so far.
-#[derive(Drop)]
+#[derive(Clone, Copy)]
 pub struct Draft {
     pub judging: bool,
     pub at: usize,

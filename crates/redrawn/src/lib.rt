@@ -2,7 +2,7 @@
 // shorter. Definitions and laws, in specs/. The crate redrawing writes it.
 
 // The answer: bytes written, and the number (0 for none).
-#[derive(Drop)]
+#[derive(Clone, Copy)]
 pub struct Written {
     pub length: usize,
     pub number: u8,

@@ -24,7 +24,7 @@ const MARKS: usize = 32749;
 pub const ROOM: usize = MARKED + MARKS;
 
 // How many lines were painted a second time, and the first of these.
-#[derive(Drop)]
+#[derive(Clone, Copy)]
 pub struct Repeats {
     pub twice: u64,
     pub first: Row,

@@ -65,7 +65,7 @@ fn put_reply(out: &mut [u8], r: Reply) -> usize
 }
 
 // What a fetch answers: how many bytes were written, and 02's number (0 for none).
-#[derive(Drop)]
+#[derive(Clone, Copy)]
 pub struct Written {
     pub length: usize,
     pub number: u8,

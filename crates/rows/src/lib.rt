@@ -1,9 +1,11 @@
 // Whole numbers in rows of five, in a lent list, and what stands in one: a flag, or a number of some width. So a machine is written out and read back.
+#![tactic(auto)]
+
 ghost use Rattle.std.specs.Prelude.{◌≡◌, ◌+◌, ◌≤◌, pos, length};
 ghost use Rattle.rows.specs.Rows.{row_at, with_row, flag_number, flag_of, place_number, small_of, most_byte, most_short, most_word};
 
 // Five numbers. What is not used is 0.
-#[derive(Drop)]
+#[derive(Clone, Copy)]
 pub struct Row {
     pub a: i64,
     pub b: i64,

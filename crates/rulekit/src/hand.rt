@@ -7,7 +7,7 @@ use clip::Point;
 use hpgl::{Carriage, Core, Edge, Memory, Pen, Polygon, Position, Segment, Settings};
 
 // A carriage without its polygon, which is large and seldom changes.
-#[derive(Drop)]
+#[derive(Clone, Copy)]
 pub struct Hand {
     pub position: Position,
     pub pen: Pen,
@@ -16,7 +16,7 @@ pub struct Hand {
 }
 
 // What a pair outside polygon mode does: the new hand and the location where it is, the segment to draw, and 01's number (0 for none).
-#[derive(Drop)]
+#[derive(Clone, Copy)]
 pub struct Shifted {
     pub hand: Hand,
     pub here: Point,
@@ -26,7 +26,7 @@ pub struct Shifted {
 
 // What a pair in polygon mode does: the new hand and the location where it is, the edge that ends there, the bytes of the point, and 01's number
 // (0 for none).
-#[derive(Drop)]
+#[derive(Clone, Copy)]
 pub struct Pointed {
     pub hand: Hand,
     pub here: Point,

@@ -19,7 +19,7 @@ use turns::limits::limits;
 use turns::turn::{Rows, rows_of, turned};
 
 // What the settings make of a pair, made once for many pairs: the axes, the table of the turn, the limits.
-#[derive(Drop)]
+#[derive(Clone, Copy)]
 pub struct Frame {
     pub x: Axis,
     pub y: Axis,

@@ -8,7 +8,7 @@ use numerals::bytes::{Class, class_of};
 const ESC: u8 = 27;
 
 // How far a sequence is read, and how many were broken off.
-#[derive(Drop)]
+#[derive(Clone, Copy)]
 pub struct Escapes {
     pub state: u8,
     pub broken: u64,

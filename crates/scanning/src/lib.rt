@@ -9,7 +9,7 @@ use numerals::bytes::{Class, class_of};
 pub mod escapes;
 
 // Line types that have numbers: how far a name is read, and how many there are.
-#[derive(Drop)]
+#[derive(Clone, Copy)]
 pub struct Types {
     pub mode: u8,
     pub count: u64,

@@ -34,7 +34,7 @@ pub const FEED: u16 = 400;
 pub const FED: u16 = 512;
 
 // How far a sequence is written out: the codes so far, and the place of what follows.
-#[derive(Drop)]
+#[derive(Clone, Copy)]
 struct Written {
     count: usize,
     next: usize,

@@ -10,7 +10,7 @@ use output::{natural_then, put_byte, put_bytes, put_natural, whole_then};
 
 // Where the sheet begins, and how wide and high it is; the height of a letter, from line to line, and from the middle of a dot to its edge; what is left free
 // around the sheet; where its lower edge stands on the page; and how wide and high the page is.
-#[derive(Drop)]
+#[derive(Clone, Copy)]
 pub struct Sheet {
     pub left: i64,
     pub bottom: i64,
@@ -26,7 +26,7 @@ pub struct Sheet {
 }
 
 // A grid: from line to line in metres and in units, at a scale; and how wide and high the sheet is in centimetres on the ice.
-#[derive(Drop)]
+#[derive(Clone, Copy)]
 pub struct Grid {
     pub step: u8,
     pub cell: u64,

@@ -1,5 +1,7 @@
 // Sine and cosine of any whole angle in tenths of a degree, scaled by 100,000, by a table to 90 degrees.
 // specs/Table.antt and specs/Angle.antt say what, specs/Rules.antt and specs/Quarters.antt what holds of it.
+#![tactic(auto)]
+
 ghost use Rattle.std.specs.Prelude.{◌≡◌, ◌≤◌, pos};
 ghost use Rattle.sines.specs.Table.{sines, sine_at};
 ghost use Rattle.sines.specs.Angle.{rest_of, sine_in, sine_of, cosine_of};

@@ -19,7 +19,7 @@ fn again() -> bool {
 }
 
 // What a read gave: so many bytes at the start of the block, none at the end of the input; or nothing where it failed.
-#[derive(Drop)]
+#[derive(Clone, Copy)]
 pub struct Got {
     pub count: usize,
     pub good: bool,

@@ -41,7 +41,7 @@ const REPLY: usize = 37;
 
 // How far the drawing is at the beginning of a block: the machine, the bytes before the block and the last letters of these, the name of a byte of
 // the block that belongs to none, what is counted, what was refused, and how many replies were made.
-#[derive(Drop)]
+#[derive(Clone, Copy)]
 struct Drawing {
     machine: Machine,
     before: u64,
@@ -53,14 +53,14 @@ struct Drawing {
 }
 
 // What drawing leaves: the machine, and the counts.
-#[derive(Drop)]
+#[derive(Clone, Copy)]
 struct Painted {
     machine: Machine,
     tally: Tally,
 }
 
 // What a fetch leaves: the machine, and the count of replies.
-#[derive(Drop)]
+#[derive(Clone, Copy)]
 struct Replied {
     machine: Machine,
     replies: u64,
@@ -68,7 +68,7 @@ struct Replied {
 
 // A drawing in pieces: how the next one is read, the escape sequences so far, how many lines were drawn with no pen in hand, and from which byte on
 // there was none.
-#[derive(Drop)]
+#[derive(Clone, Copy)]
 struct Watched {
     drawing: Drawing,
     mode: u8,
@@ -79,7 +79,7 @@ struct Watched {
 
 // A whole input: what is counted and refused, lines painted twice, escape sequences that are broken off, replies, line types with numbers, lines without a
 // pen, whether its last instruction is open, and whether some of it could not be read.
-#[derive(Drop)]
+#[derive(Clone, Copy)]
 pub struct Surveyed {
     pub tally: Tally,
     pub repeats: Repeats,

@@ -5,14 +5,14 @@ ghost use Rattle.textlines.specs.Word as S;
 // A number is read on while it is below this one, so that it stays within 64 bits.
 const TOO_LARGE: u64 = 100000000000000000;
 
-#[derive(Drop)]
+#[derive(Clone, Copy)]
 pub enum Whole {
     Number(i64),
     Nothing,
 }
 
 // Hard limits: left, bottom, right, top.
-#[derive(Drop)]
+#[derive(Clone, Copy)]
 pub enum Limits {
     Four(i64, i64, i64, i64),
     Nothing,

@@ -10,7 +10,7 @@ use output::{put_byte, put_bytes, put_natural, put_whole};
 
 // How far the text is: how much of the buffer is used, whether a stroke was put, whether lines are dashed, and of a path that is open its pen and its end; pen
 // 0 for none.
-#[derive(Drop)]
+#[derive(Clone, Copy)]
 pub struct Hand {
     pub used: usize,
     pub begun: bool,

@@ -40,7 +40,7 @@ pub fn find_turn(degrees: i64) -> usize
 }
 
 // A turn's table, looked up once for many points: its first row is xx, xy.
-#[derive(Drop)]
+#[derive(Clone, Copy)]
 pub struct Rows {
     pub xx: i64,
     pub xy: i64,

@@ -1,0 +1,66 @@
+-- What the digits from `from` on come to is what those from `at` on come to, for the number with the ones between them. A digit past the fourth decimal, one that
+-- counts, and one of a number out of range meet after the branch.
+use mathlib.Core.Path.{◌≡◌, refl, sym, ap, ◌∙◌}
+use mathlib.Core.Logic.{⊎_elim}
+use Prim.Native.Nat.{◌+◌, ◌-◌}
+use native.Mathlib.Omega.{arith}
+use lib.ListN.{length, drop}
+use borrow.Author.Rules.{rules}
+use borrow.Author.Tests.{not-true, not-false}
+use Rattle.numerals.specs.Number.{so_far_of}
+use Rattle.numerals.specs.Run.{digits_from}
+use Rattle.numerals.specs.RunLaws.{digit-class, digits-end, digits-stop, digits-on, digit-past, digit-kept, digit-counts}
+use Rattle.numerals.specs.declared.number.Number.{Number}
+use Rattle.numerals.specs.declared.number.Scanned.{Scanned}
+use Rattle.numerals.proofs.number.digits_from.Goals as goal
+
+pub loop-at-init : goal.loop-at-init
+loop-at-init c = refl
+
+pub bounds-bytes-at : goal.bounds-bytes-at
+bounds-bytes-at c = omega arith
+
+pub returns-then-not-is_digit : goal.returns-then-not-is_digit
+returns-then-not-is_digit c =
+    let l = c.loop-at in
+    rw c.so_far.ensures (sym (l.invariant ∙ digits-stop _ _ l.at c.loop-at-test.true (sym c.is_digit.ensures ∙ not-true _ c.if-not-is_digit.true)))
+
+pub overflow_sub-digit : goal.overflow_sub-digit
+overflow_sub-digit c =
+    (digit-class _ (sym c.is_digit.ensures ∙ not-false _ c.if-not-is_digit.false)).0
+
+pub overflow_cast-magnitude : goal.overflow_cast-magnitude
+overflow_cast-magnitude c =
+    let b = digit-class _ (sym c.is_digit.ensures ∙ not-false _ c.if-not-is_digit.false) in
+    search (rules, b.1)
+
+pub overflow_add-magnitude : goal.overflow_add-magnitude
+overflow_add-magnitude c =
+    let b = digit-class _ (sym c.is_digit.ensures ∙ not-false _ c.if-not-is_digit.false) in
+    search (rules, b.1)
+
+pub overflow_add-at : goal.overflow_add-at
+overflow_add-at c = omega arith
+
+pub loop-at-smaller : goal.loop-at-smaller
+loop-at-smaller c = omega arith
+
+pub loop-at-preserved : goal.loop-at-preserved
+loop-at-preserved c =
+    let l = c.loop-at in
+    let n = c.args.start in
+    let bytes = c.args.bytes.now in
+    let at = l.at in
+    let more = l.invariant ∙ digits-on (so_far_of n l.filled l.decimals l.magnitude) bytes at c.loop-at-test.true (sym c.is_digit.ensures ∙ not-false _ c.if-not-is_digit.false) in
+    let next : Number → Scanned = λ k. digits_from k (drop (at + 1) bytes) (at + 1) in
+    ⊎_elim
+    (λ w. rw (w.2, w.3, w.1.ensures) (more ∙ ap next (digit-past n l.filled l.decimals l.magnitude _ c.requires w.0.taken)))
+    (⊎_elim
+    (λ w. rw (w.2, w.3) (more ∙ ap next (digit-counts n l.filled l.decimals l.magnitude _ c.requires w.0.left w.1.taken)))
+    (λ w. rw (w.2, w.3) (more ∙ ap next (digit-kept n l.filled l.decimals l.magnitude _ c.requires w.0.left w.1.left))))
+    c.if-decimals-ge-PLACES.branch
+
+pub returns : goal.returns
+returns c =
+    let l = c.loop-at in
+    rw c.so_far-2.ensures (sym (l.invariant ∙ digits-end _ _ l.at c.loop-at-test.false))
