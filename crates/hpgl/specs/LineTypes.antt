@@ -6,7 +6,7 @@ use Rattle.clip.specs.Clip.{clip}
 use Rattle.clip.specs.Line.{exactly}
 use Rattle.clip.specs.Types.{LineType, Inner, OfType, type_of}
 use Rattle.clip.specs.Types as types
-use Rattle.clip.specs.TypeLaws.{some-type, one_type, by-type}
+use Rattle.clip.proofs.TypeLaws.{some-type, one_type, by-type}
 use Rattle.clip.specs.declared.Point.{Point}
 use Rattle.clip.specs.declared.Rect.{Rect}
 use Rattle.clip.specs.declared.Clipped.{Clipped}

@@ -5,7 +5,7 @@ use native.Mathlib.Omega.{arith}
 use lib.ListN.{length, drop}
 use borrow.Author.Rules.{rules}
 use Rattle.reader.specs.Next.{next_of}
-use Rattle.reader.specs.NextLaws.{next_past}
+use Rattle.reader.proofs.NextLaws.{next_past}
 use Rattle.reading.proofs.Places.{in-number, quiet_at, event-at, scanned-at}
 use Rattle.reading.proofs.by_steps.Statement.{statement}
 use Rattle.reading.proofs.by_steps.Tie as tie

@@ -6,7 +6,7 @@ use lib.IntN.{ℤ}
 use mir.Syntax.{w64}
 use Rattle.exact.specs.Fit.{arg, val, sized}
 use Rattle.plane.specs.Arc.{parts_of, fits_from, arc_fits}
-use Rattle.plane.specs.ArcLaws.{parts-few, round-fits}
+use Rattle.plane.proofs.ArcLaws.{parts-few, round-fits}
 use Rattle.placing.proofs.arc.arc_fits.Statement.{statement}
 use Rattle.placing.proofs.arc.arc_fits.Tie as tie
 

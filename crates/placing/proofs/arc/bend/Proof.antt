@@ -8,7 +8,7 @@ use mir.Syntax.{w64}
 use mir.Val.{to_z}
 use Rattle.exact.specs.Fit.{Num, m64, sfits, val, num, put, fit, neg, of-nat, lt?-is, sized}
 use Rattle.plane.specs.Arc.{parts_of, towards}
-use Rattle.plane.specs.ArcLaws.{bend-inner, bend-last, inner-short}
+use Rattle.plane.proofs.ArcLaws.{bend-inner, bend-last, inner-short}
 use Rattle.plane.specs.Bounds.{most_sweep}
 use Rattle.placing.proofs.arc.bend.Statement.{statement}
 use Rattle.placing.proofs.arc.bend.Tie as tie

@@ -10,7 +10,7 @@ use Rattle.exact.specs.Divide.{nearest_div}
 use Rattle.exact.specs.Steps.{nearest-size}
 use Rattle.plane.specs.Arc.{way_of}
 use Rattle.plane.specs.Bounds.{most_product}
-use Rattle.plane.specs.PositionLaws.{offset-size}
+use Rattle.plane.proofs.PositionLaws.{offset-size}
 use Rattle.placing.proofs.arc.way_from.Statement.{statement}
 use Rattle.placing.proofs.arc.way_from.Tie as tie
 

@@ -7,7 +7,7 @@ use mir.Syntax.{w64}
 use Rattle.exact.specs.Whole.{◌<ᶻ◌, ◌≤ᶻ◌, lt_z-true, lt_z-false, lt-<?, le-<?}
 use Rattle.exact.specs.Fit.{Bd, Num, m64, val, num, put, fit, within, sized, lt-is, neg, ◌⊗◌}
 use Rattle.exact.specs.Nearest.{neg-pos, pos_of}
-use Rattle.plane.specs.PositionLaws.{offset-size}
+use Rattle.plane.proofs.PositionLaws.{offset-size}
 use Rattle.plane.specs.Bounds.{most_product, most_width}
 use Rattle.plane.specs.Circle.{split_of, centre_of}
 use Rattle.placing.proofs.circle.centre_of.Statement.{statement}

@@ -9,7 +9,7 @@ use Rattle.exact.specs.Fit.{Num, m64, val, num, put, fit, sized, ret, ◌⊕◌,
 use Rattle.exact.specs.Divide.{nearest_div}
 use Rattle.exact.specs.Steps.{nearest-size, not-zero}
 use Rattle.plane.specs.Circle.{from_centre}
-use Rattle.plane.specs.CircleLaws.{wide-some}
+use Rattle.plane.proofs.CircleLaws.{wide-some}
 use Rattle.placing.proofs.circle.vertex.Statement.{statement}
 use Rattle.placing.proofs.circle.vertex.Tie as tie
 

@@ -8,7 +8,7 @@ use lib.IntN.{pos}
 use mir.Syntax.{w64}
 use Rattle.exact.specs.Fit.{sfits, of-nat}
 use Rattle.plane.specs.Circle.{chords_of, angle_of}
-use Rattle.plane.specs.CircleLaws.{angle-law}
+use Rattle.plane.proofs.CircleLaws.{angle-law}
 use Rattle.placing.proofs.circle.vertex_angle.Statement.{statement}
 use Rattle.placing.proofs.circle.vertex_angle.Tie as tie
 

@@ -7,7 +7,7 @@ use Rattle.exact.specs.Fit.{Bd, Num, m64, arg, val, same, sized, got}
 use Rattle.plane.specs.declared.circle.Way.{Way}
 use Rattle.plane.specs.Bounds.{most_way}
 use Rattle.plane.specs.Circle.{rotated_of, from_centre, point_from_centre}
-use Rattle.plane.specs.CircleLaws.{rotated-size}
+use Rattle.plane.proofs.CircleLaws.{rotated-size}
 use Rattle.placing.proofs.circle.vertex_point.Statement.{statement}
 use Rattle.placing.proofs.circle.vertex_point.Tie as tie
 

@@ -9,7 +9,7 @@ use Rattle.exact.specs.Parts.{Is, v, #, ◌⊕◌, ◌⊖◌, ◌⊛◌, le→, 
 use Rattle.exact.specs.Nearest.{nearest-law}
 use Rattle.clip.specs.Line.{Frac, whole, plus, between, ◌≤F◌, Near, Inside, nearest_whole, Rounds}
 use Rattle.clip.specs.Axis.{times}
-use Rattle.clip.specs.Crossing.{of-between, in-inside}
+use Rattle.clip.proofs.Crossing.{of-between, in-inside}
 
 -- ---- 2 (p − n) is at most c above 2 (q − m). With the parts of each number changed over, it is at most c below
 record Up (c p n q m : ℕ) : Type 0 where

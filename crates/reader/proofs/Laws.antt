@@ -16,10 +16,10 @@ use Rattle.reader.specs.Stream.{reader, ◌telling◌, Means, NoEnd}
 use Rattle.reader.specs.Written.{letters, Literal, printed, numbers_from, last_from, Two, flat, pairs}
 use Rattle.reader.specs.Sizes.{Caused, Readable, SizedStep}
 use Rattle.numerals.specs.NumeralLaws.{numeral-value}
-use Rattle.reader.specs.TextLaws.{numeral-text, label-byte, label-end, label-whole}
-use Rattle.reader.specs.InstructionLaws.{instruction-of-numbers, instruction-of-pairs}
+use Rattle.reader.proofs.TextLaws.{numeral-text, label-byte, label-end, label-whole}
+use Rattle.reader.proofs.InstructionLaws.{instruction-of-numbers, instruction-of-pairs}
 use Rattle.reader.specs.CauseLaws.{step-caused}
-use Rattle.reader.specs.SizeLaws.{fresh-readable, step-sized, passed-over-readable}
+use Rattle.reader.proofs.SizeLaws.{fresh-readable, step-sized, passed-over-readable}
 
 -- A number's text of any length, mark by mark, comes to the value that a person reads in it.
 pub number-law : (t : Numeral) → Digits (decimals t.fraction) → finish_of (read_numeral t) ≡ value_of t

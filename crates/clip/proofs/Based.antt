@@ -6,7 +6,7 @@ use Rattle.exact.specs.Whole.{ord}
 use Rattle.exact.specs.Divide.{nearest_div}
 use Rattle.exact.specs.Nearest.{nearest-shift, nearest-neg}
 use Rattle.clip.specs.Line.{based, nearest_whole, Rounds}
-use Rattle.clip.specs.Halves.{rounds}
+use Rattle.clip.proofs.Halves.{rounds}
 
 shift : (B n : ℤ) (w : ℕ) → nearest_div (B *ℤ pos (suc w) +ℤ n) (pos (suc w)) ≡ B +ℤ nearest_div n (pos (suc w))
 shift B n w = ap (λ (z : ℤ). nearest_div z (pos (suc w))) (+ℤ_comm (B *ℤ pos (suc w)) n) ∙ sym (nearest-shift n (pos (suc w)) B (omega (arith, ord)))

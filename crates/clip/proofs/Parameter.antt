@@ -7,9 +7,10 @@ use Rattle.exact.specs.Parts.{v, #, ◌⊕◌, ◌⊖◌, ◌⊛◌, le→, →l
 use Rattle.clip.specs.Clip.{clip}
 use Rattle.clip.specs.Line.{whole, between, Inside, Rounds, Exact, exactly, nearest, RoundsTo, at, Close, HasClose, Within}
 use Rattle.clip.specs.Axis.{times}
-use Rattle.clip.specs.Crossing.{in-inside}
-use Rattle.clip.specs.Exactness.{Part, exact-part, exact-ends}
-use Rattle.clip.specs.Halves.{rounds, near, keep}
+use Rattle.clip.proofs.Crossing.{in-inside}
+use Rattle.clip.specs.Exactness.{Part}
+use Rattle.clip.proofs.ExactnessLaws.{exact-part, exact-ends}
+use Rattle.clip.proofs.Halves.{rounds, near, keep}
 use Rattle.clip.specs.declared.Point.{Point}
 use Rattle.clip.specs.declared.Rect.{Rect}
 use Rattle.clip.specs.declared.Clipped.TheVariants.{Stroke}

@@ -8,8 +8,8 @@ use Rattle.exact.specs.Fit.{Bd, abs, abs-mul, abs-add, abs_neg, bd-le, lit, â—Œâ
 use Rattle.exact.specs.Divide.{nearest_div}
 use Rattle.exact.specs.Nearest.{nearest-law, nearest-only, nearest-neg, pos_of, neg-pos}
 use Rattle.clip.specs.Line.{based, nearest_whole, Rounds}
-use Rattle.clip.specs.Based.{based-nearest}
-use Rattle.clip.specs.Halves.{rounds}
+use Rattle.clip.proofs.Based.{based-nearest}
+use Rattle.clip.proofs.Halves.{rounds}
 use Rattle.clip.specs.Reach.{reach}
 use Rattle.plane.specs.declared.position.Axis.{Axis}
 use Rattle.plane.specs.declared.position.ExactPosition.{ExactPosition}

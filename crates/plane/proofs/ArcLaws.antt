@@ -13,8 +13,8 @@ use Rattle.exact.specs.Ring.{#, con, ◌:+◌, ◌:-◌, ◌:*◌, ring}
 use Rattle.exact.specs.Fit.{Bd, abs, abs-add, abs-sub, abs-mul, abs_neg}
 use Rattle.exact.specs.Divide.{nearest_div}
 use Rattle.clip.specs.Line.{based, nearest_whole, Rounds}
-use Rattle.clip.specs.Based.{based-nearest}
-use Rattle.clip.specs.Halves.{rounds}
+use Rattle.clip.proofs.Based.{based-nearest}
+use Rattle.clip.proofs.Halves.{rounds}
 use Rattle.clip.specs.Reach.{reach, SmallPoint}
 use Rattle.clip.specs.declared.Point.{Point}
 use Rattle.sines.specs.Angle.{sine_of, cosine_of}
@@ -25,9 +25,9 @@ use Rattle.plane.specs.declared.circle.Way.{Way}
 use Rattle.plane.specs.declared.circle.Centre.{Centre}
 use Rattle.plane.specs.Bounds.{most_number, WayBounds}
 use Rattle.plane.specs.Position.{relative_of, exact_of, location_of, in_range_of}
-use Rattle.plane.specs.PositionLaws.{location-nearest, rebased-location, in-range, in-range-of}
+use Rattle.plane.proofs.PositionLaws.{location-nearest, rebased-location, in-range, in-range-of}
 use Rattle.plane.specs.Circle.{chords_of, angle_of, rotated_of, vertex_point_of, centre_of, from_centre, point_from_centre}
-use Rattle.plane.specs.CircleLaws.{vertex-nearest, vertex-point-split, centre-range, ends-small}
+use Rattle.plane.proofs.CircleLaws.{vertex-nearest, vertex-point-split, centre-range, ends-small}
 use Rattle.plane.specs.Arc.{exact_way, way_of, way_fits, parts_of, towards, bend_of, exact_arc, arc_of, arc_point, both_in_range, fits_from, arc_fits, ends_fit, round_fits}
 
 -- ---- the way

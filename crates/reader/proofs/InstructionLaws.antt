@@ -29,7 +29,7 @@ use Rattle.reader.specs.Stream.{reader, ◌telling◌, Means, done, quiet, loud}
 use Rattle.numerals.specs.Numeral.{text}
 use Rattle.numerals.specs.NumeralLaws.{numeral-value}
 use Rattle.reader.specs.Written.{one, two, letters, Literal, printed, numbers_from, last_from, Two, coordinates, flat, pairs}
-use Rattle.reader.specs.TextLaws.{then, numeral-text}
+use Rattle.reader.proofs.TextLaws.{then, numeral-text}
 
 module _ (op : ℕ) where
   -- A number that ends, of an instruction that has room for it and takes no pairs, is kept.

@@ -2,16 +2,14 @@
 -- round its ends and whatever the box, an empty one too. Nothing here knows of turns, scales or circles.
 -- The one unit is a half for the rounding of the segment's ends and a half for that of the stroke's.
 use Rattle.std.specs.Prelude.{◌≡◌, ℕ, ◌≤◌, ◌<◌}
-use Rattle.std.proofs.Common.{sym, ◌∙◌}
 use Rattle.clip.specs.Clip.{clip}
 use Rattle.clip.specs.Line.{Exact, exactly, nearest, at, HasClose, Within, RoundsTo}
-use Rattle.clip.specs.Exactness.{exact-shown}
-use Rattle.clip.specs.Crossing.{hidden≢}
-use Rattle.clip.specs.Halves.{rounds, mix, inward}
-use Rattle.clip.specs.Parameter.{shown, ends-within, to-line, to-stroke, kept-start, kept-stop}
+use Rattle.clip.proofs.ExactnessLaws.{exact-shown}
+use Rattle.clip.proofs.Halves.{rounds, mix, inward}
+use Rattle.clip.proofs.Parameter.{shown, ends-within, to-line, to-stroke, kept-start, kept-stop}
 use Rattle.clip.specs.declared.Point.{Point}
 use Rattle.clip.specs.declared.Rect.{Rect}
-use Rattle.clip.specs.declared.Clipped.TheVariants.{Hidden, Stroke}
+use Rattle.clip.specs.declared.Clipped.TheVariants.{Stroke}
 
 pub nearest-rounds : (e : Exact) → RoundsTo e (nearest e)
 nearest-rounds e = record { x = rounds e.x; y = rounds e.y }
@@ -33,11 +31,6 @@ clip-covers r e f a b pe pf k n l p w =
     let v : Within r 0 (at (exactly a) (exactly b) k n p) = record { x = inward _ _ _ _ _ _ k n p l pe.x pf.x w.x; y = inward _ _ _ _ _ _ k n p l pe.y pf.y w.y } in
     let c = exact-shown r a b k n l p v in
     (c.0, c.1, c.2, to-stroke (shown r a b c.0 c.1 c.2) pe pf k n p l v)
-
--- where the answer is Hidden, no point of the line is that far inside
-pub clip-hides : (r : Rect) (e f : Exact) (a b : Point) → RoundsTo e a → RoundsTo f b → clip r a b ≡ Hidden →
-    (k n : ℕ) → k ≤ n → (p : 0 < n) → ¬ Within r 1 (at e f k n p)
-clip-hides r e f a b pe pf h k n l p w = hidden≢ (sym h ∙ (clip-covers r e f a b pe pf k n l p w).2)
 
 -- ---- what else later work asks of `clip`
 

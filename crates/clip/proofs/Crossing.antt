@@ -1,4 +1,4 @@
--- Proofs only, for Exactness.antt: both axes of `clip`. Why it holds: a point is in the box if it is in both its ranges, and the larger of two entries is
+-- Proofs only, for ExactnessLaws.antt: both axes of `clip`. Why it holds: a point is in the box if it is in both its ranges, and the larger of two entries is
 -- past both.
 use Rattle.std.specs.Prelude.{◌≡◌, refl, ◌⊎◌, ℕ, zero, suc, ◌+◌, ◌*◌, ◌-◌, ◌≤◌, ◌<◌, max, ℤ, pos}
 use Rattle.std.proofs.Common.{sym, ◌∙◌, inl, inr, mul_comm, mul-pos, mul-le-mul_left, arith}

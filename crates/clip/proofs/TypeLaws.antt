@@ -10,9 +10,9 @@ use Rattle.exact.specs.Divide.{nearest_div}
 use Rattle.clip.specs.Clip.{extent, axis_entry, toward, axis_place, place, entry, clip, inside}
 use Rattle.clip.specs.Line.{whole, between, Inside, exactly, Within}
 use Rattle.clip.specs.Axis.{extent-pos, natural}
-use Rattle.clip.specs.Crossing.{all, all-sym, till, till-max, inside-in, entry-is, within, fits, shows, hides}
-use Rattle.clip.specs.Unclipped.{Held, held, whole-nearest, leaves, enters, unclipped}
-use Rattle.clip.specs.Nearness.{clip-inside}
+use Rattle.clip.proofs.Crossing.{all, all-sym, till, till-max, inside-in, entry-is, within, fits, shows, hides}
+use Rattle.clip.proofs.Unclipped.{Held, held, whole-nearest, leaves, enters, unclipped}
+use Rattle.clip.proofs.Nearness.{clip-inside}
 use Rattle.clip.specs.Types.{LineType, inside_to_inside, inside_to_outside, outside_to_inside, outside_to_outside, Inner, OfType, type_by, type_of, OnEdge, Painted}
 use Rattle.clip.specs.declared.Point.{Point}
 use Rattle.clip.specs.declared.Rect.{Rect}

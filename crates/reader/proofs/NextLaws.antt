@@ -10,7 +10,7 @@ use Rattle.reader.specs.declared.Next.{Next}
 use Rattle.reader.specs.Step.{step_of}
 use Rattle.reader.specs.Stream.{◌telling◌, Means, done, quiet}
 use Rattle.reader.specs.Sizes.{Readable}
-use Rattle.reader.specs.SizeLaws.{step-sized}
+use Rattle.reader.proofs.SizeLaws.{step-sized}
 use Rattle.reader.specs.Next.{is_nothing, placed, next_of}
 
 -- ---- one byte

@@ -8,7 +8,7 @@ use Rattle.exact.specs.Nearest.{nearest-only}
 use Rattle.clip.specs.Clip.{axis_entry, entry, toward, axis_place, place, clip, inside}
 use Rattle.clip.specs.Axis.{extent-pos, In, in-past}
 use Rattle.clip.specs.Line.{whole, between, Inside}
-use Rattle.clip.specs.Crossing.{all, all-sym, till, till-max, in-inside, entry-is, crosses, crossed, shows}
+use Rattle.clip.proofs.Crossing.{all, all-sym, till, till-max, in-inside, entry-is, crosses, crossed, shows}
 use Rattle.clip.specs.declared.Point.{Point}
 use Rattle.clip.specs.declared.Rect.{Rect}
 use Rattle.clip.specs.declared.Clipped.TheVariants.{Stroke}
