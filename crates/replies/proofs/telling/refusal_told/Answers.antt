@@ -8,20 +8,12 @@ use mir.Val.{to_z}
 use mir.Syntax.{w64}
 use Rattle.exact.specs.Fit.{of-nat}
 use Rattle.hpgl.specs.Replies.{refusal_told}
-use Rattle.replies.proofs.telling.refusal_told.Statement.{statement}
-use Rattle.replies.proofs.telling.refusal_told.Tie as tie
+use Rattle.replies.proofs.telling.refusal_told.Goals as goal
 
-cast-t4 : tie.Need-overflow-cast-t4
-cast-t4 c = search rules
-
-returns : tie.Need-returns
+pub returns : goal.returns
 unfolding refusal_told
 returns c =
-    let s : tie.Start = search in
-    let k = s.args.c.carriage.memory.refusal in
+    let k = c.args.c.carriage.memory.refusal in
     let small : k < 256 = search rules in
     let number : to_z w64 k ≡ pos k = of-nat w64 (omega (arith, small)) in
     λ i. record { count = 1; first = number i; second = pos 0; third = pos 0; fourth = pos 0 }
-
-pub refusal-told-spec : {M : Type 1} → statement M
-refusal-told-spec = tie.close (tie.spec cast-t4 returns)
