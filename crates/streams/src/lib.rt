@@ -1,18 +1,51 @@
 // Reading and writing that a signal or a pipe that is full or empty for a moment does not end. Which bytes a read gives and a write takes no
 // contract can say; that each call ends is proved, so that each tries a fixed number of times, which nobody lives to see used up.
-ghost use Rattle.std.specs.Prelude.{false, ◌≡◌};
+#![tactic(auto)]
+
+ghost use Rattle.std.specs.Prelude.{false, ◌≡◌, pos};
 ghost use Rattle.io.specs.Counts.{IsPrefixLen};
+
+use std::io::{Error, ErrorKind, Print, Read, Stderr, Write};
+use std::thread::yield_now;
 
 const TRIES: u64 = 0x800000000000;
 
+// What is read or written, and the number of the error of its last call that failed, as the system counts them; 0 where none has failed.
+#[derive(Drop)]
+pub struct Stream<T> {
+    pub inner: T,
+    pub error: i32,
+}
+
+impl<T> Stream<T> {
+    // No call has failed yet.
+    pub fn new(inner: T) -> Stream<T>
+        ensures inner { result.inner ≡ inner }
+        ensures error { result.error ≡ pos 0 }
+    {
+        Stream {
+            inner: inner,
+            error: 0,
+        }
+    }
+}
+
+// The number of an error. One that is not of the system has none.
+pub fn number_of(error: &Error) -> i32 {
+    match error.raw_os_error() {
+        Some(number) => number,
+        None => 0,
+    }
+}
+
 // Whether the call that has just failed is to be tried again: a signal came in between, or it has to wait, and then another process runs first.
-fn again() -> bool {
-    let error = os::errno();
-    if error == libc::EINTR {
+fn again(error: &Error) -> bool {
+    let kind = error.kind();
+    if kind == ErrorKind::Interrupted {
         return true;
     }
-    if error == libc::EAGAIN {
-        libc::sched_yield();
+    if kind == ErrorKind::WouldBlock {
+        yield_now();
         return true;
     }
     false
@@ -25,22 +58,26 @@ pub struct Got {
     pub good: bool,
 }
 
-// One read. Where it failed, errno is that of the read.
-pub fn read(file: i32, block: &mut [u8]) -> Got
+// One read. Where it failed, the stream has the error of the read.
+pub fn read<R: Read>(file: &mut Stream<R>, block: &mut [u8]) -> Got
     ensures prefix_len { IsPrefixLen result.count block.new }
     ensures count_value { result.good ≡ false → result.count ≡ 0 }
 {
     let mut tries = TRIES;
     while tries > 0 {
-        let got = libc::read(file, block);
-        if got >= 0 {
-            return Got {
-                count: io::count(got, block),
-                good: true,
-            };
-        }
-        if !again() {
-            break;
+        match file.inner.read(block) {
+            Ok(count) => {
+                return Got {
+                    count: count,
+                    good: true,
+                };
+            }
+            Err(error) => {
+                file.error = number_of(&error);
+                if !again(&error) {
+                    break;
+                }
+            }
         }
         tries -= 1;
     }
@@ -51,7 +88,7 @@ pub fn read(file: i32, block: &mut [u8]) -> Got
 }
 
 // Reads until the block is full, the input ends or a read fails; what was read before that stands at the start of the block.
-pub fn read_full(file: i32, block: &mut [u8]) -> Got
+pub fn read_full<R: Read>(file: &mut Stream<R>, block: &mut [u8]) -> Got
     ensures { IsPrefixLen result.count block.new }
 {
     let mut done = 0;
@@ -72,25 +109,27 @@ pub fn read_full(file: i32, block: &mut [u8]) -> Got
 }
 
 // One write: how many of the first bytes it took; 0 where it failed.
-fn write_some(file: i32, text: &[u8]) -> usize
+fn write_some<W: Write>(file: &mut Stream<W>, text: &[u8]) -> usize
     ensures { IsPrefixLen result text.now }
 {
     let mut tries = TRIES;
     while tries > 0 {
-        let put = libc::write(file, text);
-        if put >= 0 {
-            return io::count(put, text);
-        }
-        if !again() {
-            return 0;
+        match file.inner.write(text) {
+            Ok(count) => return count,
+            Err(error) => {
+                file.error = number_of(&error);
+                if !again(&error) {
+                    return 0;
+                }
+            }
         }
         tries -= 1;
     }
     0
 }
 
-// Writes all of a text, and answers whether it did; where not, errno is that of the write that failed.
-pub fn write_all(file: i32, text: &[u8]) -> bool {
+// Writes all of a text, and answers whether it did; where not, the stream has the error of the write that failed.
+pub fn write_all<W: Write>(file: &mut Stream<W>, text: &[u8]) -> bool {
     let mut done = 0;
     while done < text.len() {
         let put = write_some(file, &text[done..]);
@@ -100,4 +139,12 @@ pub fn write_all(file: i32, text: &[u8]) -> bool {
         done += put;
     }
     true
+}
+
+// Says on standard error what failed, by its name, and why, by the number of the error. Where that cannot be said, nobody is left to hear it.
+pub fn tell(to: Stderr, name: &[u8], error: i32) {
+    let mut file = Stream::new(to);
+    write_all(&mut file, name);
+    write_all(&mut file, b": ");
+    let _ = to.println(Error::from_raw_os_error(error));
 }

@@ -10,10 +10,8 @@ use lib.Signed.{lt_z, non_neg}
 use mir.Syntax.{w64}
 use mir.Val.{Fits, SFits, to_z, of_z}
 use mir.Facts.{Fits-nat_abs, to_z-of_z}
-use borrow.Author.Rules.{rules}
 use borrow.Author.Tests.{ltb-true, lt-ltb}
-use Rattle.output.proofs.put_whole.Statement.{statement}
-use Rattle.output.proofs.put_whole.Tie as tie
+use Rattle.output.proofs.put_whole.Goals as goal
 
 -- the code's two steps, from the bits of a number
 abbrev next : ℤ → ℤ
@@ -58,47 +56,17 @@ above : (z : ℤ) → SFits w64 z → lt_z (to_z w64 (of_z w64 z)) (pos 0) ≡ f
 above (pos n) h t = rw (to_z-of_z h) (tt, Fits-nat_abs tt h)
 above (negsuc n) h t = let u = rw (to_z-of_z h) at t in let e : ◌≡◌ {A = ℕ} 0 1 = cc in absurd (omega arith)
 
-put-byte-requires : tie.Need-put-byte-requires
-put-byte-requires c κs = search rules
+pub overflow_add-number : goal.overflow_add-number
+overflow_add-number c = (below _ c.ranges.number c.if-number-lt0.true).next_fits
 
-add-put-natural : tie.Need-overflow-add-put-natural
-add-put-natural c = (below _ c.before.before.before.before.ranges.number c.before.before.before.if1.true).next_fits
+pub overflow_sub-number : goal.overflow_sub-number
+overflow_sub-number c = (below _ c.ranges.number c.if-number-lt0.true).turned-fits
 
-sub-put-natural : tie.Need-overflow-sub-put-natural
-sub-put-natural c = (below _ c.before.before.before.before.ranges.number c.before.before.before.if1.true).turned-fits
+pub overflow_cast-number : goal.overflow_cast-number
+overflow_cast-number c = (below _ c.ranges.number c.if-number-lt0.true).is-natural
 
-cast-put-natural : tie.Need-overflow-cast-put-natural
-cast-put-natural c = (below _ c.before.before.before.before.ranges.number c.before.before.before.if1.true).is-natural
+pub overflow_add-number-then-number-lt0 : goal.overflow_add-number-then-number-lt0
+overflow_add-number-then-number-lt0 c = (below _ c.ranges.number c.if-number-lt0.true).one-more-fits
 
-add-put-natural-2 : tie.Need-overflow-add-put-natural-2
-add-put-natural-2 c = (below _ c.before.before.before.before.ranges.number c.before.before.before.if1.true).one-more-fits
-
-put-natural-requires : tie.Need-put-natural-requires
-put-natural-requires c κs = search rules
-
-returns : tie.Need-returns
-returns c = search rules
-
-cast-put-natural-2 : tie.Need-overflow-cast-put-natural-2
-cast-put-natural-2 c = above _ c.before.before.ranges.number c.before.if1.false
-
-put-natural-requires-2 : tie.Need-put-natural-requires-2
-put-natural-requires-2 c κs = search rules
-
-returns-2 : tie.Need-returns-2
-returns-2 c = search rules
-
-pub put-whole-spec : {M : Type 1} → statement M
-put-whole-spec =
-    tie.close
-    (tie.spec
-    put-byte-requires
-    add-put-natural
-    sub-put-natural
-    cast-put-natural
-    add-put-natural-2
-    put-natural-requires
-    returns
-    cast-put-natural-2
-    put-natural-requires-2
-    returns-2)
+pub overflow_cast-number-2 : goal.overflow_cast-number-2
+overflow_cast-number-2 c = above _ c.ranges.number c.if-number-lt0.false

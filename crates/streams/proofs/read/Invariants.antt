@@ -1,0 +1,9 @@
+-- A block stays as long as it is; each try is one less.
+use Rattle.std.proofs.Common.{length, ◌≡◌}
+use Rattle.streams.proofs.read.Given as goal
+
+abbrev pub invariant-loop-tries : goal.invariant-loop-tries
+invariant-loop-tries g l = length l.block ≡ length l.initial.block
+
+abbrev pub decreases-loop-tries : goal.decreases-loop-tries
+decreases-loop-tries g l = l.tries
