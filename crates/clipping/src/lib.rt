@@ -1,4 +1,6 @@
 // A segment clipped to a box, in whole numbers, as specs/Clip.antt of the crate clip says.
+#![tactic(auto)]
+
 ghost use Rattle.std.specs.Prelude.{◌≡◌, true, pos};
 ghost use Rattle.exact.specs.Whole.{◌<ᶻ◌};
 ghost use Rattle.exact.specs.Fit.{Bd};

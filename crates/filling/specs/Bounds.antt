@@ -4,7 +4,7 @@ use Rattle.exact.specs.Fit.{Bd, bd-neg}
 use Rattle.exact.specs.Steps.{floor-size}
 use Rattle.clip.specs.Reach.{reach, SmallPoint}
 use Rattle.turns.specs.Turn.{lesser_of}
-use Rattle.turns.specs.BoxLaws.{lesser-by, greater-by}
+use Rattle.turns.proofs.BoxLaws.{lesser-by, greater-by}
 use Rattle.filling.specs.Filling.{lower, upper, row_from, first_row, past_row}
 use Rattle.filling.specs.declared.Side.{Side}
 

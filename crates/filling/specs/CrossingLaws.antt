@@ -11,7 +11,7 @@ use Rattle.clip.specs.Line.{whole, based, nearest_whole}
 use Rattle.clip.specs.Based.{based-nearest}
 use Rattle.clip.specs.Reach.{reach}
 use Rattle.turns.specs.Turn.{lesser_of, greater_of}
-use Rattle.turns.specs.BoxLaws.{lesser-by, greater-by, lesser-≤, greater-≥}
+use Rattle.turns.proofs.BoxLaws.{lesser-by, greater-by, lesser-≤, greater-≥}
 use Rattle.filling.specs.Filling.{meets, crossing}
 use Rattle.filling.specs.RingLaws.{differ, meets-by}
 use Rattle.filling.specs.Bounds.{SmallSide}

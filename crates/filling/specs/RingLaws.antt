@@ -6,7 +6,7 @@ use Rattle.exact.specs.Whole.{◌≤ᶻ◌, ◌<ᶻ◌, ord, ◌≤?◌, ≤?-tr
 use Rattle.clip.specs.Line.{Frac}
 use Rattle.clip.specs.declared.Point.{Point}
 use Rattle.turns.specs.Turn.{lesser_of, greater_of}
-use Rattle.turns.specs.BoxLaws.{lesser-by, greater-by, lesser-≤, greater-≥}
+use Rattle.turns.proofs.BoxLaws.{lesser-by, greater-by, lesser-≤, greater-≥}
 use Rattle.filling.specs.Filling.{sides_from, ring_sides, all_sides, lower, upper, meets, crossing, crossings, insert_by, sort_by, at_most, paired, row_pairs}
 use Rattle.filling.specs.declared.Side.{Side}
 

@@ -13,7 +13,7 @@ use Rattle.exact.specs.Laws.{mul-posᶻ}
 use Rattle.exact.specs.Steps.{not-zero}
 use Rattle.clip.specs.Line.{Frac, nearest_whole}
 use Rattle.turns.specs.Turn.{lesser_of, greater_of}
-use Rattle.turns.specs.BoxLaws.{lesser-≤}
+use Rattle.turns.proofs.BoxLaws.{lesser-≤}
 use Rattle.filling.specs.Filling.{Pair, crossings, insert_by, sort_by, at_most, paired, rounded, row_pairs}
 use Rattle.filling.specs.declared.Side.{Side}
 use Rattle.filling.specs.Sink.{sink}

@@ -1,4 +1,6 @@
 // Filling: where the rows of a filled polygon cross its sides. specs/Filling.antt says what, specs/..Laws.antt what holds of it.
+#![tactic(auto)]
+
 ghost use Rattle.std.specs.Prelude.{◌≡◌, ◌+◌, ◌<◌, pos, take};
 ghost use Rattle.exact.specs.Whole.{◌<ᶻ◌};
 ghost use Rattle.exact.specs.Fit.{Bd};

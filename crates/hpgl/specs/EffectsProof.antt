@@ -14,8 +14,8 @@ use Rattle.mnemonics.specs.Table as code
 use Rattle.mnemonics.specs.Table.{known_in_polygon}
 use Rattle.plane.specs.Bounds.{most_angle}
 use Rattle.turns.specs.Turn.{turn_count, find_turn, turned_back_of}
-use Rattle.turns.specs.TurnLaws.{back-forth}
-use Rattle.turns.specs.TurnsSaid.{quarters-found}
+use Rattle.turns.proofs.TurnLaws.{back-forth}
+use Rattle.turns.proofs.TurnsSaid.{quarters-found}
 use Rattle.plane.specs.CircleLaws.{vertex-point-split}
 use Rattle.hpgl.specs.Cases.{pick, choose, whether}
 use Rattle.hpgl.specs.declared.Position.{Position}

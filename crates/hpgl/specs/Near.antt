@@ -13,7 +13,7 @@ use Rattle.clip.specs.declared.Clipped.{Clipped}
 use Rattle.clip.specs.declared.Clipped.TheVariants as clipped
 use Rattle.turns.specs.Turn.{turned_box_of}
 use Rattle.turns.specs.Limits.{limits_of}
-use Rattle.turns.specs.LimitsLaws.{intersection-within}
+use Rattle.turns.proofs.LimitsLaws.{intersection-within}
 use Rattle.hpgl.specs.Cases.{never}
 use Rattle.hpgl.specs.declared.Settings.{Settings}
 use Rattle.hpgl.specs.declared.Core.{Core}

@@ -14,8 +14,8 @@ use Rattle.mnemonics.specs.Table.{IN, DF, IP, SC, RO}
 use Rattle.plane.specs.declared.position.Axis.{Axis}
 use Rattle.plane.specs.Position.{location_of}
 use Rattle.turns.specs.Turn.{turn_count, find_turn, turned_of, turned_back_of, ordered_of, turned_box_of}
-use Rattle.turns.specs.TurnLaws.{back-forth, forth-back}
-use Rattle.turns.specs.TurnsSaid.{turned_none}
+use Rattle.turns.proofs.TurnLaws.{back-forth, forth-back}
+use Rattle.turns.proofs.TurnsSaid.{turned_none}
 use Rattle.turns.specs.Limits.{intersection_of, limits_of}
 use Rattle.hpgl.specs.Cases.{pick, whether}
 use Rattle.hpgl.specs.declared.Position.{Position}

@@ -11,7 +11,7 @@ use Rattle.mnemonics.specs.Table as code
 use Rattle.plane.specs.declared.circle.Way.{Way}
 use Rattle.plane.specs.Circle.{vertex_point_of}
 use Rattle.plane.specs.Arc.{exact_way, parts_of, bend_of}
-use Rattle.turns.specs.TurnsSaid.{Said}
+use Rattle.turns.proofs.TurnsSaid.{Said}
 use Rattle.hpgl.specs.declared.Position.{Position}
 use Rattle.hpgl.specs.declared.Core.{Core}
 use Rattle.hpgl.specs.Place.{axis_x, axis_y, location, absolute_position, relative_position}

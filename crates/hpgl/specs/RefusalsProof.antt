@@ -22,7 +22,7 @@ use Rattle.mnemonics.specs.Said as said
 use Rattle.mnemonics.specs.Said.{known-said}
 use Rattle.plane.specs.declared.position.ExactPosition.{ExactPosition}
 use Rattle.turns.specs.Turn.{turn_count, find_turn}
-use Rattle.turns.specs.TurnsSaid.{Said, said-found}
+use Rattle.turns.proofs.TurnsSaid.{Said, said-found}
 use Rattle.plane.specs.Position.{relative_of, location_of, in_range_of}
 use Rattle.plane.specs.declared.position.Axis.{Axis}
 use Rattle.plane.specs.declared.circle.Way.{Way}

@@ -5,7 +5,7 @@ use Rattle.exact.specs.Fit.{Bd, bd-lit, bd-le}
 use Rattle.clip.specs.declared.Rect.{Rect}
 use Rattle.clip.specs.Reach.{reach, SmallRect}
 use Rattle.turns.specs.Turn.{turned_back_box_of}
-use Rattle.turns.specs.BoxLaws.{back-box-small}
+use Rattle.turns.proofs.BoxLaws.{back-box-small}
 use Rattle.hpgl.specs.declared.Core.{Core}
 use Rattle.hpgl.specs.declared.Reply.{Reply}
 use Rattle.hpgl.specs.declared.Action.TheVariants.{Answer}

@@ -9,7 +9,7 @@ use Rattle.decimals.specs.Decimal.{digit, decimal, natural, whole}
 use Rattle.decimals.specs.DecimalLaws.{decimal-one, decimal-more, decimal-length}
 use Rattle.clip.specs.Reach.{reach}
 use Rattle.turns.specs.Turn.{turned_box_of, turned_back_box_of}
-use Rattle.turns.specs.BoxLaws.{Ordered, box-home}
+use Rattle.turns.proofs.BoxLaws.{Ordered, box-home}
 use Rattle.hpgl.specs.declared.Settings.{Settings}
 use Rattle.hpgl.specs.declared.Reply.{Reply}
 use Rattle.hpgl.specs.declared.Work.{Work}

@@ -14,7 +14,7 @@ use Rattle.reader.specs.declared.Event.{Event}
 use Rattle.reader.specs.declared.Event.TheVariants.{Nothing, Named, Pair, Ended, Refused}
 use Rattle.mnemonics.specs.Table.{EP, CI, EA, ER, AA, AR}
 use Rattle.turns.specs.Turn.{turn_count}
-use Rattle.turns.specs.BoxLaws.{turned-rounds}
+use Rattle.turns.proofs.BoxLaws.{turned-rounds}
 use Rattle.hpgl.specs.Cases.{pick}
 use Rattle.hpgl.specs.declared.Position.{Position}
 use Rattle.hpgl.specs.declared.Core.{Core}

@@ -14,7 +14,7 @@ use Rattle.reader.specs.Sizes.{Small}
 use Rattle.mnemonics.specs.Table.{PU, PD, PA, PR, known_in_polygon}
 use Rattle.turns.specs.Turn.{turn_count, find_turn}
 use Rattle.plane.specs.Bounds.{most_point}
-use Rattle.turns.specs.BoxLaws.{ordered-small}
+use Rattle.turns.proofs.BoxLaws.{ordered-small}
 use Rattle.hpgl.specs.declared.Position.{Position}
 use Rattle.hpgl.specs.declared.Scale.{Scale}
 use Rattle.hpgl.specs.declared.Window.{Window}

@@ -146,6 +146,12 @@ is_letter l Other = false
 
 letter-is : (l : ℕ) (c : Class) → T (is_letter l c) → c ≡ Letter l
 letter-is l (Letter m) t = ap Letter (eqb→eq m l t)
+letter-is l Blank t = elim t [ ]
+letter-is l Semicolon t = elim t [ ]
+letter-is l (Digit _) t = elim t [ ]
+letter-is l (Sign _) t = elim t [ ]
+letter-is l Point t = elim t [ ]
+letter-is l Other t = elim t [ ]
 
 abbrev is_at : ℕ → Found → Bool
 is_at op (At i) = eqb i op
@@ -153,6 +159,7 @@ is_at op Nowhere = false
 
 at-is : (op : ℕ) (f : Found) → T (is_at op f) → f ≡ At op
 at-is op (At i) t = ap At (eqb→eq i op t)
+at-is op Nowhere t = elim t [ ]
 
 one-is : (op : ℕ) → op < rows → class_of (one op) ≡ Letter (one op)
 unfolding cell_of class_of

@@ -1,5 +1,5 @@
 -- What a whole text means: any list of bytes.
-use Rattle.std.specs.Prelude.{ℕ, suc, ◌≡◌, Bool, true, false, List, [], ◌∷◌}
+use Rattle.std.specs.Prelude.{ℕ, suc, ◌≡◌, List, [], ◌∷◌}
 use Prim.Native.Char.{code}
 use Prim.Native.String as string
 use Rattle.numerals.specs.declared.number.Number.{Number}

@@ -1,4 +1,6 @@
 // The reader of bytes: what each byte of an instruction stream means. It knows nothing of paper, pens or limits. Here are its types; specs/ says what it does, and the code is the crate reading.
+#![tactic(auto)]
+
 use numerals::number::Number;
 
 // The causes of a refusal that the reader finds: an unknown byte or name, the count of numbers, a number out of range.

@@ -20,7 +20,7 @@ use Rattle.reader.specs.Reader.{none_of, stored_of}
 use Rattle.plane.specs.Position.{axis_of, absolute_of, location_of}
 use Rattle.plane.specs.PositionLaws.{in-range-of}
 use Rattle.turns.specs.Turn.{turns, turn_of, turned_of}
-use Rattle.turns.specs.TurnLaws.{east, north, coord-is}
+use Rattle.turns.proofs.TurnLaws.{east, north, coord-is}
 use Rattle.turns.specs.Limits.{limits_of}
 use Rattle.hpgl.specs.declared.Action.TheVariants.{Keep, Line}
 use Rattle.hpgl.specs.declared.Core.{Core}

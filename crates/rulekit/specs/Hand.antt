@@ -6,7 +6,7 @@ use Rattle.clip.specs.declared.Point.{Point}
 use Rattle.mnemonics.specs.Table.{known_in_polygon}
 use Rattle.plane.specs.Position.{location_of}
 use Rattle.turns.specs.Turn.{rows_of, turned_by}
-use Rattle.turns.specs.TurnLaws.{by_rows}
+use Rattle.turns.proofs.TurnLaws.{by_rows}
 use Rattle.hpgl.specs.declared.Position.{Position}
 use Rattle.hpgl.specs.declared.Settings.{Settings}
 use Rattle.hpgl.specs.declared.Polygon.{Polygon}

@@ -8,7 +8,7 @@ use Rattle.reader.specs.declared.Numbers.{Numbers}
 use Rattle.reader.specs.Sizes.{Small, SmallPair}
 use Rattle.plane.specs.Bounds.{AxisBounds, Locatable, most_product}
 use Rattle.turns.specs.Turn.{UnitRows}
-use Rattle.turns.specs.TurnLaws.{rows-unit}
+use Rattle.turns.proofs.TurnLaws.{rows-unit}
 use Rattle.hpgl.specs.declared.Position.{Position}
 use Rattle.hpgl.specs.declared.Polygon.{Polygon}
 use Rattle.hpgl.specs.declared.Core.{Core}

@@ -1,1 +1,5 @@
 mod Rows
+pub mod TurnLaws
+pub mod BoxLaws
+pub mod TurnsSaid
+pub mod LimitsLaws

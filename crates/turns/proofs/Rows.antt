@@ -13,7 +13,7 @@ use Rattle.exact.specs.Fit.{Bd, Num, m64, sized, val, got}
 use Rattle.clip.specs.Reach.{SmallPoint}
 use Rattle.clip.specs.declared.Point.{Point}
 use Rattle.turns.specs.Turn.{turn_count, table_of, turn_of, along_of}
-use Rattle.turns.specs.TurnLaws.{turn-size}
+use Rattle.turns.proofs.TurnLaws.{turn-size}
 
 -- ---- the table, as an array of arrays
 

@@ -6,7 +6,7 @@ use native.Mathlib.Omega.{arith}
 use lib.ListN.{length}
 use Rattle.clip.specs.Reach.{SmallRect}
 use Rattle.turns.specs.Turn.{UnitRows}
-use Rattle.turns.specs.TurnLaws.{rows-unit}
+use Rattle.turns.proofs.TurnLaws.{rows-unit}
 use Rattle.hpgl.specs.declared.Work.{Work}
 use Rattle.hpgl.specs.declared.Work.TheVariants.{Chords}
 use Rattle.hpgl.specs.declared.Segment.TheVariants as segment

@@ -13,7 +13,7 @@ unfolding find_of
 loop-op-init c = (search rules, refl)
 
 pub returns-then-not-begins_name : goal.returns-then-not-begins_name
-returns-then-not-begins_name c = let a = c.args in sym (none-begins a.first a.second (sym c.begins_name.ensures ∙ not-true c.begins_name.result c.if-not-begins_name.true))
+returns-then-not-begins_name c = let a = c.args in sym (none-begins a.first a.second (sym c.begins_name.ensures ∙ c.if-not-begins_name.true))
 
 pub returns-then-names : goal.returns-then-names
 unfolding named_of

@@ -27,7 +27,7 @@ pub bounds-table-i : goal.bounds-table-i
 bounds-table-i c = omega (arith, ap length c.requires.0, entries)
 
 pub overflow_cast-result : goal.overflow_cast-result
-overflow_cast-result c = rw (read c.before) (fits {n = 100000} (record { bd = at_most c.args.i c.requires.1 }) tt)
+overflow_cast-result c = rw (read c.before.before) (fits {n = 100000} (record { bd = at_most c.args.i c.requires.1 }) tt)
 
 pub returns : goal.returns
-returns c = ap (to_z w64) (read c.before) ∙ of-nat w64 (omega (arith, at_most c.args.i c.requires.1))
+returns c = ap (to_z w64) (read c.before.before) ∙ of-nat w64 (omega (arith, at_most c.args.i c.requires.1))

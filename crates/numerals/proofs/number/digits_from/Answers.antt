@@ -13,6 +13,7 @@ use Rattle.numerals.specs.RunLaws.{digit-class, digits-end, digits-stop, digits-
 use Rattle.numerals.specs.declared.number.Number.{Number}
 use Rattle.numerals.specs.declared.number.Scanned.{Scanned}
 use Rattle.numerals.proofs.number.digits_from.Goals as goal
+use Rattle.numerals.proofs.number.digits_from.Goals.{then-decimals-ge-PLACES, else-decimals-ge-PLACES+then-magnitude-le-PAST, else-decimals-ge-PLACES+else-magnitude-le-PAST}
 
 pub loop-at-init : goal.loop-at-init
 loop-at-init c = refl
@@ -23,20 +24,20 @@ bounds-bytes-at c = omega arith
 pub returns-then-not-is_digit : goal.returns-then-not-is_digit
 returns-then-not-is_digit c =
     let l = c.loop-at in
-    rw c.so_far.ensures (sym (l.invariant ∙ digits-stop _ _ l.at c.loop-at-test.true (sym c.is_digit.ensures ∙ not-true _ c.if-not-is_digit.true)))
+    rw c.so_far.ensures (sym (l.invariant ∙ digits-stop _ _ l.at c.loop-at-test.true (sym c.is_digit.ensures ∙ c.if-not-is_digit.true)))
 
 pub overflow_sub-digit : goal.overflow_sub-digit
 overflow_sub-digit c =
-    (digit-class _ (sym c.is_digit.ensures ∙ not-false _ c.if-not-is_digit.false)).0
+    (digit-class _ (sym c.is_digit.ensures ∙ c.if-not-is_digit.false)).0
 
 pub overflow_cast-magnitude : goal.overflow_cast-magnitude
 overflow_cast-magnitude c =
-    let b = digit-class _ (sym c.is_digit.ensures ∙ not-false _ c.if-not-is_digit.false) in
+    let b = digit-class _ (sym c.is_digit.ensures ∙ c.if-not-is_digit.false) in
     search (rules, b.1)
 
 pub overflow_add-magnitude : goal.overflow_add-magnitude
 overflow_add-magnitude c =
-    let b = digit-class _ (sym c.is_digit.ensures ∙ not-false _ c.if-not-is_digit.false) in
+    let b = digit-class _ (sym c.is_digit.ensures ∙ c.if-not-is_digit.false) in
     search (rules, b.1)
 
 pub overflow_add-at : goal.overflow_add-at
@@ -51,14 +52,13 @@ loop-at-preserved c =
     let n = c.args.start in
     let bytes = c.args.bytes.now in
     let at = l.at in
-    let more = l.invariant ∙ digits-on (so_far_of n l.filled l.decimals l.magnitude) bytes at c.loop-at-test.true (sym c.is_digit.ensures ∙ not-false _ c.if-not-is_digit.false) in
+    let more = l.invariant ∙ digits-on (so_far_of n l.filled l.decimals l.magnitude) bytes at c.loop-at-test.true (sym c.is_digit.ensures ∙ c.if-not-is_digit.false) in
     let next : Number → Scanned = λ k. digits_from k (drop (at + 1) bytes) (at + 1) in
-    ⊎_elim
-    (λ w. rw (w.2, w.3, w.1.ensures) (more ∙ ap next (digit-past n l.filled l.decimals l.magnitude _ c.requires w.0.taken)))
-    (⊎_elim
-    (λ w. rw (w.2, w.3) (more ∙ ap next (digit-counts n l.filled l.decimals l.magnitude _ c.requires w.0.left w.1.taken)))
-    (λ w. rw (w.2, w.3) (more ∙ ap next (digit-kept n l.filled l.decimals l.magnitude _ c.requires w.0.left w.1.left))))
-    c.if-decimals-ge-PLACES.branch
+    elim c.if-decimals-ge-PLACES.branch [
+      then-decimals-ge-PLACES w ↦ rw (w.decimals-is, w.magnitude-is, w.past-decimals.ensures) (more ∙ ap next (digit-past n l.filled l.decimals l.magnitude _ c.requires w.if-decimals-ge-PLACES.true))
+    | else-decimals-ge-PLACES+then-magnitude-le-PAST w ↦ rw (w.decimals-is, w.magnitude-is) (more ∙ ap next (digit-counts n l.filled l.decimals l.magnitude _ c.requires w.if-decimals-ge-PLACES.false w.if-magnitude-le-PAST.true))
+    | else-decimals-ge-PLACES+else-magnitude-le-PAST w ↦ rw (w.decimals-is, w.magnitude-is) (more ∙ ap next (digit-kept n l.filled l.decimals l.magnitude _ c.requires w.if-decimals-ge-PLACES.false w.if-magnitude-le-PAST.false))
+    ]
 
 pub returns : goal.returns
 returns c =

@@ -1,6 +1,6 @@
 -- The proof of `first_segment`: the table is that of the settings, and the corners are those of the work.
 use mathlib.Core.Path.{◌∙◌}
-use Rattle.turns.specs.TurnLaws.{rows-unit}
+use Rattle.turns.proofs.TurnLaws.{rows-unit}
 use Rattle.queue.specs.Corners.{corner_of, next_corner_of, segment_in, first_segment}
 use Rattle.queue.proofs.drawing.first_segment.Statement.{statement}
 use Rattle.queue.proofs.drawing.first_segment.Tie as tie

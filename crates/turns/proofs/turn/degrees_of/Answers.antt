@@ -3,7 +3,7 @@ use borrow.Author.Rules.{rules}
 use mir.Syntax.{w64}
 use Rattle.exact.specs.Fit.{val}
 use Rattle.turns.specs.Turn.{turns, degrees_of}
-use Rattle.turns.specs.TurnsSaid.{degrees-size}
+use Rattle.turns.proofs.TurnsSaid.{degrees-size}
 use Rattle.turns.proofs.turn.degrees_of.Goals as goal
 
 pub returns : goal.returns

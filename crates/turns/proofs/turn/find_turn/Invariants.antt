@@ -13,7 +13,7 @@ use Rattle.turns.specs.Turn.{turn_count, degrees_of, turn_from, find_turn}
 use Rattle.turns.proofs.turn.find_turn.Given as goal
 
 abbrev pub invariant-loop-turn : goal.invariant-loop-turn
-invariant-loop-turn l = (l.turn ≤ turn_count) × (find_turn (to_z w64 l.degrees) ≡ turn_from (to_z w64 l.degrees) l.turn (turn_count - l.turn))
+invariant-loop-turn l = (l.turn ≤ turn_count) × (find_turn l.degrees ≡ turn_from l.degrees l.turn (turn_count - l.turn))
 
 abbrev pub decreases-loop-turn : goal.decreases-loop-turn
 decreases-loop-turn l = turn_count - l.turn

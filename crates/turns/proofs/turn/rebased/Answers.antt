@@ -4,7 +4,7 @@ use mathlib.Core.Path.{sym, subst, ap, ◌∙◌}
 use Rattle.clip.specs.Reach.{SmallPoint}
 use Rattle.clip.specs.declared.Point.{Point}
 use Rattle.turns.specs.Turn.{turned_back_of, rebased_of}
-use Rattle.turns.specs.TurnLaws.{turned-small}
+use Rattle.turns.proofs.TurnLaws.{turned-small}
 use Rattle.turns.proofs.turn.rebased.Goals as goal
 
 pub turned_back-requires : goal.turned_back-requires

@@ -6,7 +6,7 @@ use Rattle.exact.specs.Whole.{◌≡?◌, ≡?-true}
 use Rattle.exact.specs.Fit.{Bd, bd-lit}
 use Rattle.clip.specs.declared.Point.{Point}
 use Rattle.turns.specs.Turn.{turn_count, turns, upright, degrees_of, turn_from, find_turn, turn_of, turned_of}
-use Rattle.turns.specs.TurnLaws.{east, north, west, south, coord-is}
+use Rattle.turns.proofs.TurnLaws.{east, north, west, south, coord-is}
 
 -- ---- what 01 says, and 02
 

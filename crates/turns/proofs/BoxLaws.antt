@@ -12,7 +12,7 @@ use Rattle.clip.specs.declared.Rect.{Rect}
 use Rattle.turns.specs.Turn.{turn_count, along_of, turned_of, turned_back_of, lesser_of, greater_of, ordered_of, turned_box_of, turned_back_box_of, along_f, turned_exact}
 use Rattle.clip.specs.Fractions.{Same}
 use Rattle.turns.specs.FractionLaws.{back, inside-same, rounds-same, neg_f, inside-neg, inside-unneg, rounds-neg}
-use Rattle.turns.specs.TurnLaws.{Row, east, north, west, south, Units, units, coord, coord-is, turned-small, back-small}
+use Rattle.turns.proofs.TurnLaws.{Row, east, north, west, south, Units, units, coord, coord-is, turned-small, back-small}
 
 -- ---- the lesser and the greater: one of the two, and which
 weak : {a b : ℤ} → a <ᶻ b → a ≤ᶻ b

@@ -7,7 +7,7 @@ use Rattle.clip.specs.Reach.{SmallRect}
 use Rattle.clip.specs.Line.{Frac, Exact, Inside, Within, whole, ◌≤F◌}
 use Rattle.clip.specs.declared.Rect.{Rect}
 use Rattle.turns.specs.Turn.{turn_count, lesser_of, greater_of, turned_box_of, turned_exact}
-use Rattle.turns.specs.BoxLaws.{Ordered, lesser-by, greater-by, lesser-≤, greater-≥, lesser-size, greater-size, box-small, turned-within}
+use Rattle.turns.proofs.BoxLaws.{Ordered, lesser-by, greater-by, lesser-≤, greater-≥, lesser-size, greater-size, box-small, turned-within}
 use Rattle.turns.specs.Limits.{intersection_of, limits_of}
 
 -- ---- one axis
