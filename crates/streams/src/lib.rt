@@ -6,7 +6,6 @@ ghost use Rattle.std.specs.Prelude.{false, ◌≡◌, pos};
 ghost use Rattle.io.specs.Counts.{IsPrefixLen};
 
 use std::io::{Error, ErrorKind, Print, Read, Stderr, Write};
-use std::thread::yield_now;
 
 const TRIES: u64 = 0x800000000000;
 
@@ -38,17 +37,10 @@ pub fn number_of(error: &Error) -> i32 {
     }
 }
 
-// Whether the call that has just failed is to be tried again: a signal came in between, or it has to wait, and then another process runs first.
+// Whether the call that has just failed is to be tried again, at once: a signal came in between, or it has to wait.
 fn again(error: &Error) -> bool {
     let kind = error.kind();
-    if kind == ErrorKind::Interrupted {
-        return true;
-    }
-    if kind == ErrorKind::WouldBlock {
-        yield_now();
-        return true;
-    }
-    false
+    kind == ErrorKind::Interrupted || kind == ErrorKind::WouldBlock
 }
 
 // What a read gave: so many bytes at the start of the block, none at the end of the input; or nothing where it failed.
