@@ -6,7 +6,6 @@ use Rattle.std.proofs.Math.Dec.{eqb-suc-zero}
 use Rattle.std.proofs.lemmas.List.{length-replicate}
 use Rattle.clip.specs.declared.Rect.{Rect}
 use Rattle.reader.specs.declared.Event.{Event}
-use Rattle.reader.specs.declared.Event.TheVariants.{Nothing}
 use Rattle.reader.specs.declared.Reader.{Reader}
 use Rattle.reader.specs.Step.{step_of}
 use Rattle.reader.specs.InsideLaws.{Leads, step-tells}
@@ -23,7 +22,7 @@ use Rattle.hpgl.specs.declared.Drawn.{Drawn}
 use Rattle.hpgl.specs.declared.Drawn.TheVariants as drawn
 use Rattle.hpgl.specs.Numbers.{most_edges}
 use Rattle.hpgl.specs.Rules.{fresh_core, fresh_carriage, no_polygon, noting, noted, act_on}
-use Rattle.hpgl.specs.Machine.{hard_limits, no_edge, fresh_state, waiting, replied, replying, occupied, queued, reader_after, applied, acted, take_state, shown, chord_shown, edge_shown, work_after, draw_work, draw_state, draw_answer, fetch_state, fetch_text}
+use Rattle.hpgl.specs.Machine.{hard_limits, no_edge, fresh_state, waiting, replied, replying, occupied, reader_after, applied, acted, take_state, shown, chord_shown, edge_shown, work_after, draw_work, draw_state, draw_answer, fetch_state, fetch_text}
 use Rattle.hpgl.specs.ExactModel.{ExactPolygon, ExactSegment, Model, no_points, fresh_model, core_after, number_of, taken, take_when, take_model, rest, draw_model, fetch_when, fetch_model}
 use Rattle.hpgl.specs.Replies.{no_reply, reply_text}
 use Rattle.hpgl.specs.Condition3.{Call, take, draw, fetch, state_after, model_after, Holds, HoldsAt, HoldsAll, Condition3}
@@ -33,7 +32,7 @@ use Rattle.hpgl.specs.Near.{keeps-promise}
 use Rattle.hpgl.specs.SegmentsLocated.{located-by}
 use Rattle.hpgl.specs.OpenInstruction.{knows_after, ends-known}
 use Rattle.hpgl.specs.Steps.{polygon_by, added_by, Keeps, keeps, keeps-noted, sound-fresh}
-use Rattle.hpgl.specs.Told.{answer_of, queued-reply, answered_by, answers}
+use Rattle.hpgl.specs.Told.{queued-reply, answered_by, answers}
 
 -- ---- draw
 

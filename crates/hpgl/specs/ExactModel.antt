@@ -1,7 +1,7 @@
 -- The exact model: what is owed paint, by the documents' words (01, "Strokes"; 02), at exact positions and in a queue. It is fed with the calls alone.
 -- Reading, settings and position go by the same rules as the machine's; but what joins the polygon and the queue is decided here, from the event, the
 -- number and the positions before and after, and so is what is replied. It never looks at the machine's actions, store, work or counts.
-use Rattle.std.specs.Prelude.{ℕ, zero, suc, ◌+◌, Bool, true, cond, not, ◌||◌, List, [], ◌∷◌, ◌++◌, eqb, leb, ℤ, pos, nat_abs, length}
+use Rattle.std.specs.Prelude.{ℕ, zero, suc, ◌+◌, Bool, true, cond, ◌||◌, List, [], ◌∷◌, ◌++◌, eqb, leb, ℤ, pos, nat_abs, length}
 use Rattle.clip.specs.Line.{Exact, nearest}
 use Rattle.clip.specs.declared.Point.{Point}
 use Rattle.clip.specs.declared.Rect.{Rect}

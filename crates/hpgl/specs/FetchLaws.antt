@@ -1,7 +1,7 @@
 -- What a fetch does, by cases, and what it leaves of the machine: the reply is gone exactly where bytes were written. Why: no reply has an empty text.
-use Rattle.std.specs.Prelude.{◌≡◌, Bool, true, false, cond, not, ℕ, zero, suc, ◌≤◌, ◌<◌, eqb, leb, ℤ, length, take}
+use Rattle.std.specs.Prelude.{◌≡◌, Bool, true, false, not, ℕ, zero, suc, ◌≤◌, ◌<◌, eqb, leb, ℤ, length, take}
 use Rattle.std.proofs.Math.Path.{refl}
-use mathlib.Core.List.{List, [], ◌∷◌, ◌++◌}
+use mathlib.Core.List.{List, [], ◌∷◌}
 use Prim.Native.Char.{code}
 use Rattle.std.proofs.Common.{arith, le-leb, length-append}
 use Rattle.std.proofs.Math.Dec.{eqb-suc-zero}

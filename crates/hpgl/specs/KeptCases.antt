@@ -1,6 +1,6 @@
 -- How the proof is put together that a rule keeps the core valid: it is the rule's definition with each leaf replaced, and each `cond` by `whether`, or by
 -- `pick` of Cases.antt where the test does not matter.
-use Rattle.std.specs.Prelude.{◌≡◌, refl, Bool, true, false, cond, ◌&&◌, List, ℕ, ◌≤◌, ◌<◌}
+use Rattle.std.specs.Prelude.{◌≡◌, Bool, true, false, cond, ◌&&◌, List, ℕ, ◌≤◌, ◌<◌}
 use Rattle.std.proofs.Common.{arith, eq-eqb}
 use Rattle.clip.specs.declared.Point.{Point}
 use Rattle.hpgl.specs.declared.Settings.{Settings}

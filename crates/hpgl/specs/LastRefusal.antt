@@ -1,7 +1,7 @@
 -- "the latest 1, 2, 3, 6 or 7 that take gave, 0 if none since fresh, IN or OE" (document 02, CR 5): what OE tells, over every list of calls from fresh. The claim speaks of the numbers
 -- that the takes of the list gave and of the instructions that they carried out, and of nothing that the machine remembers.
 -- Why it holds: of each take it is known what becomes of the number that is remembered (WhatTakeDoes.antt), and no other call touches it.
-use Rattle.std.specs.Prelude.{◌≡◌, refl, Bool, true, false, cond, ◌&&◌, ◌||◌, List, [], ◌∷◌, ◌++◌, ℕ, zero, suc, ◌<◌, eqb, leb, pos, length}
+use Rattle.std.specs.Prelude.{◌≡◌, refl, Bool, true, false, cond, ◌&&◌, ◌||◌, List, [], ◌∷◌, ◌++◌, ℕ, ◌<◌, eqb, leb, pos, length}
 use Rattle.std.proofs.Common.{sym, ap, ◌∙◌, subst, true≢false, arith, eqb-true}
 use Rattle.std.proofs.lemmas.Bool.{eqb-false}
 use Rattle.exact.specs.Whole.{◌≡?◌}

@@ -78,9 +78,9 @@ first-typed s (g ∷ gs) (drawn.Stroke k) h = λ o. clip-typed s g (drawn.Stroke
 each_typed : (m : State) (p : Model) (calls : List Call) → HoldsAll m p calls → TypesAll m p calls
 unfolding HoldsAll HoldsAt TypesAll TypesAt
 each_typed m p [] h = tt
-each_typed m p (take b l ∷ cs) h = (tt, each_typed _ _ cs h.1)
-each_typed m p (draw ∷ cs) h = (first-typed p.core.settings p.queue (draw_answer m) h.0, each_typed _ _ cs h.1)
-each_typed m p (fetch room ∷ cs) h = (tt, each_typed _ _ cs h.1)
+each_typed m p (take b l ∷ cs) h = (tt, each_typed (state_after m (take b l)) (model_after p (take b l)) cs h.1)
+each_typed m p (draw ∷ cs) h = (first-typed p.core.settings p.queue (draw_answer m) h.0, each_typed (state_after m draw) (model_after p draw) cs h.1)
+each_typed m p (fetch room ∷ cs) h = (tt, each_typed (state_after m (fetch room)) (model_after p (fetch room)) cs h.1)
 
 pub line-types : LineTypes
 line-types r calls = each_typed (fresh_state r) (fresh_model (hard_limits r)) calls (condition-3 r calls)

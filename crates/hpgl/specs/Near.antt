@@ -17,7 +17,6 @@ use Rattle.turns.proofs.LimitsLaws.{intersection-within}
 use Rattle.hpgl.specs.Cases.{never}
 use Rattle.hpgl.specs.declared.Settings.{Settings}
 use Rattle.hpgl.specs.declared.Core.{Core}
-use Rattle.hpgl.specs.declared.Stroke.{Stroke}
 use Rattle.hpgl.specs.declared.Drawn.TheVariants as drawn
 use Rattle.hpgl.specs.Place.{limits}
 use Rattle.hpgl.specs.Machine.{stroke_of, shown}

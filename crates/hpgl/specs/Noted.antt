@@ -1,7 +1,6 @@
 -- An event that is carried out leaves nothing to remember.
 use Rattle.std.specs.Prelude.{◌≡◌, ℕ}
 use Rattle.std.proofs.Common.{ap}
-use Rattle.hpgl.specs.declared.Core.{Core}
 use Rattle.hpgl.specs.declared.Acted.{Acted}
 use Rattle.hpgl.specs.Replies.{remembered, remembering}
 use Rattle.hpgl.specs.Rules.{noting, noted}

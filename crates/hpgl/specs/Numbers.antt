@@ -1,6 +1,6 @@
 -- The numbers of document 01: its refusals ("Causes and numbers") and its bounds, each named once. Those of reading stand in the crate reader, those of
 -- the plane (a location's range, the largest chord angle) in clip and plane, the range of 16 bits in exact, that of a full list in feeding.
-use Rattle.std.specs.Prelude.{ℕ, ◌+◌}
+use Rattle.std.specs.Prelude.{ℕ}
 -- ---- "Causes and numbers"
 
 -- of the reader's three, what rules refuse with too: "not known in polygon mode", 1; "setting out of range", 3

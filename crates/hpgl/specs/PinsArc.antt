@@ -1,18 +1,17 @@
 -- What document 02 says of an arc ("Arcs for the goal creases"), said apart from the definitions that machine and exact model share: where its vertices stand, which chords
 -- join them, which of these are queued, and where the position is left. Refusals.antt says when it is carried out, Effects.antt that a refused one changes nothing.
 -- It holds because vertex i + 1 adds the turned way to the centre's offset, as a circle's does to the position's, and vertex 0 is the position itself.
-use Rattle.std.specs.Prelude.{◌≡◌, Bool, true, false, eqb, pos, neg_ℤ, ◌+ℤ◌, ◌-ℤ◌, ◌*ℤ◌, length}
+use Rattle.std.specs.Prelude.{◌≡◌, Bool, true, false, pos, neg_ℤ, ◌+ℤ◌, ◌-ℤ◌, ◌*ℤ◌, length}
 use Rattle.std.proofs.Math.Path.{refl, sym, ap, subst}
 use Rattle.std.proofs.Common.{◌∙◌, arith, ne_eqb}
 use Rattle.std.proofs.Math.Bool.{cond}
 use mathlib.Core.List.{List, []}
 use Prim.Native.Nat.{ℕ, zero, suc, ◌+◌, ◌*◌, ◌≤◌, ◌<◌}
 use Rattle.std.proofs.Math.IntN.{ℤ, nat_abs}
-use Rattle.exact.specs.Whole.{◌<ᶻ◌, ord, ◌<?◌, lt-<?, le-<?}
+use Rattle.exact.specs.Whole.{◌<ᶻ◌, ord, lt-<?, le-<?}
 use Rattle.clip.specs.Line.{Exact, nearest}
 use Rattle.clip.specs.declared.Point.{Point}
 use Rattle.reader.specs.declared.Numbers.{Numbers}
-use Rattle.reader.specs.declared.Event.{Event}
 use Rattle.reader.specs.declared.Event.TheVariants.{Ended}
 use Rattle.reader.specs.Step.{step_of}
 use Rattle.mnemonics.specs.Table.{AA, AR}

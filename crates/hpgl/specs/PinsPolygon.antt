@@ -14,7 +14,7 @@ use Rattle.reader.specs.declared.Coordinates.{Coordinates}
 use Rattle.reader.specs.declared.Numbers.{Numbers}
 use Rattle.reader.specs.declared.Event.{Event}
 use Rattle.reader.specs.declared.Event.TheVariants.{Nothing, Named, Pair, Ended, Refused}
-use Rattle.mnemonics.specs.Table.{IN, DF, EP, IP, SC, IW, RO, SP, PM, CI, EA, ER, PU, PD, PA, PR, AA, AR, known_in_polygon}
+use Rattle.mnemonics.specs.Table.{IN, PM, EA, ER, PU, PD, PA, PR, known_in_polygon}
 use Rattle.turns.specs.Turn.{turn_count, find_turn}
 use Rattle.plane.specs.Bounds.{most_angle}
 use Rattle.hpgl.specs.Cases.{never, pick, choose, cond-true}

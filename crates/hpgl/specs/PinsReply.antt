@@ -1,23 +1,21 @@
 -- OA, OP, OW, OH and OE, in document 02's words and not by the rules: of every machine that the calls make, the byte that ends one of them is not refused, and the reply that then
 -- waits has these numbers, of the machine before that byte. What each leaves else stands in Effects.antt (nothing; OE forgets what it tells).
-use Rattle.std.specs.Prelude.{◌≡◌, Bool, true, false, cond, ℕ, pos}
+use Rattle.std.specs.Prelude.{◌≡◌, true, false, cond, ℕ, pos}
 use Rattle.std.proofs.Math.Path.{refl}
 use Rattle.std.proofs.Common.{ap, ◌∙◌}
 use Rattle.clip.specs.declared.Rect.{Rect}
-use Rattle.reader.specs.declared.Reader.{Reader}
 use Rattle.reader.specs.declared.Numbers.{Numbers}
 use Rattle.reader.specs.declared.Event.{Event}
 use Rattle.reader.specs.declared.Event.TheVariants.{Ended}
 use Rattle.reader.specs.Step.{step_of}
 use Rattle.mnemonics.specs.Table.{OA, OP, OW, OH, OE}
 use Rattle.turns.specs.Turn.{turned_box_of}
-use Rattle.hpgl.specs.declared.Core.{Core}
 use Rattle.hpgl.specs.declared.Reply.{Reply}
 use Rattle.hpgl.specs.declared.State.{State}
 use Rattle.hpgl.specs.Cases.{cond-true}
 use Rattle.hpgl.specs.Replies.{place_told, corners_told, box_told, window_shown, window_told, limits_told, refusal_told}
 use Rattle.hpgl.specs.Rules.{done, oa_rule, op_rule, ow_rule, oh_rule, oe_rule, noted, end_rule, act_on}
-use Rattle.hpgl.specs.Machine.{occupied, replied, queued, applied, acted, take_state, take_number, look_at}
+use Rattle.hpgl.specs.Machine.{replied, queued, applied, acted, take_state, take_number, look_at}
 use Rattle.hpgl.specs.Valid.{ValidSettings}
 use Rattle.hpgl.specs.Free.{Free, free-is}
 use Rattle.hpgl.specs.ReplyLaws.{ow-turns-back}

@@ -1,13 +1,12 @@
 -- Where the pen is: exact position, location, page point, limits (document 01, "Position" and "Strokes"), over the settings.
 -- The arithmetic of one axis is the crate plane's, that of the turn and of boxes the crate turns'.
-use Rattle.std.specs.Prelude.{Bool, cond, ◌&&◌, ℤ, pos, neg_ℤ, ◌+ℤ◌, ◌-ℤ◌}
+use Rattle.std.specs.Prelude.{Bool, ◌&&◌, ℤ, pos}
 use Rattle.exact.specs.Divide.{nearest_div}
 use Rattle.clip.specs.declared.Point.{Point}
 use Rattle.clip.specs.declared.Rect.{Rect}
 use Rattle.clip.specs.Line.{Exact}
 use Rattle.reader.specs.declared.Coordinates.{Coordinates}
 use Rattle.plane.specs.declared.position.Axis.{Axis}
-use Rattle.plane.specs.declared.position.ExactPosition.{ExactPosition}
 use Rattle.plane.specs.Position.{axis_of, absolute_of, relative_of, location_of, exact_of, in_range_of}
 use Rattle.turns.specs.Turn.{turned_of}
 use Rattle.turns.specs.Limits.{limits_of}

@@ -1,7 +1,7 @@
 -- When each event is carried out, and with which number it is refused if not (document 01, "Causes and numbers", and the sentences of 01 and 02 that say what must be so). A line is the
 -- list of what an event needs, in 01's order for one byte, each with the number that it gives where it is not met; where all is met the number is 0.
 -- Nothing here calls a rule; RefusalsProof.antt proves that the rules answer just these numbers.
-use Rattle.std.specs.Prelude.{◌≡◌, Bool, true, false, ℕ, ◌+◌, ◌≤◌, ◌<◌, ℤ, pos, neg_ℤ, nat_abs, ◌+ℤ◌, ◌-ℤ◌, ◌*ℤ◌}
+use Rattle.std.specs.Prelude.{◌≡◌, Bool, true, false, ℕ, ◌+◌, ◌≤◌, ℤ, pos, neg_ℤ, nat_abs, ◌+ℤ◌, ◌-ℤ◌, ◌*ℤ◌}
 use Rattle.exact.specs.Whole.{◌≤ᶻ◌, ◌<ᶻ◌}
 use Rattle.clip.specs.declared.Point.{Point}
 use Rattle.clip.specs.declared.Rect.{Rect}

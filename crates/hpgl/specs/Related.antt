@@ -3,14 +3,10 @@
 use Rattle.std.specs.Prelude.{◌≡◌, Bool, true, false, List, [], ◌∷◌, ◌++◌, ℕ, zero, suc, ◌+◌, ◌*◌, ◌≤◌, ◌<◌, pos, length, get_or}
 use Rattle.clip.specs.Line.{nearest, RoundsTo}
 use Rattle.clip.specs.declared.Point.{Point}
-use Rattle.reader.specs.declared.Reader.{Reader}
-use Rattle.mnemonics.specs.Table.{known_in_polygon}
-use Rattle.reader.specs.Inside.{inside}
 use Rattle.turns.specs.Turn.{turn_count, turned_of}
 use Rattle.hpgl.specs.declared.Position.{Position}
 use Rattle.hpgl.specs.declared.Settings.{Settings}
 use Rattle.hpgl.specs.declared.Polygon.{Polygon}
-use Rattle.hpgl.specs.declared.Core.{Core}
 use Rattle.hpgl.specs.declared.Edge.{Edge}
 use Rattle.hpgl.specs.declared.Circle.{Circle}
 use Rattle.hpgl.specs.declared.Work.{Work}

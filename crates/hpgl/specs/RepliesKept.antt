@@ -1,10 +1,9 @@
 -- OA, OP, OW, OH and OE keep the core valid, and so is the reply that each hands on: none of its numbers is larger than a location. A number that is remembered keeps it, too.
-use Rattle.std.specs.Prelude.{◌≡◌, refl, Bool, true, false, cond, ◌||◌, ℕ, zero, suc, ◌≤◌, ◌<◌, eqb, ℤ, pos}
+use Rattle.std.specs.Prelude.{◌≡◌, refl, Bool, true, false, cond, ◌||◌, ℕ, ◌≤◌, eqb, ℤ, pos}
 use Rattle.std.proofs.Common.{sym, true≢false, arith, eqb-true}
 use Rattle.exact.specs.Fit.{Bd, bd-lit, bd-le}
 use Rattle.clip.specs.declared.Rect.{Rect}
 use Rattle.clip.specs.Reach.{reach, SmallRect}
-use Rattle.turns.specs.Turn.{turned_back_box_of}
 use Rattle.turns.proofs.BoxLaws.{back-box-small}
 use Rattle.hpgl.specs.declared.Core.{Core}
 use Rattle.hpgl.specs.declared.Reply.{Reply}
@@ -13,7 +12,7 @@ use Rattle.hpgl.specs.declared.Acted.{Acted}
 use Rattle.hpgl.specs.Replies.{place_told, corners_told, box_told, window_shown, window_told, limits_told, refusal_told, remembered, remembering}
 use Rattle.hpgl.specs.Rules.{oa_rule, op_rule, ow_rule, oh_rule, oe_rule, noting, noted}
 use Rattle.hpgl.specs.Machine.{waiting, queued}
-use Rattle.hpgl.specs.Valid.{ShortRect, Recalled, clear, given, ValidCore, ReplyCount, one, three, four, ValidReply, ValidActed}
+use Rattle.hpgl.specs.Valid.{ShortRect, Recalled, clear, given, ValidCore, one, three, four, ValidReply, ValidActed}
 use Rattle.hpgl.specs.Cases.{pick, whether}
 use Rattle.hpgl.specs.KeptCases.{Inks, valid-core, acts}
 

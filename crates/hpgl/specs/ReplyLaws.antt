@@ -1,21 +1,21 @@
 -- What document 02, CR 5, says of a reply, proved of the definitions: turned again, what OW tells without a window is the hard limits; no reply is longer than 37 bytes; and its
 -- text read as numbers gives the numbers back.
-use Rattle.std.specs.Prelude.{◌≡◌, refl, Bool, true, false, cond, List, [], ◌∷◌, ◌++◌, ℕ, zero, suc, ◌+◌, ◌-◌, ◌*◌, ◌/◌, ◌%◌, ◌≤◌, ◌<◌, eqb, ltb, ℤ, pos, negsuc, neg_ℤ, nat_abs, length, take}
-use Rattle.std.proofs.Common.{sym, ap, ◌∙◌, append_assoc, arith, ne_eqb, ltb-true, ltb-false, length-append}
+use Rattle.std.specs.Prelude.{◌≡◌, refl, Bool, true, false, cond, List, [], ◌∷◌, ◌++◌, ℕ, zero, suc, ◌+◌, ◌-◌, ◌*◌, ◌/◌, ◌%◌, ◌≤◌, ◌<◌, eqb, ltb, ℤ, pos, negsuc, neg_ℤ, length, take}
+use Rattle.std.proofs.Common.{ap, ◌∙◌, append_assoc, arith, ne_eqb, ltb-true, ltb-false, length-append}
 use Prim.Native.Char.{code}
 use Rattle.exact.specs.Whole.{◌<ᶻ◌, ◌≤ᶻ◌, ord}
 use Rattle.exact.specs.Fit.{Bd}
 use Rattle.decimals.specs.Decimal.{digit, decimal, natural, whole}
 use Rattle.decimals.specs.DecimalLaws.{decimal-one, decimal-more, decimal-length}
 use Rattle.clip.specs.Reach.{reach}
-use Rattle.turns.specs.Turn.{turned_box_of, turned_back_box_of}
-use Rattle.turns.proofs.BoxLaws.{Ordered, box-home}
+use Rattle.turns.specs.Turn.{turned_box_of}
+use Rattle.turns.proofs.BoxLaws.{box-home}
 use Rattle.hpgl.specs.declared.Settings.{Settings}
 use Rattle.hpgl.specs.declared.Reply.{Reply}
 use Rattle.hpgl.specs.declared.Work.{Work}
 use Rattle.hpgl.specs.declared.Work.TheVariants as work
 use Rattle.hpgl.specs.declared.State.{State}
-use Rattle.hpgl.specs.Replies.{no_reply, window_shown, numbers_told, text_of, reply_text}
+use Rattle.hpgl.specs.Replies.{window_shown, numbers_told, text_of, reply_text}
 use Rattle.hpgl.specs.Numbers.{most_reply}
 use Rattle.hpgl.specs.Machine.{replied}
 use Rattle.hpgl.specs.Valid.{ValidSettings, ValidReply, ValidWork, Every, none, more, Valid}

@@ -1,7 +1,7 @@
 -- What each instruction does: the new core, the action, 01's number. One definition for each rule of document 01, in its order, and then of document 02.
 -- Nothing here looks at the store or at the waiting work, and a refusal leaves the core as it is; what is remembered of it comes after the rule (`noted`). Pages are those
 -- of the DraftPro manual (source document 001).
-use Rattle.std.specs.Prelude.{ℕ, ◌+◌, Bool, true, false, cond, not, ◌&&◌, ◌||◌, leb, ltb, eqb, ℤ, pos, negsuc, neg_ℤ, nat_abs, ◌+ℤ◌, ◌-ℤ◌}
+use Rattle.std.specs.Prelude.{ℕ, ◌+◌, Bool, true, false, cond, not, ◌&&◌, leb, ltb, eqb, ℤ, pos, neg_ℤ, nat_abs, ◌+ℤ◌, ◌-ℤ◌}
 use Rattle.exact.specs.Whole.{◌≡?◌, ◌≤?◌}
 unfoldable pub use Rattle.exact.specs.Int16.{int16}
 use Rattle.exact.specs.Divide.{nearest_div}
@@ -12,19 +12,16 @@ use Rattle.reader.specs.declared.Numbers.{Numbers}
 use Rattle.reader.specs.declared.Event.{Event}
 use Rattle.reader.specs.declared.Event.TheVariants.{Nothing, Named, Pair, Ended, Refused}
 use Rattle.mnemonics.specs.Table.{IN, DF, EP, IP, SC, IW, RO, SP, PM, CI, EA, ER, PU, PD, PA, PR, AA, AR, OA, OP, OW, OH, OE, known_in_polygon}
-use Rattle.plane.specs.declared.position.ExactPosition.{ExactPosition}
 use Rattle.turns.specs.Turn.{turn_count, upright, find_turn, turned_back_of, ordered_of}
 use Rattle.plane.specs.Bounds.{most_angle}
 use Rattle.plane.specs.Circle.{centre_of, point_from_centre}
 use Rattle.plane.specs.Arc.{way_of, way_fits, arc_fits}
 use Rattle.plane.specs.declared.circle.Way.{Way}
 use Rattle.hpgl.specs.declared.Position.{Position}
-use Rattle.hpgl.specs.declared.Range.{Range}
 use Rattle.hpgl.specs.declared.Scale.{Scale}
 use Rattle.hpgl.specs.declared.Window.{Window}
 use Rattle.hpgl.specs.declared.Settings.{Settings}
 use Rattle.hpgl.specs.declared.Pen.{Pen}
-use Rattle.hpgl.specs.declared.Saved.{Saved}
 use Rattle.hpgl.specs.declared.Polygon.{Polygon}
 use Rattle.hpgl.specs.declared.Carriage.{Carriage}
 use Rattle.hpgl.specs.declared.Core.{Core}

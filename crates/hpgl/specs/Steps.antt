@@ -20,12 +20,12 @@ use Rattle.reader.specs.declared.Event.{Event}
 use Rattle.reader.specs.declared.Event.TheVariants.{Nothing, Named, Pair, Ended, Refused}
 use Rattle.mnemonics.specs.Table.{IN, DF, EP, IP, SC, IW, RO, SP, PM, CI, EA, ER, PU, PD, PA, PR, AA, AR, OA, OP, OW, OH, OE, cell_of, known_in_polygon}
 use Rattle.plane.specs.Bounds.{most_angle}
-use Rattle.plane.specs.Position.{axis_of, exact_of, relative_of, location_of}
+use Rattle.plane.specs.Position.{axis_of, relative_of, location_of}
 use Rattle.turns.specs.Turn.{turn_count, find_turn, turned_of, ordered_of}
 use Rattle.plane.specs.declared.circle.Way.{Way}
 use Rattle.plane.specs.declared.circle.Centre.{Centre}
 use Rattle.plane.specs.Circle.{chords_of, angle_of, rotated_of, vertex_point_of, centre_of, point_from_centre}
-use Rattle.plane.specs.Arc.{parts_of, bend_of, exact_arc, arc_of, arc_point}
+use Rattle.plane.specs.Arc.{parts_of, bend_of, arc_point}
 use Rattle.plane.specs.CircleLaws.{vertex-nearest, vertex-point-split, point-0}
 use Rattle.plane.specs.ArcLaws.{circle-arc, arc-nearest, arc-split}
 use Rattle.hpgl.specs.Cases.{never, pick, cond-true, cond-false}

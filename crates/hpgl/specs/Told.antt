@@ -1,5 +1,5 @@
 -- Which events leave a reply: OA, OP, OW, OH and OE, each the one that the exact model makes of it; no other rule hands one on. By cases over the rules, one lemma each.
-use Rattle.std.specs.Prelude.{◌≡◌, Bool, true, false, cond, ◌&&◌, List, leb, ltb, eqb, ℤ}
+use Rattle.std.specs.Prelude.{◌≡◌, ◌&&◌, List, leb, ltb, eqb, ℤ}
 use Rattle.std.proofs.Math.Path.{refl}
 use Rattle.std.proofs.Common.{sym, ◌∙◌}
 use Rattle.std.proofs.Math.Bool.{not}

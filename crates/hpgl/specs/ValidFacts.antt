@@ -1,6 +1,6 @@
 -- What follows of valid settings, positions and cores: the facts that the code needs where one function calls another, and that the files ..Kept.antt
 -- build on. Why: each is a law of the crate plane, or a bound of a sum, put over the settings.
-use Rattle.std.specs.Prelude.{◌≡◌, refl, Bool, true, false, cond, not, ◌&&◌, List, ℕ, zero, suc, ◌+◌, ◌*◌, ◌-◌, ◌/◌, ◌≤◌, ◌<◌, ℤ, pos, neg_ℤ, nat_abs, ◌+ℤ◌, ◌*ℤ◌, get_or}
+use Rattle.std.specs.Prelude.{◌≡◌, refl, Bool, true, false, cond, not, ◌&&◌, List, ℕ, zero, suc, ◌+◌, ◌*◌, ◌≤◌, ◌<◌, ℤ, pos, neg_ℤ, nat_abs, ◌+ℤ◌, ◌*ℤ◌, get_or}
 use Rattle.std.proofs.Common.{sym, ap, ◌∙◌, subst, arith}
 use Rattle.std.proofs.Math.Dec.{eqb-suc-zero}
 use Rattle.exact.specs.Whole.{◌≤?◌, ◌≤ᶻ◌, ◌<ᶻ◌, ◌≡?◌, ord, ≤?-true, ≡?-false, up-mul, dn-mul, add_parts}

@@ -1,7 +1,7 @@
 -- Every machine that the calls make is usable: fresh, take, draw and fetch keep it. Why: each rule keeps the core valid and its action valid (the other files ..Kept.antt),
 -- the reader keeps its numbers small, and an action puts into store and work what it holds.
 use Rattle.std.specs.Prelude.{◌≡◌, refl, Bool, true, false, List, ℕ, zero, suc, ◌+◌, ◌≤◌, ◌<◌, eqb, leb, length, set, replicate}
-use Rattle.std.proofs.Common.{ap, ◌∙◌, arith, length-set}
+use Rattle.std.proofs.Common.{◌∙◌, arith, length-set}
 use Rattle.std.proofs.lemmas.List.{length-replicate}
 use Rattle.exact.specs.Whole.{◌<?◌, <?-true, ord}
 use Rattle.exact.specs.Fit.{bd-lit}
@@ -10,7 +10,7 @@ use Rattle.clip.specs.Reach.{SmallPoint}
 use Rattle.reader.specs.declared.Numbers.{Numbers}
 use Rattle.reader.specs.declared.Event.{Event}
 use Rattle.reader.specs.declared.Event.TheVariants.{Nothing, Named, Pair, Ended, Refused}
-use Rattle.mnemonics.specs.Table.{IN, DF, EP, IP, SC, IW, RO, SP, PM, CI, EA, ER, AA, AR, OA, OP, OW, OH, OE, cell_of, known_in_polygon}
+use Rattle.mnemonics.specs.Table.{cell_of, known_in_polygon}
 use Rattle.reader.specs.Step.{step_of}
 use Rattle.reader.specs.Laws.{fresh-law}
 use Rattle.hpgl.specs.declared.Core.{Core}

@@ -1,7 +1,6 @@
 -- The answers in document 01's values: "If an answer is an enum, a definition gives this paper's number and values for every case of the enum, and the
 -- promises use that definition". Segment.antt has what draw answers in them.
 use Rattle.std.specs.Prelude.{ℕ, Bool, List, ℤ}
-use Rattle.hpgl.specs.declared.Stroke.{Stroke}
 use Rattle.hpgl.specs.declared.Drawn.{Drawn}
 use Rattle.hpgl.specs.declared.Drawn.TheVariants as drawn
 use Rattle.hpgl.specs.declared.Look.{Look}

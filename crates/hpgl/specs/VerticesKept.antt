@@ -1,6 +1,6 @@
 -- CI, AA and AR keep the core valid, and so is the circle that each hands on. Why: CI's four points were found in range, and so all its vertices are (`circle-valid`); of an
 -- arc each vertex was found so (`arc-valid`), the last among them, where it leaves the position.
-use Rattle.std.specs.Prelude.{◌&&◌, ◌≤◌, ℤ, pos}
+use Rattle.std.specs.Prelude.{◌&&◌, ℤ, pos}
 use Rattle.std.proofs.Common.{arith}
 use Rattle.exact.specs.Whole.{◌≤?◌}
 use Rattle.exact.specs.Fit.{Bd}

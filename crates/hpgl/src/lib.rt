@@ -1,5 +1,7 @@
 // The state of the machine that document 01 describes, as types alone. specs/ says what each call does to it and proves condition 3;
 // the crate machine carries it out.
+#![tactic(auto)]
+
 use clip::{Point, Rect};
 use plane::circle::{Centre, Way};
 use plane::position::ExactPosition;
