@@ -5,9 +5,16 @@
 ghost use Rattle.std.specs.Prelude.{false, ◌≡◌, pos};
 ghost use Rattle.io.specs.Counts.{IsPrefixLen};
 
-use std::io::{Error, ErrorKind, Print, Read, Stderr, Write};
+use std::fs;
+use std::fs::File;
+use std::io::{Error, ErrorKind, Print, Read, Result, Stderr, Stdin, Write};
 
 const TRIES: u64 = 0x800000000000;
+
+// The system's number for an argument that it cannot take, and for bytes that are no text.
+const INVALID: i32 = 22;
+
+const NO_TEXT: i32 = 84;
 
 // What is read or written, and the number of the error of its last call that failed, as the system counts them; 0 where none has failed.
 #[derive(Drop)]
@@ -29,12 +36,44 @@ impl<T> Stream<T> {
     }
 }
 
-// The number of an error. One that is not of the system has none.
+// The number of an error. One that is not the system's own is of an argument that it could not take.
 pub fn number_of(error: &Error) -> i32 {
     match error.raw_os_error() {
         Some(number) => number,
-        None => 0,
+        None => INVALID,
     }
+}
+
+// Where a program's input comes from: standard input, or a file in its place. Neither is read before it is asked for, nor further.
+#[derive(Drop)]
+pub enum Source {
+    Standard(Stdin),
+    Named(File),
+}
+
+impl Read for Source {
+    fn read(&mut self, buf: &mut [u8]) -> Result<usize> {
+        match self {
+            Source::Standard(file) => file.read(buf),
+            Source::Named(file) => file.read(buf),
+        }
+    }
+}
+
+// Opens a file to read it, by its name, which has to be text.
+pub fn open(rt: &HostRuntime, name: &[u8]) -> Result<Stream<Source>> {
+    match str::from_utf8(name) {
+        Ok(path) => {
+            let file = fs::open(rt, path)?;
+            Ok(Stream::new(Source::Named(file)))
+        }
+        Err(_) => Err(Error::from_raw_os_error(NO_TEXT)),
+    }
+}
+
+// Standard input.
+pub fn standard(rt: &HostRuntime) -> Stream<Source> {
+    Stream::new(Source::Standard(rt.stdin()))
 }
 
 // Whether the call that has just failed is to be tried again, at once: a signal came in between, or it has to wait.
