@@ -9,7 +9,7 @@ use Rattle.exact.specs.Whole.{◌≡?◌, ≡?-true, eq-≡?}
 use Rattle.exact.specs.Int16.{int16, int16-size}
 use Rattle.hpgl.specs.declared.Stroke.{Stroke}
 use Rattle.drive.specs.Drive.{last_code, spot_of, start_of, end_of, ends_inside_of, ends_equal_of, Answer, travel_paint, one_dot, refusal, bad_pitch, bad_end, answer_of, Exactly, place_of, ExactAt}
-use Rattle.drive.specs.Floats.{units-exact}
+use Rattle.drive.proofs.Floats.{units-exact}
 
 -- ---- the refusals: 11 whatever the stroke is, 12 at a pitch code
 
