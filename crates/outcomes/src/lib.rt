@@ -1,4 +1,6 @@
 // The text of what the calls answer, as the program vectors prints it. Each function takes how many bytes of the buffer hold text, and answers how many do after it.
+#![tactic(auto)]
+
 use clip::Rect;
 use hpgl::{Drawn, Look, Stroke};
 use output::{put_byte, put_bytes, put_natural, put_whole};
