@@ -10,7 +10,7 @@ use Rattle.hpgl.specs.declared.Drawn.TheVariants as answer
 use Rattle.hpgl.specs.Machine.{waiting, occupied, work_after, take_state, take_number, draw_work, draw_state, draw_answer}
 use Rattle.feeding.specs.DrawOff.{untaken, drew_by, draw_off_by}
 use Rattle.hpgl.specs.Numbers.{busy}
-use Rattle.hpgl.specs.Pins.{take-free}
+use Rattle.hpgl.proofs.Pins.{take-free}
 use Rattle.feeding.specs.Led.{Led, here, taken, drawn}
 
 -- ---- how many segments wait, and what draw answers

@@ -10,7 +10,7 @@ use Rattle.hpgl.specs.declared.Stroke.{Stroke}
 use Rattle.hpgl.specs.declared.Drawn.TheVariants as drawn
 use Rattle.feeding.specs.DrawOff.{list_full, untaken}
 use Rattle.hpgl.specs.Numbers.{busy}
-use Rattle.hpgl.specs.Cases.{pick}
+use Rattle.hpgl.proofs.Cases.{pick}
 use Rattle.hpgl.specs.Machine.{waiting, occupied, take_state, take_number, draw_state, draw_answer}
 use Rattle.feeding.specs.Feed.{Feed, stop, store, drew, draw_off, counted, feed_from}
 pub use Rattle.feeding.specs.DrawOffLaws.{draw-less, draw-idle}

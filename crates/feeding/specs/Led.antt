@@ -4,7 +4,7 @@ use Rattle.hpgl.specs.declared.State.{State}
 use Rattle.hpgl.specs.Machine.{take_state, draw_state}
 use Rattle.hpgl.specs.Made as made
 use Rattle.hpgl.specs.Valid.{Usable}
-use Rattle.hpgl.specs.ValidKept.{usable-take, usable-draw}
+use Rattle.hpgl.proofs.ValidKept.{usable-take, usable-draw}
 
 -- by draws, and by takes of the first of these bytes, one after the other, each once
 pub data Led : State → List ℕ → State → Type 0 where

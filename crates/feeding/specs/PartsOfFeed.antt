@@ -14,7 +14,7 @@ use Rattle.feeding.specs.DrawOff.{list_full}
 use Rattle.hpgl.specs.Machine.{waiting, take_state, take_number, draw_state, draw_answer}
 use Rattle.feeding.specs.Feed.{Feed, stop, store, drew, feed_from}
 use Rattle.feeding.specs.FeedLaws.{draw-less, at-end, at_byte, at-refused, at-full, at-draw, feed-place}
-use Rattle.hpgl.specs.Pins.{TakeNumber, none, one, two, three, six, seven, twenty, take-number}
+use Rattle.hpgl.proofs.Pins.{TakeNumber, none, one, two, three, six, seven, twenty, take-number}
 
 -- these strokes are stored, and f is what follows
 abbrev pub store_all : List Stroke → Feed → Feed

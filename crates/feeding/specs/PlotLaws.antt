@@ -11,7 +11,7 @@ use Prim.Native.Nat.{ℕ, zero, suc, ◌+◌, ◌≤◌, ◌<◌}
 use Rattle.hpgl.specs.declared.State.{State}
 use Rattle.feeding.specs.DrawOff.{list_full, untaken}
 use Rattle.hpgl.specs.Numbers.{busy}
-use Rattle.hpgl.specs.Cases.{pick}
+use Rattle.hpgl.proofs.Cases.{pick}
 use Rattle.hpgl.specs.Machine.{waiting, occupied, take_state, take_number, draw_state, draw_answer}
 use Rattle.feeding.specs.Plot.{Plot, stroke, refusal, stop, store, drew, took, draw_off, take_with, take_on, plot_from}
 use Rattle.feeding.specs.DrawOffLaws.{off-idle, off-full, off-draw, off-all, drew-all, held_number, Kept, stored-kept, drawn-kept, stop-kept, byte-kept}

@@ -19,10 +19,10 @@ use Rattle.hpgl.specs.Machine.{waiting, take_state, take_number, stroke_of, show
 use Rattle.feeding.specs.Feed.{drew, feed_from}
 use Rattle.feeding.specs.FeedLaws.{at-end, at_byte, at-refused, at-full, at-draw}
 use Rattle.feeding.specs.PartsOfFeed.{by-waiting}
-use Rattle.hpgl.specs.Cases.{pick}
+use Rattle.hpgl.proofs.Cases.{pick}
 use Rattle.hpgl.specs.Numbers.{most_pen}
 use Rattle.hpgl.specs.Valid.{Valid, Every, none, more}
-use Rattle.hpgl.specs.ValidKept.{valid-take, valid-draw}
+use Rattle.hpgl.proofs.ValidKept.{valid-take, valid-draw}
 
 abbrev pub Penned : Stroke → Type 0
 Penned s = s.pen ≤ most_pen

@@ -18,10 +18,11 @@ use Rattle.hpgl.specs.Machine.{waiting, take_state, take_number, stroke_of, draw
 use Rattle.feeding.specs.DrawOffLaws.{draw-less}
 use Rattle.feeding.specs.Plot.{Mark, stroke, refusal, Plot, drew, took, draw_off, take_with, take_on, plot_from}
 use Rattle.feeding.specs.DrawOff.{untaken}
-use Rattle.hpgl.specs.Cases.{pick}
-use Rattle.hpgl.specs.Segment.{drawn_of, segment-drawn}
+use Rattle.hpgl.proofs.Cases.{pick}
+use Rattle.hpgl.specs.Segment.{drawn_of}
+use Rattle.hpgl.proofs.SegmentLaws.{segment-drawn}
 use Rattle.hpgl.specs.Valid.{Every, none, more, Usable}
-use Rattle.hpgl.specs.ValidKept.{usable-take, usable-draw}
+use Rattle.hpgl.proofs.ValidKept.{usable-take, usable-draw}
 
 -- ---- a draw: a stroke has the pen's number
 

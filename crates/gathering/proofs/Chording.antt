@@ -24,9 +24,10 @@ use Rattle.hpgl.specs.declared.Segment.{Segment}
 use Rattle.hpgl.specs.declared.Segment.TheVariants as segment
 use Rattle.hpgl.specs.Place.{limits}
 use Rattle.hpgl.specs.Machine.{no_edge, waiting, work_after}
-use Rattle.hpgl.specs.Segment.{segment_of, drawn_of, segment-drawn}
+use Rattle.hpgl.specs.Segment.{segment_of, drawn_of}
+use Rattle.hpgl.proofs.SegmentLaws.{segment-drawn}
 use Rattle.feeding.specs.Plot.{Plot}
-use Rattle.hpgl.specs.Cases.{never}
+use Rattle.hpgl.proofs.Cases.{never}
 use Rattle.rulekit.specs.declared.places.Frame.{Frame}
 use Rattle.rulekit.specs.Hand.{frame_of}
 use Rattle.queue.specs.First.{edge_place}

@@ -36,8 +36,8 @@ use Rattle.hpgl.specs.Machine.{waiting, replied, replying, occupied, take_state,
 use Rattle.feeding.specs.Plot.{Mark, stroke, refusal, Plot, stop, store, drew, numbers_of, laid_marks}
 use Rattle.feeding.specs.FeedLaws.{draw-less}
 use Rattle.hpgl.specs.Valid.{most_chords, ValidWork, Valid}
-use Rattle.hpgl.specs.Cases.{never}
-use Rattle.hpgl.specs.ValidKept.{valid-draw}
+use Rattle.hpgl.proofs.Cases.{never}
+use Rattle.hpgl.proofs.ValidKept.{valid-draw}
 use Rattle.gathering.specs.declared.Stopped.{Stopped}
 use Rattle.gathering.specs.Gather.{whole, stopped_as, stopped_of, gather_from, Gathers, remains_of, stuck_of, halted_of, count_after, with_stroke, record_of, put_of}
 use Rattle.gathering.specs.Far.{before, Far, Reached}

@@ -36,13 +36,14 @@ use Rattle.hpgl.specs.declared.Stroke.{Stroke}
 use Rattle.hpgl.specs.declared.Drawn.{Drawn}
 use Rattle.hpgl.specs.declared.Segment.{Segment}
 use Rattle.hpgl.specs.declared.Segment.TheVariants as segment
-use Rattle.hpgl.specs.Cases.{pick}
-use Rattle.hpgl.specs.Pins.{pinned}
+use Rattle.hpgl.proofs.Cases.{pick}
+use Rattle.hpgl.proofs.Pins.{pinned}
 use Rattle.hpgl.specs.Place.{limits}
 use Rattle.hpgl.specs.Rules.{done, letters, inked, longer, ep_rule, end_rule, act_on, noting}
 use Rattle.hpgl.specs.Replies.{remembering, remembered}
 use Rattle.hpgl.specs.Machine.{waiting, stored, queued, reader_after, work_after}
-use Rattle.hpgl.specs.Segment.{work_segment, segment_of, drawn_of, segment-drawn, SmallSegment, segment-small}
+use Rattle.hpgl.specs.Segment.{work_segment, segment_of, drawn_of, SmallSegment}
+use Rattle.hpgl.proofs.SegmentLaws.{segment-drawn, segment-small}
 use Rattle.feeding.specs.DrawOff.{list_full}
 use Rattle.feeding.specs.Plot.{Plot, refusal}
 use Rattle.rulekit.specs.declared.hand.Pointed.{Pointed}

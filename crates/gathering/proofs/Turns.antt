@@ -30,16 +30,16 @@ use Rattle.hpgl.specs.declared.Work.{Work}
 use Rattle.hpgl.specs.declared.Acted.{Acted}
 use Rattle.hpgl.specs.declared.Work.TheVariants.{Nothing}
 use Rattle.hpgl.specs.declared.State.{State}
-use Rattle.hpgl.specs.Cases.{never}
+use Rattle.hpgl.proofs.Cases.{never}
 use Rattle.hpgl.specs.Numbers.{too_far, polygon_full, polygon_bytes}
 use Rattle.hpgl.specs.Place.{location, in_range}
 use Rattle.hpgl.specs.Rules.{done, refuse, letters, move_to, point_cost, store_point, aimed, go_to, pair_rule, noting, noted, end_rule, act_on}
 use Rattle.hpgl.specs.Replies.{remembering, remembered}
 use Rattle.hpgl.specs.Machine.{occupied, stored, queued, reader_after, applied, acted, take_state, take_number}
 use Rattle.hpgl.specs.Valid.{Valid}
-use Rattle.hpgl.specs.ValidKept.{valid-take}
+use Rattle.hpgl.proofs.ValidKept.{valid-take}
 use Rattle.rulekit.specs.declared.hand.Hand.{Hand}
-use Rattle.hpgl.specs.Ends.{pairs_end}
+use Rattle.hpgl.proofs.Ends.{pairs_end}
 use Rattle.rulekit.specs.Hand.{carriage_of, core_of, name_number, name-parts}
 use Rattle.gathering.specs.Gather.{whole, heavy_of}
 

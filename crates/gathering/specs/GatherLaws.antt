@@ -11,7 +11,7 @@ use Rattle.hpgl.specs.declared.Drawn.{Drawn}
 use Rattle.hpgl.specs.declared.Drawn.TheVariants as drawn
 use Rattle.feeding.specs.DrawOff.{list_full}
 use Rattle.hpgl.specs.Numbers.{busy}
-use Rattle.hpgl.specs.Cases.{never}
+use Rattle.hpgl.proofs.Cases.{never}
 use Rattle.hpgl.specs.Machine.{waiting, replied, replying, occupied, take_state, take_number, draw_state, draw_answer}
 use Rattle.feeding.specs.Feed as F
 use Rattle.feeding.specs.FeedLaws as feed

@@ -14,14 +14,14 @@ use Rattle.clip.specs.declared.Rect.{Rect}
 use Rattle.hpgl.specs.declared.State.{State}
 use Rattle.hpgl.specs.Machine.{fresh_state, waiting, replied, replying, occupied, fetch_state, fetched_of, fetch_text, fetch_out}
 use Rattle.hpgl.specs.Replies.{reply_text}
-use Rattle.hpgl.specs.Cases.{whether}
+use Rattle.hpgl.proofs.Cases.{whether}
 use Rattle.feeding.specs.Plot.{plot_from, numbers_of}
 use Rattle.feeding.specs.Plot.{Plot as Marked}
 use Rattle.feeding.specs.WhatMarksTell.{plot-told}
 use Rattle.hpgl.specs.Valid.{Usable}
-use Rattle.hpgl.specs.ValidKept.{usable-fresh, usable-fetch}
-use Rattle.hpgl.specs.ReplyLaws.{reply-short}
-use Rattle.hpgl.specs.FetchLaws.{fetch-some}
+use Rattle.hpgl.proofs.ValidKept.{usable-fresh, usable-fetch}
+use Rattle.hpgl.proofs.ReplyLaws.{reply-short}
+use Rattle.hpgl.proofs.FetchLaws.{fetch-some}
 use Rattle.feeding.specs.PlotLaws.{plot-place, plot-usable}
 use Rattle.machine.specs.declared.Machine.{Machine}
 use Rattle.machine.specs.declared.Started.{Started}

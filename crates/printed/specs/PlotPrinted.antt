@@ -18,10 +18,10 @@ use Rattle.hpgl.specs.declared.Drawn.TheVariants as drawn
 use Rattle.hpgl.specs.declared.Work.{Work}
 use Rattle.hpgl.specs.declared.Work.TheVariants as work
 use Rattle.hpgl.specs.Numbers.{busy, most_reply}
-use Rattle.hpgl.specs.Cases.{never, whether}
+use Rattle.hpgl.proofs.Cases.{never, whether}
 use Rattle.hpgl.specs.Machine.{waiting, replied, replying, occupied, take_state, take_number, draw_state, draw_answer, fetch_state, fetch_text}
-use Rattle.hpgl.specs.WhatTakeDoes.{free-is}
-use Rattle.hpgl.specs.FetchLaws.{fetch-none, fetch-again, fetch-idle}
+use Rattle.hpgl.proofs.WhatTakeDoes.{free-is}
+use Rattle.hpgl.proofs.FetchLaws.{fetch-none, fetch-again, fetch-idle}
 use Rattle.feeding.specs.DrawOff.{list_full, untaken}
 use Rattle.feeding.specs.DrawOffLaws.{draw-less, held_number, free-taken, none-taken}
 use Rattle.feeding.specs.Plot.{Mark, stroke, refusal, Plot, stop, drew, took, draw_off, take_with, take_on, plot_from, numbers_of}

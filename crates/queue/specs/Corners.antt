@@ -14,7 +14,8 @@ use Rattle.hpgl.specs.declared.Segment.{Segment}
 use Rattle.hpgl.specs.declared.Segment.TheVariants as segment
 use Rattle.hpgl.specs.Rules.{origin}
 use Rattle.hpgl.specs.Machine.{no_edge, vertex_in, vertex}
-use Rattle.hpgl.specs.Segment.{chord_segment, edge_segment, work_segment, segment_of, SmallSegment, chord-small, page-small}
+use Rattle.hpgl.specs.Segment.{chord_segment, edge_segment, work_segment, segment_of, SmallSegment}
+use Rattle.hpgl.proofs.SegmentLaws.{chord-small, page-small}
 use Rattle.hpgl.specs.Valid.{ValidSettings, SmallEdge, ValidWork}
 use Rattle.queue.specs.First.{edge_place}
 

@@ -16,8 +16,8 @@ use Rattle.feeding.specs.Plot.{plot_from}
 use Rattle.feeding.specs.PlotLaws.{plot-usable}
 use Rattle.hpgl.specs.Made.{Made}
 use Rattle.hpgl.specs.Valid.{Usable}
-use Rattle.hpgl.specs.ValidFacts.{and_both}
-use Rattle.hpgl.specs.ValidKept.{usable-fresh, usable-take, usable-draw, usable-fetch, made-usable}
+use Rattle.hpgl.proofs.ValidFacts.{and_both}
+use Rattle.hpgl.proofs.ValidKept.{usable-fresh, usable-take, usable-draw, usable-fetch, made-usable}
 use Rattle.saved.specs.Saved.{state_numbers, saved_of, loaded_of}
 use Rattle.saved.specs.SavedLaws.{saved-back, saved-length}
 use Rattle.wellformed.specs.Sound.{sound_of}

@@ -14,7 +14,7 @@ use Rattle.hpgl.specs.declared.Polygon.{Polygon}
 use Rattle.hpgl.specs.declared.Core.{Core}
 use Rattle.hpgl.specs.Rules.{first_two, aimed}
 use Rattle.hpgl.specs.Valid.{LocatablePosition, ValidCore}
-use Rattle.hpgl.specs.ValidFacts.{axis-bounds-x, axis-bounds-y, placed-locatable, placed-offset, aimed-locatable}
+use Rattle.hpgl.proofs.ValidFacts.{axis-bounds-x, axis-bounds-y, placed-locatable, placed-offset, aimed-locatable}
 use Rattle.rulekit.specs.declared.places.Frame.{Frame}
 use Rattle.rulekit.specs.declared.hand.Hand.{Hand}
 use Rattle.rulekit.specs.Hand.{frame_of, core_of, location_in, location-in, ValidParts}

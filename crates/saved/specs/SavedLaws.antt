@@ -18,7 +18,7 @@ use Rattle.hpgl.specs.declared.State.{State}
 use Rattle.hpgl.specs.Numbers.{most_edges}
 use Rattle.hpgl.specs.Change.{with_work}
 use Rattle.hpgl.specs.Valid.{ValidSettings, ValidCore, ReplyCount, one, three, four, ValidWork, Valid}
-use Rattle.hpgl.specs.RepliesKept.{recalled-least}
+use Rattle.hpgl.proofs.RepliesKept.{recalled-least}
 use Rattle.saved.specs.Saved.{state_numbers, flag_in, small_in, limits_row, corners_row, scale_row, window_row, box_of, from_of, to_of, range_x, range_y, settings_of, settings_at, position_row, pen_row, polygon_row, memory_row, position_of, pen_of, pm0_of, polygon_of, memory_of, carriage_of, carriage_at, blank_row, line_row, chords_row, edges_row, reply_row, count_row, across_row, along_row, start_row, work_row, work_across, work_along, work_start, work_numbers, centre_of, way_of, angle_in, circle_of, reply_of, work_of, work_at, edge_row, edges_numbers, edge_of, edges_from, store_at, saved_of, loaded_of}
 
 -- ---- the parts, each from its place on

@@ -21,7 +21,7 @@ use Rattle.hpgl.specs.declared.Acted.{Acted}
 use Rattle.hpgl.specs.declared.State.{State}
 use Rattle.hpgl.specs.Rules.{done, refuse, noted, act_on}
 use Rattle.hpgl.specs.Machine.{waiting, replied, replying, occupied, queued, reader_after, applied, acted, take_state, take_number}
-use Rattle.hpgl.specs.Pins.{pinned}
+use Rattle.hpgl.proofs.Pins.{pinned}
 use Rattle.hpgl.specs.Valid.{Every, none, more}
 use Rattle.feeding.specs.DrawOffLaws.{free-taken}
 use Rattle.feeding.specs.Plot.{Plot, took, plot_from}

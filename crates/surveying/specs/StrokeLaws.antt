@@ -9,7 +9,7 @@ use Rattle.reader.specs.Reader.{unknown}
 use Rattle.rows.specs.declared.Row.{Row}
 use Rattle.hpgl.specs.declared.State.{State}
 use Rattle.hpgl.specs.Machine.{waiting, occupied, take_state, take_number, draw_state, draw_answer, fetch_state}
-use Rattle.hpgl.specs.FetchLaws.{fetch-none}
+use Rattle.hpgl.proofs.FetchLaws.{fetch-none}
 use Rattle.hpgl.specs.Segment.{segment_of}
 use Rattle.hpgl.specs.Valid.{Every, more}
 use Rattle.feeding.specs.DrawOff.{untaken}

@@ -19,7 +19,8 @@ use Rattle.hpgl.specs.declared.Work.{Work}
 use Rattle.hpgl.specs.declared.Work.TheVariants as work
 use Rattle.hpgl.specs.Place.{point, limits}
 use Rattle.hpgl.specs.Machine.{stroke_of, waiting, draw_answer}
-use Rattle.hpgl.specs.Segment.{work_segment, segment_of, drawn_of, segment-drawn}
+use Rattle.hpgl.specs.Segment.{work_segment, segment_of, drawn_of}
+use Rattle.hpgl.proofs.SegmentLaws.{segment-drawn}
 use Rattle.hpgl.specs.Valid.{Usable}
 use Rattle.answers.specs.Answers.{drawn_kind}
 use Rattle.readiness.specs.Ready.{machine_in, ready_of}

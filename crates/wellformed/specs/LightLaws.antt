@@ -6,7 +6,7 @@ use Rattle.exact.specs.Fit.{Bd, abs}
 use Rattle.rows.specs.declared.Row.{Row}
 use Rattle.rows.specs.Rows.{row, row_at, small_of, most_short}
 use Rattle.seal.specs.Light.{row_count, head_count, most_at, LightRow, Light}
-use Rattle.hpgl.specs.ValidFacts.{and_both}
+use Rattle.hpgl.proofs.ValidFacts.{and_both}
 use Rattle.saved.specs.Places.{limits_place, corners_place, scale_place, window_place, position_place, pen_place, polygon_place, first_place, saved_place, memory_place, work_place, across_place, along_place, start_place, edges_place}
 use Rattle.saved.specs.Saved.{state_numbers, position_of, circle_of, settings_at}
 use Rattle.wellformed.specs.Sound.{between_of, four_low, four_high, five_of, blank_sound, last, place_sound, numbers_sound, number_sound, reader_sound, last_turn, limits_sound, corners_sound, scale_sound, box_sound, settings_sound, placed_of, position_low, position_high, position_sound, pen_sound, polygon_sound, kept_sound, positions_sound, memory_sound, parts_sound, carriage_sound, known_sound, round_of, centre_low, centre_high, start_low, start_high, start_sound, ring_sound, chords_sound, blanks_sound, line_sound, outline_sound, count_sound, reply_sound, work_sound, inked_sound, edges_sound, sound_of}

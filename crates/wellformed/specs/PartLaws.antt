@@ -23,9 +23,9 @@ use Rattle.hpgl.specs.declared.Memory.{Memory}
 use Rattle.hpgl.specs.declared.Carriage.{Carriage}
 use Rattle.hpgl.specs.Place.{axis_x, axis_y, location, in_range}
 use Rattle.hpgl.specs.Valid.{ValidSettings, Placed, KeptPosition, ValidPolygon, Recalled, clear, given, ValidCore}
-use Rattle.hpgl.specs.RepliesKept.{recalled-least}
+use Rattle.hpgl.proofs.RepliesKept.{recalled-least}
 use Rattle.hpgl.specs.Replies.{remembered}
-use Rattle.hpgl.specs.ValidFacts.{and_both, axis-bounds-x, axis-bounds-y, placed-locatable, placed-kept, located-placed}
+use Rattle.hpgl.proofs.ValidFacts.{and_both, axis-bounds-x, axis-bounds-y, placed-locatable, placed-kept, located-placed}
 use Rattle.saved.specs.SavedReader.{mode_tag, mode_letter, mode_of, place_row, numbers_row, numbers_of, number_row, number_of}
 use Rattle.saved.specs.Saved.{flag_in, small_in, limits_row, corners_row, scale_row, window_row, box_of, from_of, to_of, range_x, range_y, settings_of, position_row, pen_row, polygon_row, memory_row, position_of, pen_of, pm0_of, polygon_of, memory_of, carriage_of}
 use Rattle.wellformed.specs.Sound.{between_of, four_low, four_high, five_of, last, place_sound, numbers_sound, number_sound, last_turn, limits_sound, corners_sound, scale_sound, box_sound, settings_sound, room_of, locatable_of, placed_of, position_low, position_high, position_sound, pen_sound, polygon_sound, kept_sound, positions_sound, memory_sound, parts_sound, carriage_sound}

@@ -5,7 +5,7 @@ use Rattle.exact.specs.Whole.{◌<?◌, ◌≤?◌, ◌≤ᶻ◌, ord, up_neg, d
 use Rattle.exact.specs.Fit.{Bd, abs}
 use Rattle.rows.specs.declared.Row.{Row}
 use Rattle.rows.specs.Rows.{row, flag_number, flag_of, place_number, small_of, most_byte}
-use Rattle.hpgl.specs.ValidFacts.{and_both}
+use Rattle.hpgl.proofs.ValidFacts.{and_both}
 use Rattle.wellformed.specs.Sound.{first_below, last_below, below_of, between_of, four_low, four_high, five_of, blank_sound}
 
 pub both : {x y : Bool} → x ≡ true → y ≡ true → x && y ≡ true

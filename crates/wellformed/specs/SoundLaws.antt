@@ -10,8 +10,8 @@ use Rattle.hpgl.specs.declared.Settings.{Settings}
 use Rattle.hpgl.specs.declared.Carriage.{Carriage}
 use Rattle.hpgl.specs.Valid.{Knows, Valid, Usable}
 use Rattle.hpgl.specs.Made.{Made}
-use Rattle.hpgl.specs.ValidFacts.{and_both}
-use Rattle.hpgl.specs.ValidKept.{made-usable}
+use Rattle.hpgl.proofs.ValidFacts.{and_both}
+use Rattle.hpgl.proofs.ValidKept.{made-usable}
 use Rattle.saved.specs.Places.{limits_place, corners_place, scale_place, window_place, position_place, pen_place, polygon_place, first_place, saved_place, memory_place, work_place, across_place, along_place, start_place, edges_place}
 use Rattle.saved.specs.SavedReader.{numbers_row, number_row, reader_of, reader_at}
 use Rattle.saved.specs.Saved.{state_numbers, settings_of, settings_at, position_row, pen_row, polygon_row, memory_row, pen_of, pm0_of, polygon_of, carriage_of, carriage_at, work_at, store_at, saved_of, loaded_of}

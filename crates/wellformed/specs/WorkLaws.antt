@@ -32,7 +32,7 @@ use Rattle.hpgl.specs.declared.Work.{Work}
 use Rattle.hpgl.specs.declared.Work.TheVariants.{Nothing, Line, Chords, Edges, Answer}
 use Rattle.hpgl.specs.Machine.{waiting, vertex_in}
 use Rattle.hpgl.specs.Valid.{most_chords, SmallEdge, ValidCircle, ReplyCount, one, three, four, ValidReply, ValidWork, Every, none, more}
-use Rattle.hpgl.specs.ValidFacts.{and_both, later-vertex}
+use Rattle.hpgl.proofs.ValidFacts.{and_both, later-vertex}
 use Rattle.saved.specs.SavedReader.{mode_tag, mode_of, place_row}
 use Rattle.saved.specs.Saved.{flag_in, small_in, from_of, to_of, pen_row, polygon_row, blank_row, line_row, chords_row, edges_row, reply_row, count_row, across_row, along_row, start_row, work_row, work_across, work_along, work_start, centre_of, way_of, angle_in, circle_of, reply_of, work_of, edge_row, edges_numbers, edge_of, edges_from}
 use Rattle.wellformed.specs.Sound.{between_of, four_low, four_high, five_of, centre_low, centre_high, start_low, start_high, blank_sound, box_sound, known_sound, round_of, start_sound, ring_sound, chords_sound, blanks_sound, line_sound, outline_sound, count_sound, reply_sound, work_sound, inked_sound, edges_sound}

@@ -3,7 +3,7 @@ use borrow.Author.Rules.{rules}
 use mathlib.Core.Path.{◌≡◌, sym, ap, ◌∙◌, subst}
 use Rattle.rows.specs.Rows.{over}
 use Rattle.hpgl.specs.Valid.{Usable}
-use Rattle.hpgl.specs.ValidKept.{usable-draw}
+use Rattle.hpgl.proofs.ValidKept.{usable-draw}
 use Rattle.machine.specs.declared.Worked.{Worked}
 use Rattle.machine.specs.Calls.{worked_of}
 use Rattle.saved.specs.Saved.{saved_of, loaded_of}

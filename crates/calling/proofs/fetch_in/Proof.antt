@@ -11,7 +11,7 @@ use Rattle.hpgl.specs.declared.Work.{Work}
 use Rattle.hpgl.specs.declared.Work.TheVariants.{Nothing}
 use Rattle.hpgl.specs.Valid.{ValidWork}
 use Rattle.hpgl.specs.Machine.{replying, replied, fetch_state, fetch_number, fetch_text, fetch_out}
-use Rattle.hpgl.specs.FetchLaws.{unfetched, fetched}
+use Rattle.hpgl.proofs.FetchLaws.{unfetched, fetched}
 use Rattle.replies.specs.Fetch.{Fetches, number_for}
 use Rattle.saved.specs.Places.{work_place}
 use Rattle.saved.specs.Saved.{work_numbers, saved_of, loaded_of}

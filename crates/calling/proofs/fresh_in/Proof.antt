@@ -5,7 +5,7 @@ use mir.Syntax.{w64}
 use Rattle.exact.specs.Fit.{arg}
 use Rattle.hpgl.specs.Machine.{rect}
 use Rattle.hpgl.specs.Valid.{Usable}
-use Rattle.hpgl.specs.ValidKept.{usable-fresh}
+use Rattle.hpgl.proofs.ValidKept.{usable-fresh}
 use Rattle.machine.specs.declared.Started.{Started}
 use Rattle.machine.specs.Calls.{started_of}
 use Rattle.saved.specs.Saved.{saved_of}

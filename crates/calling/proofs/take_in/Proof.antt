@@ -3,7 +3,7 @@ use borrow.Author.Rules.{rules}
 use mathlib.Core.Path.{◌≡◌, sym, ap, ◌∙◌, subst}
 use Rattle.hpgl.specs.declared.State.{State}
 use Rattle.hpgl.specs.Valid.{Usable}
-use Rattle.hpgl.specs.ValidKept.{usable-take}
+use Rattle.hpgl.proofs.ValidKept.{usable-take}
 use Rattle.machine.specs.declared.Taken.{Taken}
 use Rattle.machine.specs.Calls.{taken_of}
 use Rattle.saved.specs.Saved.{saved_of, loaded_of}

@@ -2,7 +2,7 @@
 use Rattle.std.proofs.Common.{◌≡◌, ◌-◌, ◌≤◌, arith, rules}
 use Rattle.hpgl.specs.declared.State.{State}
 use Rattle.hpgl.specs.Valid.{Usable}
-use Rattle.hpgl.specs.ValidKept.{usable-draw}
+use Rattle.hpgl.proofs.ValidKept.{usable-draw}
 use Rattle.machine.specs.declared.Worked.{Worked}
 use Rattle.machine.specs.Calls.{worked_of}
 use Rattle.courses.proofs.draw_some.Statement.{statement}

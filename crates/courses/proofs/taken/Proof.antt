@@ -2,7 +2,7 @@
 use Rattle.std.proofs.Common.{◌≡◌, ℕ, rules}
 use Rattle.hpgl.specs.declared.State.{State}
 use Rattle.hpgl.specs.Valid.{Usable}
-use Rattle.hpgl.specs.ValidKept.{usable-take}
+use Rattle.hpgl.proofs.ValidKept.{usable-take}
 use Rattle.machine.specs.declared.Taken.{Taken}
 use Rattle.machine.specs.Calls.{taken_of}
 use Rattle.courses.proofs.taken.Statement.{statement}

@@ -4,7 +4,7 @@ use mathlib.Core.Path.{sym, ap, subst}
 use Prim.Native.Nat.{◌<◌}
 use Rattle.hpgl.specs.declared.Work.{Work}
 use Rattle.hpgl.specs.Machine.{waiting}
-use Rattle.hpgl.specs.Cases.{never}
+use Rattle.hpgl.proofs.Cases.{never}
 use Rattle.gathering.specs.Gather.{batched_of}
 use Rattle.gathering.specs.Far.{Batching, Drew}
 use Rattle.gathering.proofs.batch.Statement.{statement}

@@ -11,9 +11,10 @@ use Rattle.hpgl.specs.declared.Work.{Work}
 use Rattle.hpgl.specs.declared.Work.TheVariants.{Chords}
 use Rattle.hpgl.specs.declared.Segment.TheVariants as segment
 use Rattle.hpgl.specs.Machine.{waiting}
-use Rattle.hpgl.specs.Segment.{drawn_of, SmallSegment, segment-small}
+use Rattle.hpgl.specs.Segment.{drawn_of, SmallSegment}
+use Rattle.hpgl.proofs.SegmentLaws.{segment-small}
 use Rattle.hpgl.specs.Valid.{Valid}
-use Rattle.hpgl.specs.ValidFacts.{limits-small, fewer}
+use Rattle.hpgl.proofs.ValidFacts.{limits-small, fewer}
 use Rattle.queue.specs.Corners.{vertex_at}
 use Rattle.gathering.specs.Gather.{whole, chords_left}
 use Rattle.gathering.specs.Far.{Batching, Drew}

@@ -40,11 +40,12 @@ use Rattle.hpgl.specs.Place.{limits}
 use Rattle.hpgl.specs.Rules.{longer, refuse, pair_rule, noting, act_on}
 use Rattle.hpgl.specs.Machine.{no_edge, waiting, occupied, stored, queued, draw_answer}
 use Rattle.hpgl.specs.Replies.{remembering, remembered}
-use Rattle.hpgl.specs.Segment.{segment_of, drawn_of, segment-drawn, SmallSegment, segment-small}
+use Rattle.hpgl.specs.Segment.{segment_of, drawn_of, SmallSegment}
+use Rattle.hpgl.proofs.SegmentLaws.{segment-drawn, segment-small}
 use Rattle.hpgl.specs.Valid.{ValidActed, ValidEvent, ValidAction}
-use Rattle.hpgl.specs.ValidFacts.{edge-small, limits-small}
-use Rattle.hpgl.specs.ReaderKept.{step-event}
-use Rattle.hpgl.specs.ValidKept.{valid-event}
+use Rattle.hpgl.proofs.ValidFacts.{edge-small, limits-small}
+use Rattle.hpgl.proofs.ReaderKept.{step-event}
+use Rattle.hpgl.proofs.ValidKept.{valid-event}
 use Rattle.rulekit.specs.declared.places.Frame.{Frame}
 use Rattle.rulekit.specs.declared.hand.Hand.{Hand}
 use Rattle.rulekit.specs.declared.hand.Pointed.{Pointed as Placed}

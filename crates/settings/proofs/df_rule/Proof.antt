@@ -3,7 +3,7 @@ use borrow.Author.Rules.{rules}
 use mathlib.Core.Path.{refl}
 use mathlib.Core.Bool.{false}
 use Rattle.hpgl.specs.Rules.{df_rule}
-use Rattle.hpgl.specs.ValidFacts.{relative-valid}
+use Rattle.hpgl.proofs.ValidFacts.{relative-valid}
 use Rattle.settings.proofs.df_rule.Statement.{statement}
 use Rattle.settings.proofs.df_rule.Tie as tie
 

@@ -4,7 +4,7 @@ use mathlib.Core.Path.{refl, sym, subst}
 use borrow.Author.Tests.{eq-eqb, ne_eqb}
 use Rattle.reader.specs.Sizes.{SmallPair}
 use Rattle.hpgl.specs.Rules.{fresh_settings, ip_rule}
-use Rattle.hpgl.specs.ValidFacts.{rounded-short}
+use Rattle.hpgl.proofs.ValidFacts.{rounded-short}
 use Rattle.settings.proofs.ip_rule.Statement.{statement}
 use Rattle.settings.proofs.ip_rule.Tie as tie
 

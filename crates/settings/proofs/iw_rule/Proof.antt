@@ -4,7 +4,7 @@ use mathlib.Core.Path.{refl, sym, subst}
 use borrow.Author.Tests.{eq-eqb, ne_eqb}
 use Rattle.reader.specs.Sizes.{SmallPair}
 use Rattle.hpgl.specs.Rules.{iw_rule}
-use Rattle.hpgl.specs.ValidFacts.{absolute-locatable}
+use Rattle.hpgl.proofs.ValidFacts.{absolute-locatable}
 use Rattle.settings.proofs.iw_rule.Statement.{statement}
 use Rattle.settings.proofs.iw_rule.Tie as tie
 

@@ -3,7 +3,7 @@ use borrow.Author.Rules.{rules}
 use mathlib.Core.Path.{refl, sym, subst}
 use Rattle.clip.specs.Reach.{SmallPoint}
 use Rattle.hpgl.specs.Rules.{rebased}
-use Rattle.hpgl.specs.ValidFacts.{page-small}
+use Rattle.hpgl.proofs.ValidFacts.{page-small}
 use Rattle.settings.proofs.rebased.Statement.{statement}
 use Rattle.settings.proofs.rebased.Tie as tie
 

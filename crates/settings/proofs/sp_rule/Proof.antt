@@ -9,7 +9,7 @@ use Rattle.exact.specs.Fit.{Num, m64, val, num, ret, within, bd-range, to-nat, l
 use Rattle.plane.specs.Bounds.{most_point}
 use Rattle.hpgl.specs.Place.{rounded}
 use Rattle.hpgl.specs.Rules.{sp_rule}
-use Rattle.hpgl.specs.ValidFacts.{rounded-short}
+use Rattle.hpgl.proofs.ValidFacts.{rounded-short}
 use Rattle.settings.proofs.sp_rule.Statement.{statement}
 use Rattle.settings.proofs.sp_rule.Tie as tie
 

@@ -6,7 +6,7 @@ use lib.ListN.{length}
 use Rattle.hpgl.specs.Machine.{waiting, draw_state, draw_answer}
 use Rattle.hpgl.specs.Segment.{segment_of}
 use Rattle.hpgl.specs.Valid.{Usable}
-use Rattle.hpgl.specs.ValidKept.{usable-draw}
+use Rattle.hpgl.proofs.ValidKept.{usable-draw}
 use Rattle.machine.specs.declared.Worked.{Worked}
 use Rattle.machine.specs.Calls.{worked_of}
 use Rattle.counting.specs.Tally.{counted_of}

@@ -5,7 +5,7 @@ use mathlib.Core.Path.{◌≡◌, refl, sym, ap, ◌∙◌}
 use Prim.Native.Nat.{ℕ}
 use lib.ListN.{length}
 use Rattle.hpgl.specs.Machine.{fetch_text}
-use Rattle.hpgl.specs.ValidKept.{usable-fetch}
+use Rattle.hpgl.proofs.ValidKept.{usable-fetch}
 use Rattle.machine.specs.declared.Fetched.{Fetched}
 use Rattle.machine.specs.Calls.{fetched_from}
 use Rattle.surveying.specs.Drawing.{reply_bytes, fetched_off}

@@ -4,7 +4,7 @@ use borrow.Author.Tests.{eq-eqb, ne_eqb}
 use mathlib.Core.Path.{◌≡◌, refl, ap, sym, ◌∙◌}
 use Prim.Native.Char.{code}
 use Rattle.hpgl.specs.Machine.{take_number}
-use Rattle.hpgl.specs.ValidKept.{usable-take}
+use Rattle.hpgl.proofs.ValidKept.{usable-take}
 use Rattle.machine.specs.declared.Taken.{Taken}
 use Rattle.machine.specs.Calls.{taken_of}
 use Rattle.hpgl.specs.Segment.{segment_of}

@@ -3,7 +3,7 @@ use mathlib.Core.Path.{◌≡◌}
 use borrow.Author.Rules.{rules}
 use Rattle.clip.specs.declared.Rect.{Rect}
 use Rattle.hpgl.specs.Valid.{Usable}
-use Rattle.hpgl.specs.ValidKept.{usable-fresh}
+use Rattle.hpgl.proofs.ValidKept.{usable-fresh}
 use Rattle.machine.specs.declared.Started.{Started}
 use Rattle.machine.specs.Calls.{started_of}
 use Rattle.vectors.proofs.fresh_machine.Statement.{statement}

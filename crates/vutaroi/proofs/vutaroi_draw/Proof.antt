@@ -11,7 +11,7 @@ use Rattle.rows.specs.Rows.{over}
 use Rattle.seal.specs.Seal.{sealed_of}
 use Rattle.seal.specs.Light.{Light}
 use Rattle.hpgl.specs.Machine.{draw_state, draw_answer}
-use Rattle.hpgl.specs.ValidKept.{usable-draw}
+use Rattle.hpgl.proofs.ValidKept.{usable-draw}
 use Rattle.saved.specs.Saved.{saved_of, loaded_of}
 use Rattle.machine.specs.Loadable.{Loadable}
 use Rattle.readiness.specs.Ready.{list_of, machine_in, ready_of}

@@ -11,7 +11,7 @@ use Rattle.rows.specs.Rows.{over}
 use Rattle.seal.specs.Seal.{sealed_of}
 use Rattle.seal.specs.Light.{Light}
 use Rattle.hpgl.specs.Machine.{fetch_state, fetch_number, fetch_text, fetch_out}
-use Rattle.hpgl.specs.ValidKept.{usable-fetch}
+use Rattle.hpgl.proofs.ValidKept.{usable-fetch}
 use Rattle.saved.specs.Saved.{saved_of, loaded_of}
 use Rattle.machine.specs.Loadable.{Loadable}
 use Rattle.readiness.specs.Ready.{list_of, machine_in, ready_of}

@@ -10,7 +10,7 @@ use Rattle.clip.specs.declared.Rect.{Rect}
 use Rattle.seal.specs.Seal.{sealed_of}
 use Rattle.seal.specs.Light.{Light}
 use Rattle.hpgl.specs.Machine.{rect, fresh_state, fresh_number}
-use Rattle.hpgl.specs.ValidKept.{usable-fresh}
+use Rattle.hpgl.proofs.ValidKept.{usable-fresh}
 use Rattle.saved.specs.Saved.{saved_of}
 use Rattle.readiness.specs.Ready.{list_numbers, list_of}
 use Rattle.readiness.specs.ReadyLaws.{usable-light, part-rest}

@@ -10,7 +10,7 @@ use lib.ListN.{drop}
 use Rattle.seal.specs.Seal.{sealed_of}
 use Rattle.seal.specs.Light.{Light}
 use Rattle.hpgl.specs.Machine.{take_state, take_number}
-use Rattle.hpgl.specs.ValidKept.{usable-take}
+use Rattle.hpgl.proofs.ValidKept.{usable-take}
 use Rattle.saved.specs.Saved.{saved_of, loaded_of}
 use Rattle.machine.specs.Loadable.{Loadable}
 use Rattle.readiness.specs.Ready.{list_of, machine_in, ready_of}

@@ -2,7 +2,7 @@
 use Rattle.std.proofs.Common.{◌≡◌, ℕ, rules}
 use Rattle.hpgl.specs.declared.State.{State}
 use Rattle.hpgl.specs.Valid.{Usable}
-use Rattle.hpgl.specs.ValidKept.{usable-fetch}
+use Rattle.hpgl.proofs.ValidKept.{usable-fetch}
 use Rattle.machine.specs.declared.Fetched.{Fetched}
 use Rattle.machine.specs.Calls.{fetched_from}
 use Rattle.courses.proofs.fetches.fetched.Statement.{statement}

@@ -7,8 +7,9 @@ use lib.ListN.{get_or}
 use Rattle.hpgl.specs.Place.{limits}
 use Rattle.hpgl.specs.Machine as M
 use Rattle.hpgl.specs.Values.{drawn_values}
-use Rattle.hpgl.specs.Segment.{segment_of, drawn_of, segment-drawn, draw-values}
-use Rattle.hpgl.specs.ValidFacts.{edge-small}
+use Rattle.hpgl.specs.Segment.{segment_of, drawn_of}
+use Rattle.hpgl.proofs.SegmentLaws.{segment-drawn, draw-values}
+use Rattle.hpgl.proofs.ValidFacts.{edge-small}
 use Rattle.queue.specs.First.{place-within}
 use Rattle.queue.specs.Corners.{first_segment, first-segment}
 use Rattle.machine.specs.Calls.{worked_of}

@@ -5,7 +5,7 @@ use lib.ListN.{length}
 use Rattle.hpgl.specs.Machine.{replying, fetch_number, fetch_text, fetch_out}
 use Rattle.replies.specs.Fetch.{number_for}
 use Rattle.machine.specs.Calls.{fetched_from}
-use Rattle.hpgl.specs.FetchLaws.{unfetched, fetched}
+use Rattle.hpgl.proofs.FetchLaws.{unfetched, fetched}
 use Rattle.machine.proofs.Machine.fetch.Statement.{statement}
 use Rattle.machine.proofs.Machine.fetch.Tie as tie
 

@@ -6,7 +6,7 @@ use native.Mathlib.Omega.{arith}
 use lib.ListN.{get_or}
 use Rattle.hpgl.specs.Machine.{no_edge}
 use Rattle.hpgl.specs.Segment.{segment_of}
-use Rattle.hpgl.specs.ValidFacts.{edge-small}
+use Rattle.hpgl.proofs.ValidFacts.{edge-small}
 use Rattle.queue.specs.First.{place-within}
 use Rattle.queue.specs.Corners.{first_segment, first-segment}
 use Rattle.machine.proofs.Machine.segment.Statement.{statement}

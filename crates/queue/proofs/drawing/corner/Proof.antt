@@ -3,7 +3,7 @@ use borrow.Author.Rules.{rules}
 use mathlib.Core.Path.{refl, subst}
 use native.Mathlib.Omega.{arith}
 use Rattle.hpgl.specs.Valid.{ValidWork}
-use Rattle.hpgl.specs.ValidFacts.{fewer}
+use Rattle.hpgl.proofs.ValidFacts.{fewer}
 use Rattle.queue.specs.Corners.{corner_of}
 use Rattle.queue.proofs.drawing.corner.Statement.{statement}
 use Rattle.queue.proofs.drawing.corner.Tie as tie

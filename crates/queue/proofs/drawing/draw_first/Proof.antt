@@ -2,7 +2,7 @@
 use borrow.Author.Rules.{rules}
 use mathlib.Core.Path.{◌∙◌}
 use Rattle.hpgl.specs.Segment.{drawn_of}
-use Rattle.hpgl.specs.ValidFacts.{limits-small}
+use Rattle.hpgl.proofs.ValidFacts.{limits-small}
 use Rattle.queue.specs.Corners.{first_small}
 use Rattle.queue.proofs.drawing.draw_first.Statement.{statement}
 use Rattle.queue.proofs.drawing.draw_first.Tie as tie

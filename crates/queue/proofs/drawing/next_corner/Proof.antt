@@ -3,7 +3,7 @@ use borrow.Author.Rules.{rules}
 use mathlib.Core.Path.{refl, sym, ◌∙◌, subst}
 use native.Mathlib.Omega.{arith}
 use Rattle.hpgl.specs.Valid.{ValidWork}
-use Rattle.hpgl.specs.ValidFacts.{fewer}
+use Rattle.hpgl.proofs.ValidFacts.{fewer}
 use Rattle.queue.specs.Corners.{next_corner_of}
 use Rattle.queue.proofs.Works.{no-corner, some-corner}
 use Rattle.queue.proofs.drawing.next_corner.Statement.{statement}

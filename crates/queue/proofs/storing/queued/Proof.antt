@@ -9,7 +9,7 @@ use Rattle.exact.specs.Fit.{val, sized}
 use Rattle.plane.specs.Arc.{parts_of}
 use Rattle.hpgl.specs.Machine as M
 use Rattle.hpgl.specs.Valid.{most_chords, ValidAction, WholeCircle}
-use Rattle.hpgl.specs.ValidFacts.{chords-most}
+use Rattle.hpgl.proofs.ValidFacts.{chords-most}
 use Rattle.queue.proofs.storing.queued.Statement.{statement}
 use Rattle.queue.proofs.storing.queued.Tie as tie
 

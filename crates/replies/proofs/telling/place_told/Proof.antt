@@ -9,7 +9,7 @@ use Rattle.exact.specs.Fit.{m64, arg}
 use Rattle.clip.specs.declared.Point.{Point}
 use Rattle.hpgl.specs.Place.{location}
 use Rattle.hpgl.specs.Replies.{place_told}
-use Rattle.hpgl.specs.ValidFacts.{placed-locatable}
+use Rattle.hpgl.proofs.ValidFacts.{placed-locatable}
 use Rattle.replies.proofs.telling.place_told.Statement.{statement}
 use Rattle.replies.proofs.telling.place_told.Tie as tie
 

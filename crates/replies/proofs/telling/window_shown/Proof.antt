@@ -1,7 +1,7 @@
 -- The proof of `window_shown`: by whether a window is set. Hard limits are small.
 use mathlib.Core.Path.{refl, ◌∙◌}
 use Rattle.hpgl.specs.Replies.{window_shown}
-use Rattle.hpgl.specs.ValidFacts.{hard-small}
+use Rattle.hpgl.proofs.ValidFacts.{hard-small}
 use Rattle.replies.proofs.telling.window_shown.Statement.{statement}
 use Rattle.replies.proofs.telling.window_shown.Tie as tie
 

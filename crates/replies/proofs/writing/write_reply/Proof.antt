@@ -1,7 +1,7 @@
 -- The proof of `write_reply`: no reply is longer than the buffer aside.
 use borrow.Author.Rules.{rules}
 use native.Mathlib.Omega.{arith}
-use Rattle.hpgl.specs.ReplyLaws.{short}
+use Rattle.hpgl.proofs.ReplyLaws.{short}
 use Rattle.replies.specs.Fetch.{fits, too_short}
 use Rattle.replies.proofs.writing.write_reply.Statement.{statement}
 use Rattle.replies.proofs.writing.write_reply.Tie as tie

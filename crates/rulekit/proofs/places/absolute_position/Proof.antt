@@ -3,7 +3,7 @@ use borrow.Author.Rules.{rules}
 use mathlib.Core.Path.{◌∙◌}
 use Rattle.plane.specs.Position.{absolute_of}
 use Rattle.hpgl.specs.Place.{absolute_position}
-use Rattle.hpgl.specs.ValidFacts.{axis-bounds-x, axis-bounds-y}
+use Rattle.hpgl.proofs.ValidFacts.{axis-bounds-x, axis-bounds-y}
 use Rattle.rulekit.proofs.places.absolute_position.Statement.{statement}
 use Rattle.rulekit.proofs.places.absolute_position.Tie as tie
 

@@ -4,7 +4,7 @@ use Rattle.clip.specs.Reach.{SmallPoint}
 use Rattle.clip.specs.declared.Point.{Point}
 use Rattle.turns.specs.Turn.{turned_of}
 use Rattle.hpgl.specs.Place.{page_point}
-use Rattle.hpgl.specs.ValidFacts.{placed-locatable}
+use Rattle.hpgl.proofs.ValidFacts.{placed-locatable}
 use Rattle.rulekit.proofs.places.page_point.Statement.{statement}
 use Rattle.rulekit.proofs.places.page_point.Tie as tie
 

@@ -2,7 +2,7 @@
 use mathlib.Core.Path.{refl}
 use borrow.Author.Rules.{rules}
 use Rattle.hpgl.specs.Rules.{ar_rule}
-use Rattle.hpgl.specs.ValidFacts.{placed-offset, relative-locatable}
+use Rattle.hpgl.proofs.ValidFacts.{placed-offset, relative-locatable}
 use Rattle.rulekit.specs.Locating.{first-two-small}
 use Rattle.shapes.proofs.arcs.ar_rule.Statement.{statement}
 use Rattle.shapes.proofs.arcs.ar_rule.Tie as tie

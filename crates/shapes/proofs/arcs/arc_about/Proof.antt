@@ -5,7 +5,7 @@ use lib.IntN.{nat_abs}
 use mir.Syntax.{w16, w64}
 use Rattle.exact.specs.Fit.{m64, got, to-nat}
 use Rattle.hpgl.specs.Rules.{good_sweep, good_angle, swept_angle, arc_angle, arc, arc_by, arc_about}
-use Rattle.hpgl.specs.ValidFacts.{from-to}
+use Rattle.hpgl.proofs.ValidFacts.{from-to}
 use Rattle.shapes.proofs.arcs.arc_about.Statement.{statement}
 use Rattle.shapes.proofs.arcs.arc_about.Tie as tie
 

@@ -13,7 +13,7 @@ use Rattle.hpgl.specs.declared.Circle.{Circle}
 use Rattle.hpgl.specs.Place.{axis_x, axis_y}
 use Rattle.hpgl.specs.Rules.{arc, follow, arc_by}
 use Rattle.hpgl.specs.Valid.{WholeCircle}
-use Rattle.hpgl.specs.ValidFacts.{axis-bounds-x, axis-bounds-y, sweep-size, arc-valid}
+use Rattle.hpgl.proofs.ValidFacts.{axis-bounds-x, axis-bounds-y, sweep-size, arc-valid}
 use Rattle.shapes.proofs.arcs.arc_by.Statement.{statement}
 use Rattle.shapes.proofs.arcs.arc_by.Tie as tie
 

@@ -7,7 +7,7 @@ use Rattle.plane.specs.declared.position.Axis.{Axis}
 use Rattle.plane.specs.Arc.{way_of}
 use Rattle.plane.specs.Circle.{centre_of}
 use Rattle.hpgl.specs.Rules.{way_from, arc}
-use Rattle.hpgl.specs.ValidFacts.{axis-bounds-x, axis-bounds-y, placed-locatable}
+use Rattle.hpgl.proofs.ValidFacts.{axis-bounds-x, axis-bounds-y, placed-locatable}
 use Rattle.rulekit.specs.Locating.{here-locatable}
 use Rattle.shapes.proofs.arcs.arc_of.Statement.{statement}
 use Rattle.shapes.proofs.arcs.arc_of.Tie as tie

@@ -9,7 +9,7 @@ use Rattle.reader.specs.declared.Coordinates.{Coordinates}
 use Rattle.plane.specs.Bounds.{most_number}
 use Rattle.hpgl.specs.Place.{location, in_range, relative_position}
 use Rattle.hpgl.specs.Rules.{circle_fits}
-use Rattle.hpgl.specs.ValidFacts.{along-x, along-y}
+use Rattle.hpgl.proofs.ValidFacts.{along-x, along-y}
 use Rattle.shapes.proofs.circles.circle_fits.Statement.{statement}
 use Rattle.shapes.proofs.circles.circle_fits.Tie as tie
 

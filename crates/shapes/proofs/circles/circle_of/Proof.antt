@@ -8,7 +8,7 @@ use Rattle.plane.specs.declared.position.Axis.{Axis}
 use Rattle.plane.specs.Circle.{centre_of}
 use Rattle.hpgl.specs.Place.{location, relative_position}
 use Rattle.hpgl.specs.Rules.{circle}
-use Rattle.hpgl.specs.ValidFacts.{axis-bounds-x, axis-bounds-y, placed-locatable}
+use Rattle.hpgl.proofs.ValidFacts.{axis-bounds-x, axis-bounds-y, placed-locatable}
 use Rattle.shapes.proofs.circles.circle_of.Statement.{statement}
 use Rattle.shapes.proofs.circles.circle_of.Tie as tie
 

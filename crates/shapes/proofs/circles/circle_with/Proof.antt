@@ -8,7 +8,7 @@ use Rattle.plane.specs.Bounds.{most_number}
 use Rattle.hpgl.specs.declared.Circle.{Circle}
 use Rattle.hpgl.specs.declared.Action.TheVariants.{Chords}
 use Rattle.hpgl.specs.Rules.{done, good_angle, circle, circle_fits, circle_with}
-use Rattle.hpgl.specs.ValidFacts.{from-to}
+use Rattle.hpgl.proofs.ValidFacts.{from-to}
 use Rattle.shapes.proofs.circles.circle_with.Statement.{statement}
 use Rattle.shapes.proofs.circles.circle_with.Tie as tie
 

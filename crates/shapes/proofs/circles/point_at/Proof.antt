@@ -1,7 +1,7 @@
 -- The proof of `point_at`: a position that is kept may be moved, and located.
 use mathlib.Core.Path.{ap, ◌∙◌}
 use Rattle.hpgl.specs.Place.{location}
-use Rattle.hpgl.specs.ValidFacts.{placed-offset, relative-locatable}
+use Rattle.hpgl.proofs.ValidFacts.{placed-offset, relative-locatable}
 use Rattle.shapes.proofs.circles.point_at.Statement.{statement}
 use Rattle.shapes.proofs.circles.point_at.Tie as tie
 

@@ -2,7 +2,7 @@
 use mathlib.Core.Path.{refl, sym, ap, ◌∙◌}
 use borrow.Author.Rules.{rules}
 use Rattle.hpgl.specs.Rules.{refuse, go_to, pair_rule}
-use Rattle.hpgl.specs.ValidFacts.{in-range-small}
+use Rattle.hpgl.proofs.ValidFacts.{in-range-small}
 use Rattle.rulekit.specs.Hand.{line_of, location_in, location-in}
 use Rattle.rulekit.specs.Locating.{aim-needs, aim-locatable}
 use Rattle.shapes.proofs.moves.shift.Statement.{statement}

@@ -6,7 +6,7 @@ use borrow.Author.Rules.{rules}
 use borrow.Author.Tests.{le-leb, lt-leb}
 use Rattle.hpgl.specs.Numbers.{point_bytes, pen_bytes}
 use Rattle.hpgl.specs.Rules.{edge_to, store_point}
-use Rattle.hpgl.specs.ValidFacts.{cost-most}
+use Rattle.hpgl.proofs.ValidFacts.{cost-most}
 use Rattle.hpgl.specs.declared.Position.{Position}
 use Rattle.rulekit.specs.declared.hand.Hand.{Hand}
 use Rattle.rulekit.specs.Hand.{pointed_of, location_in}

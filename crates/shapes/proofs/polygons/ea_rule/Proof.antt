@@ -2,7 +2,7 @@
 use mathlib.Core.Path.{refl}
 use borrow.Author.Rules.{rules}
 use Rattle.hpgl.specs.Rules.{ea_rule}
-use Rattle.hpgl.specs.ValidFacts.{absolute-locatable}
+use Rattle.hpgl.proofs.ValidFacts.{absolute-locatable}
 use Rattle.rulekit.specs.Locating.{first-two-small}
 use Rattle.shapes.proofs.polygons.ea_rule.Statement.{statement}
 use Rattle.shapes.proofs.polygons.ea_rule.Tie as tie

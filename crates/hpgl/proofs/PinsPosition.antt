@@ -14,7 +14,7 @@ use Rattle.reader.specs.declared.Event.TheVariants.{Nothing, Named, Pair, Ended,
 use Rattle.mnemonics.specs.Table.{PU, PD, PR, known_in_polygon}
 use Rattle.plane.specs.declared.position.ExactPosition.{ExactPosition}
 use Rattle.plane.specs.Position.{axis_of, absolute_of, relative_of, exact_of}
-use Rattle.hpgl.specs.Cases.{pick, cond-true, cond-false}
+use Rattle.hpgl.proofs.Cases.{pick, cond-true, cond-false}
 use Rattle.hpgl.specs.declared.Position.{Position}
 use Rattle.hpgl.specs.declared.Range.{Range}
 use Rattle.hpgl.specs.declared.Settings.{Settings}

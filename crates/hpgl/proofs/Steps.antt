@@ -28,7 +28,7 @@ use Rattle.plane.specs.Circle.{chords_of, angle_of, rotated_of, vertex_point_of,
 use Rattle.plane.specs.Arc.{parts_of, bend_of, arc_point}
 use Rattle.plane.specs.CircleLaws.{vertex-nearest, vertex-point-split, point-0}
 use Rattle.plane.specs.ArcLaws.{circle-arc, arc-nearest, arc-split}
-use Rattle.hpgl.specs.Cases.{never, pick, cond-true, cond-false}
+use Rattle.hpgl.proofs.Cases.{never, pick, cond-true, cond-false}
 use Rattle.hpgl.specs.declared.Position.{Position}
 use Rattle.hpgl.specs.declared.Window.{Window}
 use Rattle.hpgl.specs.declared.Settings.{Settings}
@@ -45,15 +45,15 @@ use Rattle.hpgl.specs.declared.Work.TheVariants as work
 use Rattle.hpgl.specs.Numbers.{polygon_bytes, mode_bytes, point_bytes, most_pen, least_angle, whole_turn}
 use Rattle.hpgl.specs.Place.{point, rounded, axis_x, axis_y, exact_position, location, in_range, absolute_position, relative_position, page_point}
 use Rattle.hpgl.specs.Change.{with_position, with_pen, with_polygon, with_settings, with_carriage, with_corners, with_scale, with_turn, with_window}
-use Rattle.hpgl.specs.Ends as ends
-use Rattle.hpgl.specs.Ends.{Works, Rests, other, by_end}
+use Rattle.hpgl.proofs.Ends as ends
+use Rattle.hpgl.proofs.Ends.{Works, Rests, other, by_end}
 use Rattle.hpgl.specs.Rules.{done, refuse, unscaled, no_window, fresh_settings, no_polygon, fresh_carriage, letters, name_rule, rebased, in_rule, df_rule, good_corners, set_corners, ip_rule, sc_rule, set_turn, turn_to, ro_rule, set_window, iw_rule, set_pen, sp_rule, inked, spent, move_to, point_cost, longer, edge_to, store_point, aimed, go_to, pair_rule, begun, pm0, differ, closes, ended_with, ended, pm1_in, pm1, leave, pm2_in, pm2, pm_rule, ep_rule, rectangular, rectangle_to, first_two, ea_rule, er_rule, circle_fits, circle, circle_with, chord_angle, ci_rule, swept_angle, arc_angle, way_from, arc, follow, arc_about, aa_rule, ar_rule, oa_rule, op_rule, ow_rule, oh_rule, oe_rule, noting, noted, end_rule, act_on}
 use Rattle.hpgl.specs.Replies.{remembered, remembering}
 use Rattle.hpgl.specs.Machine.{vertex_in, vertex, rectangle_edges, stored, queued}
 use Rattle.hpgl.specs.ExactModel.{ExactPolygon, ExactSegment, exact_segment, outline, vertex_at, arc_vertex, path, last_of, rectangle, polygon_mode, after_end, polygon_after, inked_only, move, arc_moves, instructed, added}
 use Rattle.hpgl.specs.Related.{Sound, Fit, edges_from, edges_of, edges_after, all_edges, polygon_edges, some, Linked, turned_edges, chords_from, view, on_page}
-use Rattle.hpgl.specs.ArcCases.{by-arc}
-use Rattle.hpgl.specs.PolygonLinked.{location-nearest, grown, ended-closed, ended-open, rectangle-linked, turned-outline}
+use Rattle.hpgl.proofs.ArcCases.{by-arc}
+use Rattle.hpgl.proofs.PolygonLinked.{location-nearest, grown, ended-closed, ended-open, rectangle-linked, turned-outline}
 
 -- ---- the model after an event with a number
 

@@ -22,23 +22,23 @@ use Rattle.hpgl.specs.declared.Work.TheVariants as work
 use Rattle.hpgl.specs.declared.State.{State}
 use Rattle.hpgl.specs.Place.{point}
 use Rattle.hpgl.specs.declared.Acted.{Acted}
-use Rattle.hpgl.specs.Ends as ends
-use Rattle.hpgl.specs.Ends.{Works, by_end}
+use Rattle.hpgl.proofs.Ends as ends
+use Rattle.hpgl.proofs.Ends.{Works, by_end}
 use Rattle.hpgl.specs.Rules.{fresh_settings, no_polygon, fresh_carriage, fresh_core, int16, end_rule, act_on}
 use Rattle.hpgl.specs.Machine.{good_limits, hard_limits, no_edge, fresh_state, waiting, replied, replying, occupied, fetch_state, rectangle_edges, stored, queued, applied, acted, take_state, work_after, draw_state}
 use Rattle.hpgl.specs.Numbers.{most_edges}
 use Rattle.hpgl.specs.Valid.{ValidSettings, ValidCore, ValidEvent, SmallEdge, ValidAction, ValidActed, ValidWork, Every, none, more, Inked, Knows, Valid, Usable, clear}
 use Rattle.hpgl.specs.Replies.{reply_text}
 use Rattle.hpgl.specs.Made as made
-use Rattle.hpgl.specs.ValidFacts.{and_both, rest-placed, origin-small, unknown-outside, fewer, chords-most}
-use Rattle.hpgl.specs.Cases.{never, pick, whether}
-use Rattle.hpgl.specs.KeptCases.{valid-core, refuses, keeps}
-use Rattle.hpgl.specs.SettingsKept.{valid-name, int16-short, fresh-settings, no-polygon, valid-in, valid-df, valid-ip, valid-sc, valid-ro, valid-iw, valid-sp}
-use Rattle.hpgl.specs.PositionKept.{valid-pair}
-use Rattle.hpgl.specs.PolygonKept.{valid-pm, valid-ep, valid-ea, valid-er}
-use Rattle.hpgl.specs.VerticesKept.{valid-ci, valid-aa, valid-ar}
-use Rattle.hpgl.specs.RepliesKept.{valid-oa, valid-op, valid-ow, valid-oh, valid-oe, valid-noted}
-use Rattle.hpgl.specs.ReaderKept.{step-event, known-after, readable-after}
+use Rattle.hpgl.proofs.ValidFacts.{and_both, rest-placed, origin-small, unknown-outside, fewer, chords-most}
+use Rattle.hpgl.proofs.Cases.{never, pick, whether}
+use Rattle.hpgl.proofs.KeptCases.{valid-core, refuses, keeps}
+use Rattle.hpgl.proofs.SettingsKept.{valid-name, int16-short, fresh-settings, no-polygon, valid-in, valid-df, valid-ip, valid-sc, valid-ro, valid-iw, valid-sp}
+use Rattle.hpgl.proofs.PositionKept.{valid-pair}
+use Rattle.hpgl.proofs.PolygonKept.{valid-pm, valid-ep, valid-ea, valid-er}
+use Rattle.hpgl.proofs.VerticesKept.{valid-ci, valid-aa, valid-ar}
+use Rattle.hpgl.proofs.RepliesKept.{valid-oa, valid-op, valid-ow, valid-oh, valid-oe, valid-noted}
+use Rattle.hpgl.proofs.ReaderKept.{step-event, known-after, readable-after}
 
 -- ---- every event
 

@@ -23,7 +23,7 @@ use Rattle.plane.specs.Circle.{rotated_of, exact_vertex, vertex_point_of}
 use Rattle.plane.specs.CircleLaws.{vertex-nearest, vertex-point-split}
 use Rattle.plane.specs.Arc.{exact_way, parts_of, towards, bend_of, exact_arc}
 use Rattle.plane.specs.ArcLaws.{way-exact, relative-way, parts-law, parts-some, bend-inner, bend-last}
-use Rattle.hpgl.specs.Cases.{pick}
+use Rattle.hpgl.proofs.Cases.{pick}
 use Rattle.hpgl.specs.declared.Position.{Position}
 use Rattle.hpgl.specs.declared.Range.{Range}
 use Rattle.hpgl.specs.declared.Settings.{Settings}
@@ -32,21 +32,21 @@ use Rattle.hpgl.specs.declared.State.{State}
 use Rattle.hpgl.specs.declared.Acted.{Acted}
 use Rattle.hpgl.specs.Place.{point, axis_x, axis_y, exact_position, relative_position, rest_at}
 use Rattle.hpgl.specs.Rules.{done, refuse, swept_angle, arc_angle, way_from, arc, last_vertex, follow, arc_about, aa_rule, ar_rule, end_rule, act_on, noted}
-use Rattle.hpgl.specs.ArcCases.{Passed, arc_of, by-arc}
+use Rattle.hpgl.proofs.ArcCases.{Passed, arc_of, by-arc}
 use Rattle.hpgl.specs.Machine.{occupied, applied, acted, take_state, take_number}
-use Rattle.hpgl.specs.Noted.{noted-none}
+use Rattle.hpgl.proofs.Noted.{noted-none}
 use Rattle.hpgl.specs.ExactModel.{ExactPolygon, ExactSegment, arc_vertex, path, inked_only, arc_moves, instructed, added}
 use Rattle.hpgl.specs.Made.{Made}
 use Rattle.hpgl.specs.Valid.{Usable}
-use Rattle.hpgl.specs.ValidFacts.{from-to, sweep-some}
-use Rattle.hpgl.specs.ValidKept.{made-usable}
+use Rattle.hpgl.proofs.ValidFacts.{from-to, sweep-some}
+use Rattle.hpgl.proofs.ValidKept.{made-usable}
 use Rattle.hpgl.specs.Related.{Sound, Spanned}
-use Rattle.hpgl.specs.PinsPosition.{span_of, width_of, Moves, standing}
-use Rattle.hpgl.specs.PinsCircle.{Joins, axis-vertex, count, joined}
+use Rattle.hpgl.proofs.PinsPosition.{span_of, width_of, Moves, standing}
+use Rattle.hpgl.proofs.PinsCircle.{Joins, axis-vertex, count, joined}
 use Rattle.hpgl.specs.Effects.{centre_aa, centre_ar}
 use Rattle.hpgl.specs.Refusals.{IsNearest, Angle, WayFrom}
-use Rattle.hpgl.specs.RefusalsProof.{sweep-one, arc-angle-one, way-from-one}
-use Rattle.hpgl.specs.WhatTakeDoes.{sound, spanned}
+use Rattle.hpgl.proofs.RefusalsProof.{sweep-one, arc-angle-one, way-from-one}
+use Rattle.hpgl.proofs.WhatTakeDoes.{sound, spanned}
 
 -- ---- in 02's words
 

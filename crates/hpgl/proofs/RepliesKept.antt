@@ -13,8 +13,8 @@ use Rattle.hpgl.specs.Replies.{place_told, corners_told, box_told, window_shown,
 use Rattle.hpgl.specs.Rules.{oa_rule, op_rule, ow_rule, oh_rule, oe_rule, noting, noted}
 use Rattle.hpgl.specs.Machine.{waiting, queued}
 use Rattle.hpgl.specs.Valid.{ShortRect, Recalled, clear, given, ValidCore, one, three, four, ValidReply, ValidActed}
-use Rattle.hpgl.specs.Cases.{pick, whether}
-use Rattle.hpgl.specs.KeptCases.{Inks, valid-core, acts}
+use Rattle.hpgl.proofs.Cases.{pick, whether}
+use Rattle.hpgl.proofs.KeptCases.{Inks, valid-core, acts}
 
 -- a reply is no segment
 answers : (d : Core) (r : Reply) → Inks d (Answer r)

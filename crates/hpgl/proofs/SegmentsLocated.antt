@@ -15,12 +15,12 @@ use Rattle.reader.specs.declared.Event.TheVariants.{Nothing, Named, Pair, Ended,
 use Rattle.mnemonics.specs.Table.{EP, CI, EA, ER, AA, AR}
 use Rattle.turns.specs.Turn.{turn_count}
 use Rattle.turns.proofs.BoxLaws.{turned-rounds}
-use Rattle.hpgl.specs.Cases.{pick}
+use Rattle.hpgl.proofs.Cases.{pick}
 use Rattle.hpgl.specs.declared.Position.{Position}
 use Rattle.hpgl.specs.declared.Core.{Core}
 use Rattle.hpgl.specs.ExactModel.{PolygonPoint, Subpolygon, ExactPolygon, ExactSegment, exact_segment, sides_from, sides, all_sides, outline, path, inked_only, move, arc_moves, instructed, added}
 use Rattle.hpgl.specs.Related.{Located, AllLocated, none, more}
-use Rattle.hpgl.specs.Steps.{added_by}
+use Rattle.hpgl.proofs.Steps.{added_by}
 
 module _ (d : Core) (t : d.settings.turn < turn_count) where
   abbrev All : List ExactSegment → Type 0

@@ -14,8 +14,8 @@ use Rattle.hpgl.specs.declared.State.{State}
 use Rattle.hpgl.specs.Machine.{reader_after, acted}
 use Rattle.hpgl.specs.Valid.{ValidEvent, Knows, Valid}
 use Rattle.hpgl.specs.Rules.{noting, noted}
-use Rattle.hpgl.specs.Cases.{pick}
-use Rattle.hpgl.specs.OpenInstruction.{knows_after, ends-known}
+use Rattle.hpgl.proofs.Cases.{pick}
+use Rattle.hpgl.proofs.OpenInstruction.{knows_after, ends-known}
 
 cause-small : (n : ℕ) → T (is_cause n) → n < 256
 cause-small n t = go (leb 1 n) (leb n 3) refl t

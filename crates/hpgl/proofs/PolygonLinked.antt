@@ -9,7 +9,7 @@ use native.Mathlib.Omega.{arith}
 use Rattle.std.proofs.Math.ListN.{length-set}
 use Rattle.clip.specs.Line.{nearest}
 use Rattle.plane.specs.PositionLaws as plane
-use Rattle.hpgl.specs.Cases.{never}
+use Rattle.hpgl.proofs.Cases.{never}
 use Rattle.hpgl.specs.declared.Position.{Position}
 use Rattle.hpgl.specs.declared.Settings.{Settings}
 use Rattle.hpgl.specs.declared.Polygon.{Polygon}

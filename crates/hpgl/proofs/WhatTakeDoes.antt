@@ -13,17 +13,17 @@ use Rattle.hpgl.specs.declared.State.{State}
 use Rattle.hpgl.specs.Place.{point, location, rest_at}
 use Rattle.hpgl.specs.Rules.{fresh_settings, no_polygon, fresh_carriage, fresh_core, noting, noted, act_on}
 use Rattle.hpgl.specs.Machine.{rect, fresh_state, fresh_number, waiting, replied, reader_after, applied, acted, take_state, take_number, look_at}
-pub use Rattle.hpgl.specs.Free.{Free, free-is}
-use Rattle.hpgl.specs.Free.{taken-or}
+pub use Rattle.hpgl.proofs.Free.{Free, free-is}
+use Rattle.hpgl.proofs.Free.{taken-or}
 use Rattle.hpgl.specs.Valid.{ValidEvent, ValidSettings, Usable}
-use Rattle.hpgl.specs.ValidFacts.{axis-bounds-x, axis-bounds-y}
-use Rattle.hpgl.specs.ReaderKept.{step-event}
+use Rattle.hpgl.proofs.ValidFacts.{axis-bounds-x, axis-bounds-y}
+use Rattle.hpgl.proofs.ReaderKept.{step-event}
 use Rattle.hpgl.specs.Related.{Sound, Spanned}
 use Rattle.hpgl.specs.Instruction.{instruction}
 use Rattle.hpgl.specs.Effects.{Happens, nothing, name, pair, end, refused, changed_by, remembers}
-use Rattle.hpgl.specs.EffectsProof.{obeyed, remembers-so}
+use Rattle.hpgl.proofs.EffectsProof.{obeyed, remembers-so}
 use Rattle.hpgl.specs.Refusals.{Needs, Numbered, GoodLimits}
-use Rattle.hpgl.specs.RefusalsProof.{judged, fresh-judged, fresh-limits}
+use Rattle.hpgl.proofs.RefusalsProof.{judged, fresh-judged, fresh-limits}
 
 -- ---- Take
 

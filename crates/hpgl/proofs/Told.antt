@@ -25,10 +25,10 @@ use Rattle.hpgl.specs.declared.Work.{Work}
 use Rattle.hpgl.specs.Numbers.{polygon_bytes, mode_bytes, point_bytes, most_pen, least_angle}
 use Rattle.hpgl.specs.Place.{rounded, location, in_range, absolute_position}
 use Rattle.hpgl.specs.Replies.{no_reply, reply_of}
-use Rattle.hpgl.specs.Cases.{pick}
-use Rattle.hpgl.specs.ArcCases.{by-arc}
-use Rattle.hpgl.specs.Ends as ends
-use Rattle.hpgl.specs.Ends.{Works, Rests, other, by_end}
+use Rattle.hpgl.proofs.Cases.{pick}
+use Rattle.hpgl.proofs.ArcCases.{by-arc}
+use Rattle.hpgl.proofs.Ends as ends
+use Rattle.hpgl.proofs.Ends.{Works, Rests, other, by_end}
 use Rattle.hpgl.specs.Rules.{done, refuse, name_rule, in_rule, df_rule, good_corners, set_corners, ip_rule, sc_rule, set_turn, turn_to, ro_rule, set_window, iw_rule, set_pen, sp_rule, inked, move_to, point_cost, edge_to, store_point, aimed, go_to, pair_rule, pm0, closes, pm1_in, pm1, pm2_in, pm2, pm_rule, ep_rule, rectangle_to, ea_rule, er_rule, circle_fits, circle_with, chord_angle, ci_rule, follow, arc_about, aa_rule, ar_rule, oa_rule, op_rule, ow_rule, oh_rule, oe_rule, end_rule, act_on}
 use Rattle.hpgl.specs.Machine.{queued, replied}
 use Rattle.hpgl.specs.ExactModel.{answered}

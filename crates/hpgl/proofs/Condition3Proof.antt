@@ -9,7 +9,7 @@ use Rattle.reader.specs.declared.Event.{Event}
 use Rattle.reader.specs.declared.Reader.{Reader}
 use Rattle.reader.specs.Step.{step_of}
 use Rattle.reader.specs.InsideLaws.{Leads, step-tells}
-use Rattle.hpgl.specs.Cases.{never, pick, choose}
+use Rattle.hpgl.proofs.Cases.{never, pick, choose}
 use Rattle.hpgl.specs.declared.Settings.{Settings}
 use Rattle.hpgl.specs.declared.Core.{Core}
 use Rattle.hpgl.specs.declared.Edge.{Edge}
@@ -28,11 +28,11 @@ use Rattle.hpgl.specs.Replies.{no_reply, reply_text}
 use Rattle.hpgl.specs.Condition3.{Call, take, draw, fetch, state_after, model_after, Holds, HoldsAt, HoldsAll, Condition3}
 use Rattle.hpgl.specs.Valid.{Knows}
 use Rattle.hpgl.specs.Related.{edges_from, polygon_edges, edges_of, all_edges, PageSegment, turned_edges, chords_from, view, on_page, AllLocated, none, more, Related}
-use Rattle.hpgl.specs.Near.{keeps-promise}
-use Rattle.hpgl.specs.SegmentsLocated.{located-by}
-use Rattle.hpgl.specs.OpenInstruction.{knows_after, ends-known}
-use Rattle.hpgl.specs.Steps.{polygon_by, added_by, Keeps, keeps, keeps-noted, sound-fresh}
-use Rattle.hpgl.specs.Told.{queued-reply, answered_by, answers}
+use Rattle.hpgl.proofs.Near.{keeps-promise}
+use Rattle.hpgl.proofs.SegmentsLocated.{located-by}
+use Rattle.hpgl.proofs.OpenInstruction.{knows_after, ends-known}
+use Rattle.hpgl.proofs.Steps.{polygon_by, added_by, Keeps, keeps, keeps-noted, sound-fresh}
+use Rattle.hpgl.proofs.Told.{queued-reply, answered_by, answers}
 
 -- ---- draw
 

@@ -14,7 +14,7 @@ use Rattle.clip.specs.declared.Clipped.TheVariants as clipped
 use Rattle.turns.specs.Turn.{turned_box_of}
 use Rattle.turns.specs.Limits.{limits_of}
 use Rattle.turns.proofs.LimitsLaws.{intersection-within}
-use Rattle.hpgl.specs.Cases.{never}
+use Rattle.hpgl.proofs.Cases.{never}
 use Rattle.hpgl.specs.declared.Settings.{Settings}
 use Rattle.hpgl.specs.declared.Core.{Core}
 use Rattle.hpgl.specs.declared.Drawn.TheVariants as drawn

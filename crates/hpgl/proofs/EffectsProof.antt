@@ -17,7 +17,7 @@ use Rattle.turns.specs.Turn.{turn_count, find_turn, turned_back_of}
 use Rattle.turns.proofs.TurnLaws.{back-forth}
 use Rattle.turns.proofs.TurnsSaid.{quarters-found}
 use Rattle.plane.specs.CircleLaws.{vertex-point-split}
-use Rattle.hpgl.specs.Cases.{pick, choose, whether}
+use Rattle.hpgl.proofs.Cases.{pick, choose, whether}
 use Rattle.hpgl.specs.declared.Position.{Position}
 use Rattle.hpgl.specs.declared.Scale.{Scale}
 use Rattle.hpgl.specs.declared.Window.{Window}
@@ -34,7 +34,7 @@ use Rattle.hpgl.specs.Rules.{done, refuse, unscaled, no_window, inked, fresh_set
 use Rattle.hpgl.specs.Replies.{remembered, remembering}
 use Rattle.hpgl.specs.Instruction.{Instruction, IN, DF, EP, IP, SC, IW, RO, SP, PM, CI, EA, ER, AA, AR, OA, OP, OW, OH, OE, PU, PD, PA, PR}
 use Rattle.hpgl.specs.Related.{Sound}
-use Rattle.hpgl.specs.ArcCases.{by-arc}
+use Rattle.hpgl.proofs.ArcCases.{by-arc}
 use Rattle.hpgl.specs.Effects as effects
 use Rattle.hpgl.specs.Effects.{◌▸◌, pen_number, corners, scale, turn, window, position, polygon, asked, changed_by, Happens, nothing, name, pair, end, refused, remembers}
 

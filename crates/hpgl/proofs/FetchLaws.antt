@@ -12,7 +12,7 @@ use Rattle.hpgl.specs.declared.State.{State}
 use Rattle.hpgl.specs.declared.Work.{Work}
 use Rattle.hpgl.specs.declared.Work.TheVariants.{Nothing}
 use Rattle.hpgl.specs.Change.{with_work}
-use Rattle.hpgl.specs.Cases.{never, pick}
+use Rattle.hpgl.proofs.Cases.{never, pick}
 use Rattle.hpgl.specs.Replies.{numbers_told, text_of, reply_text}
 use Rattle.hpgl.specs.Machine.{waiting, replied, replying, fetch_state, fetched_of, fetch_text}
 

@@ -14,7 +14,7 @@ use Rattle.mnemonics.specs.Table as code
 use Rattle.hpgl.specs.declared.Polygon.{Polygon}
 use Rattle.hpgl.specs.declared.Core.{Core}
 use Rattle.hpgl.specs.declared.State.{State}
-use Rattle.hpgl.specs.Cases.{pick}
+use Rattle.hpgl.proofs.Cases.{pick}
 use Rattle.hpgl.specs.Replies.{reply_text, remembered}
 use Rattle.hpgl.specs.Rules.{fresh_core, fresh_carriage}
 use Rattle.hpgl.specs.Machine.{fresh_state, waiting, replied, replying, take_state, take_number, draw_state, fetch_state}
@@ -22,12 +22,12 @@ use Rattle.hpgl.specs.Made as made
 use Rattle.hpgl.specs.Made.{Made}
 use Rattle.hpgl.specs.Condition3 as call
 use Rattle.hpgl.specs.Condition3.{Call, state_after}
-use Rattle.hpgl.specs.PinsReply.{Told, take-oe}
-use Rattle.hpgl.specs.ValidKept.{made-usable}
-use Rattle.hpgl.specs.Pins.{TakeNumber, none, one, two, three, six, seven, twenty, take-number}
+use Rattle.hpgl.proofs.PinsReply.{Told, take-oe}
+use Rattle.hpgl.proofs.ValidKept.{made-usable}
+use Rattle.hpgl.proofs.Pins.{TakeNumber, none, one, two, three, six, seven, twenty, take-number}
 use Rattle.hpgl.specs.Instruction.{Instruction, IN, DF, EP, IP, SC, IW, RO, SP, PM, CI, EA, ER, AA, AR, OA, OP, OW, OH, OE, PU, PD, PA, PR}
 use Rattle.hpgl.specs.Effects.{Happens, nothing, name, pair, end, refused, asked, at_name, at_end, changed_by, remembers}
-use Rattle.hpgl.specs.WhatTakeDoes.{Free, Does, take-does}
+use Rattle.hpgl.proofs.WhatTakeDoes.{Free, Does, take-does}
 
 -- ---- the statement
 

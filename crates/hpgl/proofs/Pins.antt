@@ -22,7 +22,7 @@ use Rattle.reader.specs.Reader.{go_on_of, quiet_of, label_end}
 use Rattle.reader.specs.Step.{label_of, by_mode, step_of}
 use Rattle.turns.specs.Turn.{turn_count, find_turn}
 use Rattle.plane.specs.Bounds.{most_angle}
-use Rattle.hpgl.specs.Cases.{pick}
+use Rattle.hpgl.proofs.Cases.{pick}
 use Rattle.hpgl.specs.declared.Position.{Position}
 use Rattle.hpgl.specs.declared.Core.{Core}
 use Rattle.hpgl.specs.declared.Action.{Action}
@@ -32,9 +32,9 @@ use Rattle.hpgl.specs.declared.Work.TheVariants as work
 use Rattle.hpgl.specs.declared.State.{State}
 use Rattle.hpgl.specs.Numbers.{unknown, out_of_range, too_far, polygon_full, busy, polygon_bytes, mode_bytes, point_bytes, most_pen, least_angle}
 use Rattle.hpgl.specs.Place.{rounded, location, in_range, absolute_position, relative_position}
-use Rattle.hpgl.specs.Ends as ends
-use Rattle.hpgl.specs.Ends.{Works, by_end}
-use Rattle.hpgl.specs.ArcCases.{by-arc}
+use Rattle.hpgl.proofs.Ends as ends
+use Rattle.hpgl.proofs.Ends.{Works, by_end}
+use Rattle.hpgl.proofs.ArcCases.{by-arc}
 use Rattle.hpgl.specs.Change.{with_work}
 use Rattle.hpgl.specs.Rules.{done, refuse, name_rule, in_rule, df_rule, good_corners, set_corners, ip_rule, sc_rule, set_turn, turn_to, ro_rule, set_window, iw_rule, set_pen, sp_rule, move_to, point_cost, store_point, aimed, go_to, pair_rule, pm0, closes, ended, pm1_in, pm1, leave, pm2_in, pm2, pm_rule, ep_rule, rectangle_to, first_two, ea_rule, er_rule, circle_fits, circle_with, chord_angle, ci_rule, follow, arc_about, aa_rule, ar_rule, oa_rule, op_rule, ow_rule, oh_rule, oe_rule, noting, noted, end_rule, act_on}
 use Rattle.hpgl.specs.Replies.{remembered, remembering}

@@ -17,22 +17,22 @@ use Rattle.reader.specs.declared.Event.TheVariants.{Nothing, Named, Pair, Ended,
 use Rattle.mnemonics.specs.Table.{IN, PM, EA, ER, PU, PD, PA, PR, known_in_polygon}
 use Rattle.turns.specs.Turn.{turn_count, find_turn}
 use Rattle.plane.specs.Bounds.{most_angle}
-use Rattle.hpgl.specs.Cases.{never, pick, choose, cond-true}
+use Rattle.hpgl.proofs.Cases.{never, pick, choose, cond-true}
 use Rattle.hpgl.specs.declared.Position.{Position}
 use Rattle.hpgl.specs.declared.Saved.{Saved}
 use Rattle.hpgl.specs.declared.Polygon.{Polygon}
 use Rattle.hpgl.specs.declared.Carriage.{Carriage}
 use Rattle.hpgl.specs.declared.Core.{Core}
 use Rattle.hpgl.specs.declared.Action.{Action}
-use Rattle.hpgl.specs.ArcCases.{by-arc}
+use Rattle.hpgl.proofs.ArcCases.{by-arc}
 use Rattle.hpgl.specs.declared.Action.TheVariants.{Keep}
 use Rattle.hpgl.specs.declared.Acted.{Acted}
 use Rattle.hpgl.specs.Numbers.{out_of_range, polygon_full, polygon_bytes, mode_bytes, point_bytes, pen_bytes, most_pen, least_angle}
 use Rattle.hpgl.specs.Place.{rounded, location, in_range}
-use Rattle.hpgl.specs.Ends as ends
-use Rattle.hpgl.specs.Ends.{Works, Rests, other, by_end}
+use Rattle.hpgl.proofs.Ends as ends
+use Rattle.hpgl.proofs.Ends.{Works, Rests, other, by_end}
 use Rattle.hpgl.specs.Rules.{done, refuse, no_polygon, fresh_carriage, fresh_core, letters, name_rule, rebased, in_rule, df_rule, good_corners, set_corners, ip_rule, sc_rule, set_turn, turn_to, ro_rule, set_window, iw_rule, set_pen, sp_rule, move_to, point_cost, longer, store_point, aimed, go_to, pair_rule, begun, pm0, closes, ended_with, ended, pm1_in, pm1, leave, pm2_in, pm2, pm_rule, ep_rule, rectangular, rectangle_to, ea_rule, er_rule, circle_fits, circle_with, chord_angle, ci_rule, follow, arc_about, aa_rule, ar_rule, oa_rule, op_rule, ow_rule, oh_rule, oe_rule, end_rule, act_on}
-use Rattle.hpgl.specs.PinsPosition.{after}
+use Rattle.hpgl.proofs.PinsPosition.{after}
 
 abbrev pub bytes_of : Core → ℕ
 bytes_of c = c.carriage.polygon.bytes

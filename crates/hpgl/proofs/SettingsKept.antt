@@ -26,9 +26,9 @@ use Rattle.hpgl.specs.Place.{rounded, axis_x, axis_y, location, in_range, rest_a
 use Rattle.hpgl.specs.Change.{with_settings, with_carriage, with_corners, with_scale, with_turn, with_window, with_relative}
 use Rattle.hpgl.specs.Rules.{origin, unscaled, no_window, fresh_settings, no_polygon, fresh_carriage, letters, name_rule, rebased, in_rule, df_rule, int16, good_corners, set_corners, ip_rule, sc_rule, set_turn, turn_to, ro_rule, set_window, iw_rule, set_pen, sp_rule}
 use Rattle.hpgl.specs.Valid.{ShortPoint, ShortRect, ValidRange, ValidSettings, Placed, KeptPosition, ValidPolygon, ValidCore, ValidActed, clear}
-use Rattle.hpgl.specs.ValidFacts.{and_both, from-to, in-range-small, rest-placed, page-small, back-small, relative-valid}
-use Rattle.hpgl.specs.Cases.{never, pick, whether}
-use Rattle.hpgl.specs.KeptCases.{valid-core, closed-polygon, refuses, keeps}
+use Rattle.hpgl.proofs.ValidFacts.{and_both, from-to, in-range-small, rest-placed, page-small, back-small, relative-valid}
+use Rattle.hpgl.proofs.Cases.{never, pick, whether}
+use Rattle.hpgl.proofs.KeptCases.{valid-core, closed-polygon, refuses, keeps}
 
 -- ---- names
 

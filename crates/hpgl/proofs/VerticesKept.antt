@@ -14,10 +14,10 @@ use Rattle.hpgl.specs.declared.Core.{Core}
 use Rattle.hpgl.specs.Numbers.{out_of_range, too_far, least_angle}
 use Rattle.hpgl.specs.Rules.{done, inked, circle_fits, circle_with, chord_angle, ci_rule, swept_angle, arc_angle, follow, arc_about, aa_rule, ar_rule}
 use Rattle.hpgl.specs.Valid.{LocatablePosition, ValidCore, ValidAction, WholeCircle, ValidActed}
-use Rattle.hpgl.specs.ValidFacts.{from-to, rest-placed, absolute-locatable, relative-locatable, circle-valid, arc-valid, last-small}
-use Rattle.hpgl.specs.Cases.{pick, whether}
-use Rattle.hpgl.specs.ArcCases.{by-arc}
-use Rattle.hpgl.specs.KeptCases.{valid-core, with-ink, down-with-ink, refuses, acts}
+use Rattle.hpgl.proofs.ValidFacts.{from-to, rest-placed, absolute-locatable, relative-locatable, circle-valid, arc-valid, last-small}
+use Rattle.hpgl.proofs.Cases.{pick, whether}
+use Rattle.hpgl.proofs.ArcCases.{by-arc}
+use Rattle.hpgl.proofs.KeptCases.{valid-core, with-ink, down-with-ink, refuses, acts}
 
 pub valid-circle : {c : Core} {r : ℤ} (a : ℤ) → ValidCore c → Bd r most_number → ValidActed c (circle_with c r a)
 unfolding circle_with

@@ -17,7 +17,7 @@ use Rattle.turns.specs.Turn.{turn_count, find_turn, turned_of, turned_back_of, o
 use Rattle.turns.proofs.TurnLaws.{back-forth, forth-back}
 use Rattle.turns.proofs.TurnsSaid.{turned_none}
 use Rattle.turns.specs.Limits.{intersection_of, limits_of}
-use Rattle.hpgl.specs.Cases.{pick, whether}
+use Rattle.hpgl.proofs.Cases.{pick, whether}
 use Rattle.hpgl.specs.declared.Position.{Position}
 use Rattle.hpgl.specs.declared.Settings.{Settings}
 use Rattle.hpgl.specs.declared.Core.{Core}
@@ -26,8 +26,8 @@ use Rattle.hpgl.specs.Place.{point, axis_x, axis_y, exact_position, location, in
 use Rattle.hpgl.specs.Change.{with_relative, with_carriage}
 use Rattle.hpgl.specs.Rules.{done, refuse, fresh_settings, fresh_carriage, rebased, in_rule, df_rule, good_corners, set_corners, ip_rule, sc_rule, set_turn, turn_to, ro_rule, set_window, iw_rule, end_rule}
 use Rattle.hpgl.specs.Related.{Sound}
-use Rattle.hpgl.specs.PolygonLinked.{location-nearest}
-use Rattle.hpgl.specs.PinsPosition.{StandsFor, placed}
+use Rattle.hpgl.proofs.PolygonLinked.{location-nearest}
+use Rattle.hpgl.proofs.PinsPosition.{StandsFor, placed}
 
 -- ---- "When IN, DF, IP, SC or RO is carried out, B becomes the location and O 0."
 

@@ -12,13 +12,13 @@ use Rattle.mnemonics.specs.Table.{OA, OP, OW, OH, OE}
 use Rattle.turns.specs.Turn.{turned_box_of}
 use Rattle.hpgl.specs.declared.Reply.{Reply}
 use Rattle.hpgl.specs.declared.State.{State}
-use Rattle.hpgl.specs.Cases.{cond-true}
+use Rattle.hpgl.proofs.Cases.{cond-true}
 use Rattle.hpgl.specs.Replies.{place_told, corners_told, box_told, window_shown, window_told, limits_told, refusal_told}
 use Rattle.hpgl.specs.Rules.{done, oa_rule, op_rule, ow_rule, oh_rule, oe_rule, noted, end_rule, act_on}
 use Rattle.hpgl.specs.Machine.{replied, queued, applied, acted, take_state, take_number, look_at}
 use Rattle.hpgl.specs.Valid.{ValidSettings}
-use Rattle.hpgl.specs.Free.{Free, free-is}
-use Rattle.hpgl.specs.ReplyLaws.{ow-turns-back}
+use Rattle.hpgl.proofs.Free.{Free, free-is}
+use Rattle.hpgl.proofs.ReplyLaws.{ow-turns-back}
 
 -- carried out, and so many numbers wait
 pub record Told (m : State) (b : ℕ) (r : Reply) : Type 0 where

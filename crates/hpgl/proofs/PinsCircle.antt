@@ -25,7 +25,7 @@ use Rattle.hpgl.specs.Place.{axis_x, axis_y, exact_position}
 use Rattle.hpgl.specs.Rules.{done, refuse, inked, circle_fits, circle, circle_with, chord_angle, ci_rule}
 use Rattle.hpgl.specs.ExactModel.{ExactSegment, exact_segment, vertex_at, path}
 use Rattle.hpgl.specs.Related.{Sound}
-use Rattle.hpgl.specs.PinsPosition.{span_of, width_of, Moves, standing, less, same-moves}
+use Rattle.hpgl.proofs.PinsPosition.{span_of, width_of, Moves, standing, less, same-moves}
 
 -- ---- in 01's words
 

@@ -10,9 +10,9 @@ use Rattle.hpgl.specs.Numbers.{too_far, polygon_full, polygon_bytes, mode_bytes,
 use Rattle.hpgl.specs.Place.{location, in_range}
 use Rattle.hpgl.specs.Rules.{inked, move_to, point_cost, longer, edge_to, store_point, go_to, pair_rule}
 use Rattle.hpgl.specs.Valid.{LocatablePosition, Placed, KeptPosition, ValidCore, ValidAction, ValidActed}
-use Rattle.hpgl.specs.ValidFacts.{page-small, aimed-locatable, located-placed, placed-kept, cost-least, edge-room}
-use Rattle.hpgl.specs.Cases.{pick, whether}
-use Rattle.hpgl.specs.KeptCases.{Inks, valid-core, quiet, joins, down-with-ink, refuses, acts}
+use Rattle.hpgl.proofs.ValidFacts.{page-small, aimed-locatable, located-placed, placed-kept, cost-least, edge-room}
+use Rattle.hpgl.proofs.Cases.{pick, whether}
+use Rattle.hpgl.proofs.KeptCases.{Inks, valid-core, quiet, joins, down-with-ink, refuses, acts}
 
 pub valid-move : {c : Core} {p : Position} → ValidCore c → Placed c.settings p → ValidActed c (move_to c p)
 unfolding move_to inked

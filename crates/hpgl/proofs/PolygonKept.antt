@@ -16,10 +16,10 @@ use Rattle.hpgl.specs.Numbers.{out_of_range, too_far, polygon_full, polygon_byte
 use Rattle.hpgl.specs.Place.{rounded, location, in_range}
 use Rattle.hpgl.specs.Rules.{inked, edge_to, begun, pm0, closes, ended_with, ended, pm1_in, pm1, leave, pm2_in, pm2, pm_rule, ep_rule, rectangular, rectangle_to, ea_rule, er_rule}
 use Rattle.hpgl.specs.Valid.{LocatablePosition, Placed, ValidPolygon, ValidCore, ValidAction, ValidActed}
-use Rattle.hpgl.specs.ValidFacts.{absolute-locatable, relative-locatable, located-placed, placed-kept, edge-room}
-use Rattle.hpgl.specs.Cases.{pick, whether}
-use Rattle.hpgl.specs.KeptCases.{Inks, valid-core, closed-polygon, joins, with-ink, rectangle-with-ink, refuses, acts, keeps}
-use Rattle.hpgl.specs.PositionKept.{edge-valid}
+use Rattle.hpgl.proofs.ValidFacts.{absolute-locatable, relative-locatable, located-placed, placed-kept, edge-room}
+use Rattle.hpgl.proofs.Cases.{pick, whether}
+use Rattle.hpgl.proofs.KeptCases.{Inks, valid-core, closed-polygon, joins, with-ink, rectangle-with-ink, refuses, acts, keeps}
+use Rattle.hpgl.proofs.PositionKept.{edge-valid}
 
 -- ---- PM
 

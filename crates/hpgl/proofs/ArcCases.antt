@@ -9,7 +9,7 @@ use Rattle.hpgl.specs.declared.Circle.{Circle}
 use Rattle.hpgl.specs.declared.Acted.{Acted}
 use Rattle.hpgl.specs.Numbers.{out_of_range, too_far}
 use Rattle.hpgl.specs.Rules.{refuse, good_angle, good_sweep, swept_angle, arc_angle, way_from, arc, follow, arc_by, arc_about}
-use Rattle.hpgl.specs.Cases.{whether}
+use Rattle.hpgl.proofs.Cases.{whether}
 
 -- the arc about q that the numbers n ask for
 abbrev pub arc_of : Core → Position → Numbers → Circle

@@ -13,7 +13,7 @@ use Rattle.hpgl.specs.Numbers.{polygon_bytes, most_pen, most_edges}
 use Rattle.hpgl.specs.Rules.{done, refuse, inked}
 use Rattle.hpgl.specs.Machine.{waiting, queued}
 use Rattle.hpgl.specs.Valid.{ValidSettings, Placed, KeptPosition, ValidPolygon, Recalled, ValidCore, ValidAction, Inked, ValidActed}
-use Rattle.hpgl.specs.Cases.{never}
+use Rattle.hpgl.proofs.Cases.{never}
 
 -- a core, by the parts of which something is asked
 pub valid-core : {d : Core} → ValidSettings d.settings → Placed d.settings d.carriage.position → d.carriage.pen.number ≤ most_pen →

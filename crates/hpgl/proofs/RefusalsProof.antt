@@ -32,7 +32,7 @@ use Rattle.plane.specs.Circle.{vertex_point_of, centre_of, point_from_centre}
 use Rattle.plane.specs.CircleLaws.{point-0, point-90, point-180, point-270, vertex-point-split}
 use Rattle.plane.specs.Arc.{exact_way, way_of, way_fits, parts_of, bend_of, arc_fits}
 use Rattle.plane.specs.ArcLaws.{way-nearest, way-bounds, way-fits, each-small, each_fits}
-use Rattle.hpgl.specs.Cases.{whether}
+use Rattle.hpgl.proofs.Cases.{whether}
 use Rattle.hpgl.specs.declared.Position.{Position}
 use Rattle.hpgl.specs.declared.Core.{Core}
 use Rattle.hpgl.specs.declared.Action.TheVariants.{Keep}

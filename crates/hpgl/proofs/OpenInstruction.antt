@@ -12,7 +12,7 @@ use Rattle.reader.specs.Step.{passed_over}
 use Rattle.mnemonics.specs.Table.{PU, PD, PA, PR, known_in_polygon}
 use Rattle.reader.specs.Inside.{inside}
 use Rattle.reader.specs.InsideLaws.{Leads, passed-outside}
-use Rattle.hpgl.specs.Cases.{never, pick}
+use Rattle.hpgl.proofs.Cases.{never, pick}
 use Rattle.hpgl.specs.declared.Carriage.{Carriage}
 use Rattle.hpgl.specs.declared.Polygon.{Polygon}
 use Rattle.hpgl.specs.declared.Core.{Core}
