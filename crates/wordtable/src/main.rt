@@ -1,4 +1,6 @@
 // Prints the table of refusals as docs/USERS.md has it: number, cause, what to do.
+#![tactic(auto)]
+
 use output::{finish, natural_then, put_bytes, put_words};
 use words::{advice, cause};
 
