@@ -179,3 +179,6 @@ pub fn tell(to: Stderr, name: &[u8], error: i32) {
     write_all(&mut file, b": ");
     let _ = to.println(Error::from_raw_os_error(error));
 }
+
+#[cfg(test)]
+mod tests;
