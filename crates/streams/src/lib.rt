@@ -1,8 +1,10 @@
-// Reading and writing that a signal or a pipe that is full or empty for a moment does not end. Which bytes a read gives and a write takes no
-// contract can say; that each call ends is proved, so that each tries a fixed number of times, which nobody lives to see used up.
+// Reading and writing that a signal or a pipe that is full or empty for a moment does not end, and of which no byte is lost and none doubled: the contracts
+// say so by the bytes that a reader has left and a writer holds, of those that tell. Which bytes the system gives and takes no contract can say; that each call
+// ends is proved, so that each tries a fixed number of times, which nobody lives to see used up.
 #![tactic(auto)]
 
-ghost use Rattle.std.specs.Prelude.{false, ◌≡◌, pos};
+ghost use Rattle.std.specs.Prelude.{ℕ, true, false, ◌≡◌, ◌<◌, ◌≤◌, pos, length, take};
+ghost use Rattle.std.specs.Io.KnownBytes.{Appends, Consumes, IsAtEnd};
 ghost use Rattle.io.specs.Counts.{IsPrefixLen};
 
 use std::fs;
@@ -93,6 +95,8 @@ pub struct Got {
 pub fn read<R: Read>(file: &mut Stream<R>, block: &mut [u8]) -> Got
     ensures prefix_len { IsPrefixLen result.count block.new }
     ensures count_value { result.good ≡ false → result.count ≡ 0 }
+    ensures bytes { Consumes (R.remaining file.old.inner) (R.remaining file.new.inner) (take result.count block.new) }
+    ensures end { result.good ≡ true → result.count ≡ 0 → 0 < length block.old → IsAtEnd (R.remaining file.new.inner) }
 {
     let mut tries = TRIES;
     while tries > 0 {
@@ -120,7 +124,9 @@ pub fn read<R: Read>(file: &mut Stream<R>, block: &mut [u8]) -> Got
 
 // Reads until the block is full, the input ends or a read fails; what was read before that stands at the start of the block.
 pub fn read_full<R: Read>(file: &mut Stream<R>, block: &mut [u8]) -> Got
-    ensures { IsPrefixLen result.count block.new }
+    ensures prefix_len { IsPrefixLen result.count block.new }
+    ensures bytes { Consumes (R.remaining file.old.inner) (R.remaining file.new.inner) (take result.count block.new) }
+    ensures end { result.good ≡ true → result.count < length block.old → IsAtEnd (R.remaining file.new.inner) }
 {
     let mut done = 0;
     while done < block.len() {
@@ -141,7 +147,8 @@ pub fn read_full<R: Read>(file: &mut Stream<R>, block: &mut [u8]) -> Got
 
 // One write: how many of the first bytes it took; 0 where it failed.
 fn write_some<W: Write>(file: &mut Stream<W>, text: &[u8]) -> usize
-    ensures { IsPrefixLen result text.now }
+    ensures prefix_len { IsPrefixLen result text.now }
+    ensures bytes { Appends (W.contents file.old.inner) (W.contents file.new.inner) (take result text.now) }
 {
     let mut tries = TRIES;
     while tries > 0 {
@@ -160,7 +167,10 @@ fn write_some<W: Write>(file: &mut Stream<W>, text: &[u8]) -> usize
 }
 
 // Writes all of a text, and answers whether it did; where not, the stream has the error of the write that failed.
-pub fn write_all<W: Write>(file: &mut Stream<W>, text: &[u8]) -> bool {
+pub fn write_all<W: Write>(file: &mut Stream<W>, text: &[u8]) -> bool
+    ensures all { result ≡ true → Appends (W.contents file.old.inner) (W.contents file.new.inner) text.now }
+    ensures beginning { (n : ℕ) × (n ≤ length text.now) × Appends (W.contents file.old.inner) (W.contents file.new.inner) (take n text.now) }
+{
     let mut done = 0;
     while done < text.len() {
         let put = write_some(file, &text[done..]);
