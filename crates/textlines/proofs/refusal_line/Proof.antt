@@ -2,7 +2,7 @@
 use Rattle.std.proofs.Common.{arith, rules}
 use Prim.Native.Char.{code}
 use Rattle.textlines.specs.Text.{line_end, refusal_text}
-use Rattle.decimals.specs.DecimalLaws.{natural-length}
+use Rattle.decimals.proofs.DecimalLaws.{natural-length}
 use Rattle.textlines.specs.TextLaws.{refusal-length}
 use Rattle.decimals.specs.Puts.{puts_then}
 use Rattle.textlines.proofs.refusal_line.Statement.{statement}

@@ -10,7 +10,8 @@ use Rattle.std.proofs.lemmas.Bool.{eqb-false}
 use Rattle.exact.specs.Whole.{Z, ord}
 use Rattle.exact.specs.Laws.{neg-*ℤ}
 use Rattle.exact.specs.Divide.{nearest_div}
-use Rattle.exact.specs.Nearest.{nearest-only, nearest-times}
+use Rattle.exact.specs.Nearest.{nearest-only}
+use Rattle.exact.proofs.NearestLaws.{nearest-times}
 use Rattle.numerals.specs.Number.{places, past_of, signed_of, carry_of}
 use Rattle.numerals.specs.Numeral.{Digits, worth, worth_from, ten}
 

@@ -4,7 +4,7 @@ use Rattle.std.proofs.Common.{append_assoc, ap, ◌∙◌, div-lt_iff_lt-mul, po
 use Prim.Native.Char.{code}
 use Rattle.std.specs.Int.{w64}
 use Rattle.exact.specs.Whole.{◌<ᶻ◌, ◌≤ᶻ◌, ord}
-use Rattle.decimals.specs.Decimal.{digit, digits_within, decimal, natural, sign, whole}
+use Rattle.decimals.specs.Decimal.{digit, digits_within, decimal, two, four, natural, sign, whole}
 
 -- ---- digits: those of n / 10, and the last one
 
@@ -35,12 +35,6 @@ decimal-more n h = first n h ∙ ap (λ (s : List ℕ). s ++ (digit (n % 10) ∷
     second (suc n) h = enough n (suc n / 10) (suc n / 10) (omega arith) (omega arith)
 
 -- ---- digits by twos and fours
-
-abbrev pub two : ℕ → List ℕ
-two n = digit (n / 10) ∷ digit (n % 10) ∷ []
-
-abbrev pub four : ℕ → List ℕ
-four n = two (n / 100) ++ two (n % 100)
 
 pub decimal-two : (n : ℕ) → 10 ≤ n → n < 100 → decimal n ≡ two n
 decimal-two n h k = decimal-more n h ∙ ap (λ (s : List ℕ). s ++ (digit (n % 10) ∷ [])) (decimal-one (n / 10) (omega arith))

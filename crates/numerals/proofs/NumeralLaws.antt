@@ -9,7 +9,7 @@ use Rattle.numerals.specs.declared.number.Value.TheVariants.{Good, Bad}
 use Rattle.numerals.specs.Number.{places, half, above, bottom, past_of, start_of, point_of, counted_of, digit_of, unit_of, ten_thousandths, signed_of, largest_of, carry_of, nearest_of, finish_of}
 use Rattle.numerals.specs.Marks.{negative, read_digits, read_fraction, read_numeral}
 use Rattle.numerals.specs.Numeral.{Sign, bare, plus, minus, Fraction, none, point, Numeral, Digits, worth, worth_from, decimals, ten, signed, some, in_range, nearest, value_of}
-use Rattle.numerals.specs.Tail.{exactly, tail_from, text-nearest}
+use Rattle.numerals.proofs.Tail.{exactly, tail_from, text-nearest}
 
 -- A number that is m, with k for its decimals, stands for digits that are worth v, with j for theirs: it is that, or both are
 -- out of range.
