@@ -2,17 +2,16 @@
 use borrow.Author.Rules.{rules}
 use mathlib.Core.Path.{◌≡◌, sym, ap, ap₂, ◌∙◌, subst}
 use mathlib.Core.List.{List}
-use Prim.Native.Nat.{ℕ, suc, ◌+◌, ◌*◌, ◌-◌, ◌≤◌, ◌<◌}
+use Prim.Native.Nat.{ℕ, ◌+◌, ◌*◌, ◌-◌, ◌≤◌, ◌<◌}
 use native.Mathlib.Omega.{arith}
 use lib.IntN.{ℤ, pos, ◌+ℤ◌, ◌*ℤ◌}
 use lib.ListN.{drop}
 use mir.Syntax.{w64}
-use Rattle.exact.specs.Fit.{Bd, Num, m64, num, put, fit, ret, ◌⊕◌, ◌⊗◌}
-use Rattle.rows.specs.declared.Row.{Row}
-use Rattle.rows.specs.Rows.{row_at}
+use Rattle.exact.specs.Fit.{Num, m64, num, put, fit, ret, ◌⊕◌, ◌⊗◌}
 use Rattle.seal.specs.Seal.{weighed, checksum_of}
 use Rattle.seal.specs.Light.{row_count, most_at, LightRow, weighed-all}
-use Rattle.seal.specs.Columns.{plus_of, total_of, columns_of, columns-none, columns-step, part_bound, all_bound, most_part, most_all, most_column, part-most, all_most, part-more, all_more, none-light, light-plus, light-most, weigh-size, total_size}
+use Rattle.seal.proofs.Weighing.{columns-step}
+use Rattle.seal.specs.Columns.{plus_of, total_of, columns_of, columns-none, part_bound, all_bound, most_part, most_all, most_column, part-most, all_most, part-more, all_more, none-light, light-plus, light-most, weigh-size, total_size}
 use Rattle.seal.proofs.checksum.Goals as goal
 use Rattle.seal.proofs.checksum.Lts
 use Rattle.seal.proofs.checksum.Tie

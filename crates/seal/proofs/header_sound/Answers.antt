@@ -1,4 +1,5 @@
 -- The proof of `header_sound`.
+use borrow.Author.Rules.{rules}
 use Prim.Native.Nat.{ℕ}
 use native.Mathlib.Omega.{arith}
 use lib.Dec.{T, ltb, ltb→lt}
@@ -11,7 +12,6 @@ use Rattle.exact.proofs.Rules.{rules64}
 use Rattle.seal.specs.Seal.{version, header_sound}
 use Rattle.seal.proofs.header_sound.Goals as goal
 use Rattle.seal.proofs.header_sound.Lts
-use Rattle.seal.proofs.header_sound.Tie
 use Rattle.seal.proofs.header_sound.Reads
 
 abbrev Start : Type 0

@@ -1,7 +1,7 @@
 -- The proof of `sum_stands`: the part after the header is the rest of the list.
 use borrow.Author.Rules.{rules}
 use borrow.Author.Rules.{part_to_end}
-use mathlib.Core.Path.{◌≡◌, sym, ap, ap₂, ◌∙◌, subst}
+use mathlib.Core.Path.{sym, ap, ap₂, ◌∙◌, subst}
 use native.Mathlib.Omega.{arith}
 use lib.IntN.{ℤ}
 use mir.Syntax.{w64}
@@ -26,7 +26,7 @@ pub row_at-header-requires : goal.row_at-header-requires
 row_at-header-requires c = omega (arith, header-long c.args.numbers.now c.requires)
 
 pub checksum-requires : goal.checksum-requires
-checksum-requires c =  subst Light (sym (part_to_end c.args.numbers.now 5)) c.requires
+checksum-requires c = subst Light (sym (part_to_end c.args.numbers.now 5)) c.requires
 
 fits-b : (c : After-row_at-header) → SFits w64 c.row_at-header.result.b
 fits-b c = search rules

@@ -1,13 +1,11 @@
 -- The proof of `total`: each sum is small.
-use borrow.Author.Rules.{rules}
-use Prim.Native.Nat.{◌+◌, ◌*◌}
-use lib.IntN.{ℤ, ◌+ℤ◌}
+use Prim.Native.Nat.{◌*◌}
+use lib.IntN.{◌+ℤ◌}
 use mir.Syntax.{w64}
-use Rattle.exact.specs.Fit.{Bd, Num, m64, val, put, fit, ◌⊕◌}
+use Rattle.exact.specs.Fit.{Num, m64, val, put, fit, ◌⊕◌}
 use Rattle.seal.specs.Columns.{most_column, total_of}
 use Rattle.seal.proofs.total.Goals as goal
 use Rattle.seal.proofs.total.Lts
-use Rattle.seal.proofs.total.Tie
 use Rattle.seal.proofs.total.Reads
 
 abbrev Start : Type 0

@@ -1,6 +1,5 @@
 -- The proof of `weigh`: each product is small, and so is their sum.
-use borrow.Author.Rules.{rules}
-use mathlib.Core.Path.{◌≡◌, sym, ap, ◌∙◌}
+use mathlib.Core.Path.{◌≡◌}
 use Prim.Native.Nat.{ℕ, ◌*◌}
 use native.Mathlib.Omega.{arith}
 use lib.IntN.{ℤ, pos, ◌+ℤ◌, ◌*ℤ◌}
@@ -12,7 +11,6 @@ use Rattle.seal.specs.Light.{weigh_of}
 use Rattle.seal.specs.Columns.{most_part}
 use Rattle.seal.proofs.weigh.Goals as goal
 use Rattle.seal.proofs.weigh.Lts
-use Rattle.seal.proofs.weigh.Tie
 use Rattle.seal.proofs.weigh.Reads
 
 abbrev Start : Type 0
@@ -42,25 +40,25 @@ module _ (s : Start) where
   its-e = put w64 its-d tt ⊕ put w64 (times 5 s.requires.e) tt
 
 pub overflow_mul-result : goal.overflow_mul-result
-overflow_mul-result c =  fit w64 (times 2 c.requires.b) tt
+overflow_mul-result c = fit w64 (times 2 c.requires.b) tt
 
 pub overflow_add-result : goal.overflow_add-result
 overflow_add-result c = let s = c.before.before.before.before.before in fit w64 (its-b s) tt
 
 pub overflow_mul-result-2 : goal.overflow_mul-result-2
-overflow_mul-result-2 c =  fit w64 (times 3 c.requires.c) tt
+overflow_mul-result-2 c = fit w64 (times 3 c.requires.c) tt
 
 pub overflow_add-result-2 : goal.overflow_add-result-2
 overflow_add-result-2 c = let s = c.before.before.before.before.before.before.before in fit w64 (its-c s) tt
 
 pub overflow_mul-result-3 : goal.overflow_mul-result-3
-overflow_mul-result-3 c =  fit w64 (times 4 c.requires.d) tt
+overflow_mul-result-3 c = fit w64 (times 4 c.requires.d) tt
 
 pub overflow_add-result-3 : goal.overflow_add-result-3
 overflow_add-result-3 c = let s = c.before.before.before.before.before.before.before.before.before in fit w64 (its-d s) tt
 
 pub overflow_mul-result-4 : goal.overflow_mul-result-4
-overflow_mul-result-4 c =  fit w64 (times 5 c.requires.e) tt
+overflow_mul-result-4 c = fit w64 (times 5 c.requires.e) tt
 
 pub overflow_add-result-4 : goal.overflow_add-result-4
 overflow_add-result-4 c = let s = c.before.before.before.before.before.before.before.before.before.before in fit w64 (its-e s) tt
