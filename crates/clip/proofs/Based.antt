@@ -4,7 +4,8 @@ use Rattle.std.proofs.Common.{sym, ap, ◌∙◌, subst, arith}
 use Rattle.std.proofs.Math.IntN.{+ℤ_comm}
 use Rattle.exact.specs.Whole.{ord}
 use Rattle.exact.specs.Divide.{nearest_div}
-use Rattle.exact.specs.Nearest.{nearest-shift, nearest-neg}
+use Rattle.exact.specs.Nearest.{nearest-shift}
+use Rattle.exact.proofs.NearestLaws.{nearest-neg}
 use Rattle.clip.specs.Line.{based, nearest_whole, Rounds}
 use Rattle.clip.proofs.Halves.{rounds}
 

@@ -7,7 +7,7 @@ use Rattle.exact.specs.Whole.{◌≤ᶻ◌, ◌<ᶻ◌, lt-<?, le-<?, up, dn, ex
 use Rattle.exact.specs.Parts.{Is, v, #, ◌⊕◌, ◌⊖◌, ◌⊗◌}
 use Rattle.exact.specs.Fit.{abs}
 use Rattle.exact.specs.Divide.{nearest_div}
-use Rattle.exact.specs.Nearest.{nearest-times}
+use Rattle.exact.proofs.NearestLaws.{nearest-times}
 use Rattle.exact.specs.Laws.{≤-total}
 use Rattle.exact.specs.Steps.{not-zero}
 use Rattle.clip.specs.Clip.{extent, axis_entry, toward, axis_place}

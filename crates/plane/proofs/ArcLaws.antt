@@ -18,7 +18,7 @@ use Rattle.clip.proofs.Halves.{rounds}
 use Rattle.clip.specs.Reach.{reach, SmallPoint}
 use Rattle.clip.specs.declared.Point.{Point}
 use Rattle.sines.specs.Angle.{sine_of, cosine_of}
-use Rattle.sines.specs.Quarters.{sine-size, cosine-size, sine-turn, cosine-turn}
+use Rattle.sines.proofs.Quarters.{sine-size, cosine-size, sine-turn, cosine-turn}
 use Rattle.plane.specs.declared.position.Axis.{Axis}
 use Rattle.plane.specs.declared.position.ExactPosition.{ExactPosition}
 use Rattle.plane.specs.declared.circle.Way.{Way}

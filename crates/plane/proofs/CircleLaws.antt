@@ -8,14 +8,15 @@ use Rattle.exact.specs.Whole.{◌≤ᶻ◌, ◌<ᶻ◌, is, Z, ord, up_neg, dn-n
 use Rattle.exact.specs.Laws.{mul-posᶻ, sign}
 use Rattle.exact.specs.Fit.{Bd, abs, abs-mul, bd-neg, ◌⊞◌, ◌⊟◌, ◌⊠◌}
 use Rattle.exact.specs.Divide.{floor_div, nearest_div}
-use Rattle.exact.specs.Nearest.{nearest-neg, nearest-shift, nearest-times, nearest-mono, product-some, pos_of, neg-pos}
+use Rattle.exact.specs.Nearest.{nearest-shift, nearest-mono, product-some, pos_of, neg-pos}
+use Rattle.exact.proofs.NearestLaws.{nearest-neg, nearest-times}
 use Rattle.exact.specs.Steps.{rest-size, floor-size}
 use Rattle.clip.specs.Line.{nearest_whole, Rounds}
 use Rattle.clip.proofs.Based.{based-nearest}
 use Rattle.clip.proofs.Halves.{rounds}
 use Rattle.clip.specs.Reach.{reach, SmallPoint}
 use Rattle.sines.specs.Angle.{sine_of, cosine_of}
-use Rattle.sines.specs.Quarters.{sine-size, cosine-size, sine-zero, cosine-zero, sine-900, cosine-900, sine-1800, cosine-1800, sine-2700, cosine-2700}
+use Rattle.sines.proofs.Quarters.{sine-size, cosine-size, sine-zero, cosine-zero, sine-900, cosine-900, sine-1800, cosine-1800, sine-2700, cosine-2700}
 use Rattle.plane.specs.declared.position.Axis.{Axis}
 use Rattle.plane.specs.declared.position.ExactPosition.{ExactPosition}
 use Rattle.plane.specs.declared.circle.Way.{Way}

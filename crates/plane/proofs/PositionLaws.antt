@@ -6,7 +6,8 @@ use Rattle.exact.specs.Whole.{◌≤ᶻ◌, ◌<ᶻ◌, is, Z, ord, up_neg, dn-n
 use Rattle.exact.specs.Laws.{mul-≤, sign, add-*ℤ}
 use Rattle.exact.specs.Fit.{Bd, abs, abs-mul, abs-add, abs_neg, bd-le, lit, ◌⊟◌, ◌⊠◌}
 use Rattle.exact.specs.Divide.{nearest_div}
-use Rattle.exact.specs.Nearest.{nearest-law, nearest-only, nearest-neg, pos_of, neg-pos}
+use Rattle.exact.specs.Nearest.{nearest-law, nearest-only, pos_of, neg-pos}
+use Rattle.exact.proofs.NearestLaws.{nearest-neg}
 use Rattle.clip.specs.Line.{based, nearest_whole, Rounds}
 use Rattle.clip.proofs.Based.{based-nearest}
 use Rattle.clip.proofs.Halves.{rounds}

@@ -27,7 +27,7 @@ use Rattle.mnemonics.specs.Every.{holds, every-at}
 use Rattle.numerals.specs.Marks.{read_numeral}
 use Rattle.reader.specs.Stream.{reader, ◌telling◌, Means, done, quiet, loud}
 use Rattle.numerals.specs.Numeral.{text}
-use Rattle.numerals.specs.NumeralLaws.{numeral-value}
+use Rattle.numerals.proofs.NumeralLaws.{numeral-value}
 use Rattle.reader.specs.Written.{one, two, letters, Literal, printed, numbers_from, last_from, Two, coordinates, flat, pairs}
 use Rattle.reader.proofs.TextLaws.{then, numeral-text}
 

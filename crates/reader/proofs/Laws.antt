@@ -15,7 +15,7 @@ use Rattle.numerals.specs.Marks.{read_numeral}
 use Rattle.reader.specs.Stream.{reader, ◌telling◌, Means, NoEnd}
 use Rattle.reader.specs.Written.{letters, Literal, printed, numbers_from, last_from, Two, flat, pairs}
 use Rattle.reader.specs.Sizes.{Caused, Readable, SizedStep}
-use Rattle.numerals.specs.NumeralLaws.{numeral-value}
+use Rattle.numerals.proofs.NumeralLaws.{numeral-value}
 use Rattle.reader.proofs.TextLaws.{numeral-text, label-byte, label-end, label-whole}
 use Rattle.reader.proofs.InstructionLaws.{instruction-of-numbers, instruction-of-pairs}
 use Rattle.reader.specs.CauseLaws.{step-caused}

@@ -24,7 +24,7 @@ use Rattle.reader.specs.Inside.{inside}
 use Rattle.numerals.specs.Number.{places, past_of, bottom, start_of, point_of, counted_of, digit_of, signed_of, largest_of, nearest_of, finish_of}
 use Rattle.mnemonics.specs.Table.{rows, named_of, find_from, find_of, count_fits, takes_pairs, has_room, is_label}
 use Rattle.reader.specs.Sizes.{Small, SmallMode, SmallNumber, Readable, SmallPair, SizedStep}
-use Rattle.numerals.specs.NumeralLaws.{past-most, largest-le}
+use Rattle.numerals.proofs.NumeralLaws.{past-most, largest-le}
 use Rattle.reader.specs.Reader.{none_of, stored_of, pair_of, fresh_reader, go_on_of, quiet_of, refuse_of, begin_of, open_of, with_numbers}
 use Rattle.reader.specs.Step.{found_of, name_of, kept_of, judged_of, closed_of, end_of, complete_of, passed_mode, ending_of, after_number_of, close_with, close_of, idle_of, first_of, parameters_of, in_number_of, pass_over_of, label_of, by_mode, step_of, passed_over}
 

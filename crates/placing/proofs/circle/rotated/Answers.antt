@@ -3,7 +3,7 @@ use mathlib.Core.Path.{ap, ◌∙◌}
 use mir.Syntax.{w64}
 use Rattle.exact.specs.Fit.{Num, m64, arg, val, put, fit, ret, ◌⊕◌, ◌⊖◌, ◌⊗◌}
 use Rattle.sines.specs.Angle.{sine_of, cosine_of}
-use Rattle.sines.specs.Quarters.{sine-size, cosine-size}
+use Rattle.sines.proofs.Quarters.{sine-size, cosine-size}
 use Rattle.plane.specs.Circle.{rotated_of}
 use Rattle.placing.proofs.circle.rotated.Goals as goal
 use Rattle.placing.proofs.circle.rotated.Lts
