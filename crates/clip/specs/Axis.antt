@@ -1,4 +1,4 @@
--- Proofs only, for Exactness.antt: one axis of `clip`. Why it holds: the segment from p to q crosses an edge lo after (lo − p) / (q − p) of its way,
+-- Proofs only, for proofs/ExactnessLaws.antt: one axis of `clip`. Why it holds: the segment from p to q crosses an edge lo after (lo − p) / (q − p) of its way,
 -- which is (lo − p) · u of its |q − p| · u steps. Each whole number z is up z − dn z, so that omega reads it.
 use Rattle.std.specs.Prelude.{◌≡◌, refl, ◌⊎◌, ℕ, ◌+◌, ◌*◌, ◌≤◌, ◌<◌, ℤ, pos, negsuc, neg_ℤ, ◌+ℤ◌, ◌-ℤ◌, ◌*ℤ◌}
 use Rattle.std.proofs.Common.{sym, ap, ap₂, ◌∙◌, inl, inr, mul-le-mul_left, arith}
@@ -7,7 +7,7 @@ use Rattle.exact.specs.Whole.{◌≤ᶻ◌, ◌<ᶻ◌, lt-<?, le-<?, up, dn, ex
 use Rattle.exact.specs.Parts.{Is, v, #, ◌⊕◌, ◌⊖◌, ◌⊗◌}
 use Rattle.exact.specs.Fit.{abs}
 use Rattle.exact.specs.Divide.{nearest_div}
-use Rattle.exact.specs.Nearest.{nearest-times}
+use Rattle.exact.proofs.NearestLaws.{nearest-times}
 use Rattle.exact.specs.Laws.{≤-total}
 use Rattle.exact.specs.Steps.{not-zero}
 use Rattle.clip.specs.Clip.{extent, axis_entry, toward, axis_place}

@@ -1,6 +1,6 @@
 -- THE DEFINITION of clip: what is left of a segment in a box, in whole numbers.
 -- "clipped to the limits .. edges included. Empty part: hidden. Otherwise the ends of the exact part, rounded by the rule above."
--- A reader need not believe the arithmetic below: Exactness.antt proves, in the words of Line.antt, that the part that it finds holds
+-- A reader need not believe the arithmetic below: proofs/ExactnessLaws.antt proves, in the words of Line.antt, that the part that it finds holds
 -- exactly the points of the segment that are in the box (`exact-part`), that the answer's ends are the ends of that part, rounded
 -- (`exact-ends`), and that the answer is Hidden only where no point of the segment is in the box (`exact-hidden`).
 --
@@ -58,7 +58,7 @@ clip r a b =
     let n : ℤ = entry r b a in
     cond (steps a b <? m +ℤ n) Hidden (Stroke (place a b m) (place b a n))
 
--- the point is in the box, edges included: of a segment between two such points clip leaves all (Unclipped.antt)
+-- the point is in the box, edges included: of a segment between two such points clip leaves all (proofs/Unclipped.antt)
 unfoldable pub inside : Rect → Point → Bool
 inside r p =
     cond (p.x <? r.left) false (cond (r.right <? p.x) false (cond (p.y <? r.bottom) false (cond (r.top <? p.y) false true)))

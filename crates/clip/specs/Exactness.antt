@@ -1,12 +1,9 @@
--- THAT `clip` IS EXACT, in the words of Line.antt: its ends are the rounded ends of exactly the part of the segment that is in the box.
-use Rattle.std.specs.Prelude.{◌≡◌, ◌↔◌, ℕ, ◌+◌, ◌*◌, ◌-◌, ◌≤◌, ◌<◌}
-use Rattle.std.proofs.Common.{sym, ◌∙◌, arith}
-use Rattle.clip.specs.Clip.{entry, place, clip}
+-- THAT `clip` IS EXACT, in the words of Line.antt: its ends are the rounded ends of exactly the part of the segment that is in the box. That it is so of
+-- every stroke stands in proofs/ExactnessLaws.antt (`exact-part`, `exact-ends`), and so does that what is hidden has no point in the box.
+use Rattle.std.specs.Prelude.{◌≡◌, ◌↔◌, ℕ, ◌*◌, ◌≤◌, ◌<◌}
 use Rattle.clip.specs.Line.{exactly, nearest, at, Within}
-use Rattle.clip.specs.Crossing.{all, till, all_above, crosses, within, entry-is, start-nearest, stop-nearest, shows, hidden≢, fits, crossed, from_start, from-stop}
 use Rattle.clip.specs.declared.Point.{Point}
 use Rattle.clip.specs.declared.Rect.{Rect}
-use Rattle.clip.specs.declared.Clipped.TheVariants.{Hidden, Stroke}
 
 -- the part of the segment from a to b that is in the box, from `first` to `last` of `parts` equal parts: these points are in the box, and no others
 pub record Part (r : Rect) (a b : Point) : Type 0 where
@@ -22,39 +19,3 @@ pub record Part (r : Rect) (a b : Point) : Type 0 where
 pub record Ends {r : Rect} {a b : Point} (i : Part r a b) (s t : Point) : Type 0 where
   pub start : s ≡ nearest (at (exactly a) (exactly b) i.first i.parts i.some)
   pub stop : t ≡ nearest (at (exactly a) (exactly b) i.last i.parts i.some)
-
--- what is shown is exact
-pub exact-part : (r : Rect) (a b s t : Point) → clip r a b ≡ Stroke s t → Part r a b
-exact-part r a b s t h =
-    let f : till r a b + till r b a ≤ all a b = fits r a b s t h in
-    record {
-      first = till r a b;
-      last = all a b - till r b a;
-      parts = all a b;
-      some = all_above a b;
-      order = omega arith;
-      upto = omega arith;
-      points = λ k n l p. (
-        (λ w. let c = crosses r a b k n l p w in (c.after, from_start k (n - k) n (all a b) (till r b a) _ (omega arith) (omega arith) c.before)),
-        (λ c. within r a b k n l p (record { after = c.0; before = from-stop k (n - k) n (all a b) (till r b a) _ (omega arith) (omega arith) c.1 })),
-      );
-    }
-
-pub exact-ends : (r : Rect) (a b s t : Point) (h : clip r a b ≡ Stroke s t) → Ends (exact-part r a b s t h) s t
-unfolding exact-part
-exact-ends r a b s t h =
-    let f : till r a b + till r b a ≤ all a b = fits r a b s t h in
-    let e : Stroke (place a b (entry r a b)) (place b a (entry r b a)) ≡ Stroke s t = sym (shows r a b f) ∙ h in
-    let es : s ≡ place a b (entry r a b) = cc in
-    let et : t ≡ place b a (entry r b a) = cc in
-    record {
-      start = es ∙ start-nearest a b (entry r a b) (till r a b) (entry-is r a b) (omega arith);
-      stop = et ∙ stop-nearest a b (entry r b a) (till r b a) (entry-is r b a) (omega arith);
-    }
-
--- a segment with a point in the box is shown, and so what is hidden has none
-pub exact-shown : (r : Rect) (a b : Point) (k n : ℕ) → k ≤ n → (p : 0 < n) → Within r 0 (at (exactly a) (exactly b) k n p) → (s : Point) × (t : Point) × (clip r a b ≡ Stroke s t)
-exact-shown r a b k n l p w = (_, _, shows r a b (crossed r a b k n l p (crosses r a b k n l p w)))
-
-pub exact-hidden : (r : Rect) (a b : Point) → clip r a b ≡ Hidden → (k n : ℕ) → k ≤ n → (p : 0 < n) → ¬ Within r 0 (at (exactly a) (exactly b) k n p)
-exact-hidden r a b h k n l p w = hidden≢ (sym h ∙ (exact-shown r a b k n l p w).2)

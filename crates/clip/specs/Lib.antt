@@ -3,14 +3,7 @@ pub mod Fractions
 pub mod Clip
 pub mod Reach
 pub mod Axis
-pub mod Crossing
 pub mod Exactness
-pub mod Unclipped
-pub mod Halves
-pub mod Parameter
-pub mod Nearness
-pub mod Based
 pub mod Figures
 pub mod Sizes
 pub mod Types
-pub mod TypeLaws

@@ -1,5 +1,5 @@
 -- THE FOUR LINE TYPES of the manual (source 001, chapter 10, "Windowing"), and what is painted of a segment of each. That it is so of every segment and
--- every box, an empty one too, stands in TypeLaws.antt (`some-type`, `one_type`, `by-type`).
+-- every box, an empty one too, stands in proofs/TypeLaws.antt (`some-type`, `one_type`, `by-type`).
 use Rattle.std.specs.Prelude.{◌≡◌, Bool, true, false, ◌⊎◌}
 use Rattle.clip.specs.Clip.{inside}
 use Rattle.clip.specs.Line.{exactly, Within}

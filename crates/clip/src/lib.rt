@@ -1,4 +1,4 @@
-// Points and boxes, and what is left of a segment in a box: specs/Clip.antt says what that is, specs/Exactness.antt that it is exact, specs/Nearness.antt what it is good for. The code is the crate clipping.
+// Points and boxes, and what is left of a segment in a box: specs/Clip.antt says what that is, specs/Exactness.antt that it is exact, proofs/Nearness.antt what it is good for. The code is the crate clipping.
 #![tactic(auto)]
 
 #[derive(Clone, Copy)]

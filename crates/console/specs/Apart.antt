@@ -1,5 +1,5 @@
 -- How far two numbers are apart, by their sizes.
-use Rattle.std.specs.Prelude.{◌≡◌, ℕ, ◌+◌, ◌-◌, ◌<◌, ◌^◌, ℤ, pos, negsuc, neg_ℤ, nat_abs, ◌-ℤ◌}
+use Rattle.std.specs.Prelude.{◌≡◌, ◌+◌, ◌-◌, ◌<◌, ◌^◌, ℤ, pos, negsuc, neg_ℤ, nat_abs, ◌-ℤ◌}
 use Rattle.std.proofs.Common.{arith, SFits}
 use Rattle.std.specs.Int.{w64}
 use Rattle.exact.specs.Whole.{◌<ᶻ◌, ◌≤ᶻ◌, ord, add_parts, up_neg, dn-neg}

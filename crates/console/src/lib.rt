@@ -1,4 +1,6 @@
 // What the programs of the desk share: sums that stay within 64 bits, and how far two numbers are apart.
+#![tactic(auto)]
+
 ghost use Rattle.std.specs.Prelude.{◌≡◌, ◌+◌, ◌-◌, nat_abs, ◌-ℤ◌};
 ghost use Rattle.console.specs.Sums.{added};
 

@@ -20,15 +20,22 @@ struct Fed {
 }
 
 // One feed into a list of so many records: its answer, and all of these records.
-pub fn feed_once(m: Machine, bytes: &[u8], room: u64, out: &mut [u8; 65536], used: usize) -> usize
+pub fn feed_once(
+    rt: &HostRuntime,
+    m: Machine,
+    bytes: &[u8],
+    room: u64,
+    out: &mut [u8; 65536],
+    used: usize,
+) -> usize
     requires { Usable m.state }
 {
     let mut numbers = marked();
     let records = fitting(room);
     let size = records * 5;
     let g = m.gather(bytes, 0, &mut numbers[0..size]);
-    let end = put_field(out, used, g.at, g.stored, g.number);
-    put_records(out, end, &numbers, records)
+    let end = put_field(rt, out, used, g.at, g.stored, g.number);
+    put_records(rt, out, end, &numbers, records)
 }
 
 fn gathered(m: Machine, bytes: &[u8], from: usize, numbers: &mut [i64]) -> Gathered
@@ -39,7 +46,14 @@ fn gathered(m: Machine, bytes: &[u8], from: usize, numbers: &mut [i64]) -> Gathe
 }
 
 // One feed within a sequence: its answer, and its strokes.
-fn feed_told(m: Machine, bytes: &[u8], room: u64, out: &mut [u8; 65536], used: usize) -> Told
+fn feed_told(
+    rt: &HostRuntime,
+    m: Machine,
+    bytes: &[u8],
+    room: u64,
+    out: &mut [u8; 65536],
+    used: usize,
+) -> Told
     requires { Usable m.state }
     ensures { Usable result.machine.state }
 {
@@ -47,15 +61,16 @@ fn feed_told(m: Machine, bytes: &[u8], room: u64, out: &mut [u8; 65536], used: u
     let size = fitting(room) * 5;
     let g = gathered(m, bytes, 0, &mut numbers[0..size]);
     let next = g.machine;
-    let end = put_answer(out, used, g.at, g.stored, g.number);
+    let end = put_answer(rt, out, used, g.at, g.stored, g.number);
     Told {
         machine: next,
-        used: put_records(out, end, &numbers, g.stored),
+        used: put_records(rt, out, end, &numbers, g.stored),
     }
 }
 
 // The same of the bytes that the codes have from a place on.
 pub fn feed_codes(
+    rt: &HostRuntime,
     m: Machine,
     codes: &[u16; ROOM],
     from: usize,
@@ -68,11 +83,11 @@ pub fn feed_codes(
 {
     let mut bytes = [0u8; BYTES];
     let n = bytes_of(codes, from, FED / 256, &mut bytes);
-    feed_told(m, &bytes[0..n], room as u64, out, used)
+    feed_told(rt, m, &bytes[0..n], room as u64, out, used)
 }
 
 // One feed of what is left: its strokes, and a refusal.
-fn feed_next(f: Fed, bytes: &[u8], out: &mut [u8; 65536]) -> Fed
+fn feed_next(rt: &HostRuntime, f: Fed, bytes: &[u8], out: &mut [u8; 65536]) -> Fed
     requires { Usable f.machine.state }
     ensures { Usable result.machine.state }
 {
@@ -80,23 +95,23 @@ fn feed_next(f: Fed, bytes: &[u8], out: &mut [u8; 65536]) -> Fed
     let m = f.machine;
     let g = gathered(m, bytes, f.at, &mut numbers);
     let next = g.machine;
-    let end = put_records(out, f.used, &numbers, g.stored);
+    let end = put_records(rt, out, f.used, &numbers, g.stored);
     Fed {
         machine: next,
         at: g.at,
-        used: put_stop(out, end, g.number, g.at),
+        used: put_stop(rt, out, end, g.number, g.at),
         more: g.number != 0,
     }
 }
 
 // One feed of what is left, and the reply that waits after it.
-fn feed_part(f: Fed, bytes: &[u8], out: &mut [u8; 65536]) -> Fed
+fn feed_part(rt: &HostRuntime, f: Fed, bytes: &[u8], out: &mut [u8; 65536]) -> Fed
     requires { Usable f.machine.state }
     ensures { Usable result.machine.state }
 {
-    let fed = feed_next(f, bytes, out);
+    let fed = feed_next(rt, f, bytes, out);
     let m = fed.machine;
-    let told = fetch_into(m, BUFFER, b"", out, fed.used);
+    let told = fetch_into(rt, m, BUFFER, b"", out, fed.used);
     let last = told.machine;
     Fed {
         machine: last,
@@ -107,7 +122,13 @@ fn feed_part(f: Fed, bytes: &[u8], out: &mut [u8; 65536]) -> Fed
 }
 
 // Feed after feed, as the program strokes does. A proved loop has to end: it counts its turns down, from a number that no run uses up.
-pub fn feed_all(m: Machine, bytes: &[u8], out: &mut [u8; 65536], used: usize) -> usize
+pub fn feed_all(
+    rt: &HostRuntime,
+    m: Machine,
+    bytes: &[u8],
+    out: &mut [u8; 65536],
+    used: usize,
+) -> usize
     requires { Usable m.state }
 {
     let mut f = Fed {
@@ -118,7 +139,7 @@ pub fn feed_all(m: Machine, bytes: &[u8], out: &mut [u8; 65536], used: usize) ->
     };
     let mut turns = u64::MAX;
     while turns > 0 && f.more {
-        f = feed_part(f, bytes, out);
+        f = feed_part(rt, f, bytes, out);
         turns -= 1;
     }
     f.used

@@ -19,7 +19,14 @@ fn fetched(m: Machine, buffer: &mut [u8]) -> Fetched
 }
 
 // One fetch with a buffer of so many bytes, and a word for one where no reply waited.
-pub fn fetch_into(m: Machine, room: usize, word: &[u8], out: &mut [u8; 65536], used: usize) -> Told
+pub fn fetch_into(
+    rt: &HostRuntime,
+    m: Machine,
+    room: usize,
+    word: &[u8],
+    out: &mut [u8; 65536],
+    used: usize,
+) -> Told
     requires { Usable m.state }
     ensures { Usable result.machine.state }
 {
@@ -27,7 +34,7 @@ pub fn fetch_into(m: Machine, room: usize, word: &[u8], out: &mut [u8; 65536], u
     let lent = fitting(room);
     let f = fetched(m, &mut buffer[0..lent]);
     let next = f.machine;
-    let end = put_fetched(out, used, &buffer, f.length, f.number, word);
+    let end = put_fetched(rt, out, used, &buffer, f.length, f.number, word);
     Told {
         machine: next,
         used: end,

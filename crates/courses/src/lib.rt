@@ -57,7 +57,13 @@ fn after(c: Course, told: Told) -> Course
 }
 
 // Draws until nothing waits, and at most so many times.
-fn draw_some(start: Machine, most: u64, out: &mut [u8; 65536], written: usize) -> Told
+fn draw_some(
+    rt: &HostRuntime,
+    start: Machine,
+    most: u64,
+    out: &mut [u8; 65536],
+    written: usize,
+) -> Told
     requires { Usable start.state }
     ensures { Usable result.machine.state }
 {
@@ -67,7 +73,7 @@ fn draw_some(start: Machine, most: u64, out: &mut [u8; 65536], written: usize) -
         let worked = m.draw();
         m = worked.machine;
         let drawn = worked.drawn;
-        used = put_drawn(out, used, drawn);
+        used = put_drawn(rt, out, used, drawn);
         if is_idle(drawn) {
             break;
         }
@@ -85,7 +91,7 @@ fn taken(m: Machine, byte: u8) -> Taken
     m.take(byte)
 }
 
-fn take_one(c: Course, byte: u8, out: &mut [u8; 65536]) -> Course
+fn take_one(rt: &HostRuntime, c: Course, byte: u8, out: &mut [u8; 65536]) -> Course
     requires { Usable c.machine.state }
     ensures { Usable result.machine.state }
 {
@@ -97,12 +103,12 @@ fn take_one(c: Course, byte: u8, out: &mut [u8; 65536]) -> Course
         machine: next,
         hold: c.hold,
         taken: count,
-        used: put_refusal(out, c.used, t.number, count),
+        used: put_refusal(rt, out, c.used, t.number, count),
     }
 }
 
 // After a byte, unless these are held back, a reply is fetched and all that waits is drawn.
-fn answered(c: Course, out: &mut [u8; 65536]) -> Course
+fn answered(rt: &HostRuntime, c: Course, out: &mut [u8; 65536]) -> Course
     requires { Usable c.machine.state }
     ensures { Usable result.machine.state }
 {
@@ -110,9 +116,9 @@ fn answered(c: Course, out: &mut [u8; 65536]) -> Course
         return c;
     }
     let m = c.machine;
-    let told = fetch_into(m, BUFFER, b"", out, c.used);
+    let told = fetch_into(rt, m, BUFFER, b"", out, c.used);
     let next = told.machine;
-    after(c, draw_some(next, u64::MAX, out, told.used))
+    after(c, draw_some(rt, next, u64::MAX, out, told.used))
 }
 
 fn held(c: Course) -> Course
@@ -129,21 +135,21 @@ fn held(c: Course) -> Course
 }
 
 // The call that a mark stands for, if it is a draw, a look or a fetch.
-fn called(m: Machine, mark: u16, out: &mut [u8; 65536], used: usize) -> Told
+fn called(rt: &HostRuntime, m: Machine, mark: u16, out: &mut [u8; 65536], used: usize) -> Told
     requires { Usable m.state }
     ensures { Usable result.machine.state }
 {
     if mark == DRAW {
-        return draw_some(m, 1, out, used);
+        return draw_some(rt, m, 1, out, used);
     }
     if mark == LOOK {
         return Told {
             machine: m,
-            used: look_at(m, out, used),
+            used: look_at(rt, m, out, used),
         };
     }
     if FETCH <= mark {
-        return fetch_into(m, (mark - FETCH) as usize, b" len0", out, used);
+        return fetch_into(rt, m, (mark - FETCH) as usize, b" len0", out, used);
     }
     Told {
         machine: m,
@@ -152,22 +158,28 @@ fn called(m: Machine, mark: u16, out: &mut [u8; 65536], used: usize) -> Told
 }
 
 // One code that is no feed.
-fn go(c: Course, code: u16, out: &mut [u8; 65536]) -> Course
+fn go(rt: &HostRuntime, c: Course, code: u16, out: &mut [u8; 65536]) -> Course
     requires { Usable c.machine.state }
     ensures { Usable result.machine.state }
 {
     if code < MARKS {
-        return answered(take_one(c, code as u8, out), out);
+        return answered(rt, take_one(rt, c, code as u8, out), out);
     }
     if code == HOLD {
         return held(c);
     }
     let m = c.machine;
-    after(c, called(m, code, out, c.used))
+    after(c, called(rt, m, code, out, c.used))
 }
 
 // The code at a place.
-fn step(c: Course, codes: &[u16; ROOM], at: usize, out: &mut [u8; 65536]) -> Course
+fn step(
+    rt: &HostRuntime,
+    c: Course,
+    codes: &[u16; ROOM],
+    at: usize,
+    out: &mut [u8; 65536],
+) -> Course
     requires { Usable c.machine.state }
     ensures { Usable result.machine.state }
 {
@@ -176,31 +188,40 @@ fn step(c: Course, codes: &[u16; ROOM], at: usize, out: &mut [u8; 65536]) -> Cou
     }
     let code = codes[at];
     if code < FEED {
-        return go(c, code, out);
+        return go(rt, c, code, out);
     }
     if code < FED {
         let m = c.machine;
-        return after(c, feed_codes(m, codes, at + 1, code - FEED, out, c.used));
+        return after(
+            c,
+            feed_codes(rt, m, codes, at + 1, code - FEED, out, c.used),
+        );
     }
     c
 }
 
-pub fn run(c: Course, codes: &[u16; ROOM], count: usize, out: &mut [u8; 65536]) -> Course
+pub fn run(
+    rt: &HostRuntime,
+    c: Course,
+    codes: &[u16; ROOM],
+    count: usize,
+    out: &mut [u8; 65536],
+) -> Course
     requires { Usable c.machine.state }
     ensures { Usable result.machine.state }
 {
     let mut course = c;
     for i in 0..count {
-        course = step(course, codes, i, out);
+        course = step(rt, course, codes, i, out);
     }
     course
 }
 
 // What look says, and whether a segment waits.
-pub fn look_at(m: Machine, out: &mut [u8; 65536], used: usize) -> usize
+pub fn look_at(rt: &HostRuntime, m: Machine, out: &mut [u8; 65536], used: usize) -> usize
     requires { Usable m.state }
 {
     let worked = m.draw();
     let drawn = worked.drawn;
-    put_look(out, used, m.look(), !is_idle(drawn))
+    put_look(rt, out, used, m.look(), !is_idle(drawn))
 }

@@ -15,6 +15,13 @@ digits_within (suc k) n = cond (ltb n 10) (digit n ∷ []) (digits_within k (n /
 unfoldable pub decimal : ℕ → List ℕ
 decimal n = digits_within (suc n) n
 
+-- two digits, and four, in any case
+abbrev pub two : ℕ → List ℕ
+two n = digit (n / 10) ∷ digit (n % 10) ∷ []
+
+abbrev pub four : ℕ → List ℕ
+four n = two (n / 100) ++ two (n % 100)
+
 -- a number that is not below 0, and the byte after it
 unfoldable pub natural : ℕ → ℕ → List ℕ
 natural n byte = decimal n ++ (byte ∷ [])

@@ -2,9 +2,8 @@
 #![tactic(auto)]
 
 ghost use Rattle.std.specs.Prelude.{◌∷◌, [], ◌≡◌, ◌+◌, ◌<◌, ◌≤◌, nat_abs, length};
-ghost use Rattle.decimals.specs.Decimal.{decimal, natural, sign, whole};
+ghost use Rattle.decimals.specs.Decimal.{decimal, two, four, natural, sign, whole};
 ghost use Rattle.decimals.specs.Decimal.{digit as digit_of};
-ghost use Rattle.decimals.specs.DecimalLaws.{two, four};
 ghost use Rattle.decimals.specs.Puts.{Puts};
 
 // One byte.

@@ -9,7 +9,7 @@ ghost use Rattle.delivery.specs.Tally.{read_of, handed_of, same_of, Kept};
 
 use super::files::Sink;
 use machine::Machine;
-use streams::Got;
+use streams::{Got, Source, Stream};
 
 // What a run counts: the bytes that its reads gave; the bytes of text that were handed over, in 64 bits; and the lines that were found the same.
 pub type Tally = [u64; 3];
@@ -27,7 +27,7 @@ pub fn bytes_read(tally: &Tally) -> u64
 }
 
 // One read.
-pub fn read_block(file: i32, block: &mut [u8], tally: &mut Tally) -> Got
+pub fn read_block(file: &mut Stream<Source>, block: &mut [u8], tally: &mut Tally) -> Got
     requires { read_of tally.old + length block.old < 2 ^ 64 }
     ensures prefix_len { IsPrefixLen result.count block.new }
     ensures tally_after { read_of tally.new ≡ read_of tally.old + result.count }
@@ -73,7 +73,7 @@ fn line_ends(text: &[u8]) -> usize
 }
 
 // Compares a text with what the file has next.
-fn compare(file: i32, text: &[u8], tally: &mut Tally) -> bool
+fn compare(file: &mut Stream<Source>, text: &[u8], tally: &mut Tally) -> bool
     requires { length text.now ≤ 65536 }
     ensures { Kept tally.old tally.new }
 {
@@ -88,7 +88,7 @@ fn compare(file: i32, text: &[u8], tally: &mut Tally) -> bool
     same == n
 }
 
-fn put(sink: Sink, text: &[u8], tally: &mut Tally) -> bool
+fn put(sink: &mut Sink, text: &[u8], tally: &mut Tally) -> bool
     requires { length text.now ≤ 65536 }
     ensures { Kept tally.old tally.new }
 {
@@ -99,7 +99,7 @@ fn put(sink: Sink, text: &[u8], tally: &mut Tally) -> bool
 }
 
 // Hands a text over, which has to be the next part of what is printed from `started` of the bytes that were read, this block the last of them.
-pub fn hand(started: Machine, block: &[u8], text: &[u8], sink: Sink, tally: &mut Tally) -> bool
+pub fn hand(started: Machine, block: &[u8], text: &[u8], sink: &mut Sink, tally: &mut Tally) -> bool
     requires text_len_bound { length text.now ≤ 65536 }
     requires next { Next started.state (read_of tally.old) (handed_of tally.old) block.now text.now }
     ensures tally_unchanged { read_of tally.new ≡ read_of tally.old }

@@ -9,18 +9,30 @@ ghost use Rattle.delivery.specs.Tally.{read_of, handed_of, ended_of};
 use super::edge::{HANDED, READ, SAME, Tally, bytes_read, hand, read_block};
 use machine::Machine;
 use plotting::{begun, emptied, fill};
+use std::io::Stdout;
+use streams::{Source, Stream};
 use textlines::word::Limits;
 
 // A proved loop has to end: this one reads so many blocks of at most 64 KB, which no file uses up.
 const BLOCKS: u64 = 0x800000000000;
 
 // Where the lines go.
-#[derive(Clone, Copy)]
+#[derive(Drop)]
 pub enum Sink {
-    // to this file
-    Write(i32),
+    // to standard output
+    Write(Stream<Stdout>),
     // beside the lines of this file
-    Compare(i32),
+    Compare(Stream<Source>),
+}
+
+impl Sink {
+    // The error of the write or the read that failed.
+    pub fn error(&self) -> i32 {
+        match self {
+            Sink::Write(file) => file.error,
+            Sink::Compare(file) => file.error,
+        }
+    }
 }
 
 // How a run ended.
@@ -60,7 +72,7 @@ fn deliver_block(
     before: u64,
     block: &[u8],
     text: &mut [u8],
-    sink: Sink,
+    sink: &mut Sink,
     tally: &mut Tally,
 ) -> Left
     requires usable { Usable machine.state }
@@ -105,7 +117,7 @@ fn ended(tally: &Tally, end: End) -> Finished
 }
 
 // Reads the input to its end. Neither a segment nor a reply waits at first.
-fn plot_file(started: Machine, file: i32, sink: Sink) -> Finished
+fn plot_file(started: Machine, file: &mut Stream<Source>, sink: &mut Sink) -> Finished
     requires usable { Usable started.state }
     requires work_value { occupied started.state.work ≡ false }
     ensures { Ran started.state result }
@@ -151,7 +163,7 @@ fn unbegun(end: End) -> Finished
 }
 
 // The lines of a file, from a machine with these hard limits.
-pub fn run(asked: Limits, file: i32, sink: Sink) -> Finished
+pub fn run(asked: Limits, file: &mut Stream<Source>, sink: &mut Sink) -> Finished
     ensures { Answers asked result }
 {
     let Limits::Four(left, bottom, right, top) = asked else {

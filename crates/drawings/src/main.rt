@@ -6,6 +6,7 @@ ghost use Rattle.drawings.specs.Part.{index_of, Within};
 
 use delivery::files::{End, Sink, run};
 use output::{finish, put_bytes, put_natural};
+use streams::{Source, Stream, number_of, read_full, tell};
 use textlines::word::{Limits, Whole, limits_of, whole_of};
 
 // Where a word of a line starts and ends.
@@ -59,20 +60,25 @@ fn limit(line: &[u8], w: Part) -> Whole
     whole_of(&line[from..to])
 }
 
-fn open(line: &[u8], w: Part) -> i32
+fn open(rt: &HostRuntime, line: &[u8], w: Part) -> Option<Stream<Source>>
     requires { Within w line.now }
 {
     let from = w.from;
     let to = w.to;
-    let file = os::open_read(&line[from..to]);
-    if file < 0 {
-        os::fail(&line[from..to]);
+    match streams::open(rt, &line[from..to]) {
+        Ok(file) => Some(file),
+        Err(error) => {
+            tell(rt.stderr(), &line[from..to], number_of(&error));
+            None
+        }
     }
-    file
 }
 
-// Whether a file has nothing more.
-fn at_end(file: i32) -> bool {
+// Whether the file that lines were compared with has nothing more.
+fn at_end(sink: &mut Sink) -> bool {
+    let Sink::Compare(file) = sink else {
+        return false;
+    };
     let mut byte = [0u8; 1];
     let got = streams::read(file, &mut byte);
     if got.good {
@@ -82,33 +88,42 @@ fn at_end(file: i32) -> bool {
 }
 
 // Prints a file's name, and what is said of so many lines.
-fn say(line: &[u8], w: Part, what: &[u8], lines: u64, after: &[u8])
+fn say(rt: &HostRuntime, line: &[u8], w: Part, what: &[u8], lines: u64, after: &[u8])
     requires { Within w line.now }
 {
     let from = w.from;
     let to = w.to;
     let mut text = io::large_buffer();
-    let mut end = put_bytes(&mut text, 0, &line[from..to]);
-    end = put_bytes(&mut text, end, what);
-    end = put_natural(&mut text, end, lines);
-    end = put_bytes(&mut text, end, after);
-    finish(&text, end, b"drawings: standard output");
+    let mut end = put_bytes(rt, &mut text, 0, &line[from..to]);
+    end = put_bytes(rt, &mut text, end, what);
+    end = put_natural(rt, &mut text, end, lines);
+    end = put_bytes(rt, &mut text, end, after);
+    finish(rt, &text, end, b"drawings: standard output");
 }
 
 // Compares the lines of a drawing with those of a file, and says what came of it.
-fn compare(line: &[u8], w: Part, asked: Limits, drawing: i32, stored: i32)
+fn compare(
+    rt: &HostRuntime,
+    line: &[u8],
+    w: Part,
+    asked: Limits,
+    mut drawing: Stream<Source>,
+    stored: Stream<Source>,
+)
     requires { Within w line.now }
 {
-    let finished = run(asked, drawing, Sink::Compare(stored));
+    let mut sink = Sink::Compare(stored);
+    let finished = run(asked, &mut drawing, &mut sink);
     let end = finished.end;
     let same = finished.same;
     if let End::Done = end {
-        if at_end(stored) {
-            say(line, w, b": as stored, ", same, b" lines\n");
+        if at_end(&mut sink) {
+            say(rt, line, w, b": as stored, ", same, b" lines\n");
             return;
         }
     }
     say(
+        rt,
         line,
         w,
         b": differs at line ",
@@ -117,24 +132,20 @@ fn compare(line: &[u8], w: Part, asked: Limits, drawing: i32, stored: i32)
     );
 }
 
-fn check_files(line: &[u8], drawn: Part, kept: Part, asked: Limits)
+fn check_files(rt: &HostRuntime, line: &[u8], drawn: Part, kept: Part, asked: Limits)
     requires within { Within drawn line.now }
     requires within_2 { Within kept line.now }
 {
-    let drawing = open(line, drawn);
-    if drawing < 0 {
+    let Some(drawing) = open(rt, line, drawn) else {
         return;
-    }
-    let stored = open(line, kept);
-    if stored < 0 {
+    };
+    let Some(stored) = open(rt, line, kept) else {
         return;
-    }
-    compare(line, kept, asked, drawing, stored);
-    libc::close(drawing);
-    libc::close(stored);
+    };
+    compare(rt, line, kept, asked, drawing, stored);
 }
 
-fn check_line(line: &[u8]) {
+fn check_line(rt: &HostRuntime, line: &[u8]) {
     let drawn = word_at(line, 0);
     let kept = word_after(line, drawn);
     let left = word_after(line, kept);
@@ -147,31 +158,32 @@ fn check_line(line: &[u8]) {
         limit(line, right),
         limit(line, top),
     );
-    check_files(line, drawn, kept, asked);
+    check_files(rt, line, drawn, kept, asked);
 }
 
-fn check_list(list: &[u8]) {
+fn check_list(rt: &HostRuntime, list: &[u8]) {
     let mut from = 0;
     while from < list.len() {
         let to = find(list, from, b'\n');
-        check_line(&list[from..to]);
+        check_line(rt, &list[from..to]);
         from = to + 1;
     }
 }
 
-fn main() {
+fn main(rt: HostRuntime) {
     let mut space = io::large_buffer();
-    let file = os::open_read(b"list");
-    if file < 0 {
-        os::fail(b"list");
-        return;
-    }
-    let got = streams::read_full(file, &mut space);
+    let mut file = match streams::open(&rt, b"list") {
+        Ok(file) => file,
+        Err(error) => {
+            tell(rt.stderr(), b"list", number_of(&error));
+            return;
+        }
+    };
+    let got = read_full(&mut file, &mut space);
     if !got.good {
-        os::fail(b"list");
+        tell(rt.stderr(), b"list", file.error);
         return;
     }
-    libc::close(file);
     let n = got.count;
-    check_list(&space[..n]);
+    check_list(&rt, &space[..n]);
 }

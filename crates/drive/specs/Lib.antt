@@ -1,3 +1,1 @@
 pub mod Drive
-pub mod Floats
-pub mod Laws

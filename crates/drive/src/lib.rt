@@ -1,4 +1,6 @@
 // Drive moves: a stroke in plotter units becomes moves in millimetres. specs/Drive.antt says which, specs/Laws.antt that nothing is lost.
+#![tactic(auto)]
+
 ghost use Rattle.std.specs.Prelude.{◌≡◌, true, pos, ◌*ℤ◌, ◌≤◌};
 ghost use Rattle.exact.specs.Int16 as I;
 ghost use Rattle.drive.specs.Drive.{last_code, pitch_of, ends_inside_of, ends_equal_of, spot_of, answer_of, f32_of, place_of, Gives};

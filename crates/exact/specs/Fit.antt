@@ -1,12 +1,12 @@
 -- That a signed result fits its width. `Bd z n` says that z is at most n in size, and is kept by each operation, also by the way through a local's bits (`rd`).
 -- Assumes nothing.
 use Rattle.std.specs.Prelude.{◌≡◌, refl, Bool, true, false, not, ℕ, zero, suc, ◌+◌, ◌*◌, ◌-◌, ◌/◌, ◌^◌, max, ◌≤◌, ◌<◌, T, eqb, ltb, leb, ℤ, pos, negsuc, neg_ℤ, ◌+ℤ◌, ◌-ℤ◌, ◌*ℤ◌, nat_abs, ◌≤ℤ◌}
-use Rattle.std.proofs.Common.{sym, ap, ap₂, ◌∙◌, subst, mul-le-mul, le_trans, div-le_self, pow_pos, arith, eqb-true, T_not, ltb→lt, nltb→le, leb→le, le→leb, lt→ltb}
-use mir.ValLaws.{pow-bits, to_z-of_z, to_z_pos, sfits_le}
+use Rattle.std.proofs.Common.{sym, ap, ap₂, ◌∙◌, subst, mul-le-mul, div-le_self, pow_pos, arith, eqb-true, T_not, ltb→lt, nltb→le, leb→le}
+use mir.ValLaws.{pow-bits, to_z-of_z, to_z_pos}
 use Rattle.std.proofs.lemmas.Bool.{eqb-false}
 use Rattle.std.proofs.Math.IntN.{+ℤ_idl}
-use Rattle.std.specs.Int.Signed.{mag, nat_abs-le, lt_z, le_z, quot_z, shr_z, mag_shr, non_neg, yes_non_neg, pos-nat_abs}
-use Rattle.std.specs.Int.{Width, w8, w16, w32, w64, w128}
+use Rattle.std.specs.Int.Signed.{mag, nat_abs-le, lt_z, le_z, quot_z, non_neg, yes_non_neg}
+use Rattle.std.specs.Int.{Width, w64}
 use mir.Val.{Fits, SFits, to_z, of_z, sel, bits, hbits}
 use Rattle.exact.specs.Whole.{up, dn, add_parts, up_neg, dn-neg, up-mul, dn-mul, ord, eq_z, eq-eq_z, ne-eq_z, ◌<?◌, ◌≤?◌, ◌≡?◌}
 

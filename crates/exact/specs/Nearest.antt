@@ -1,13 +1,12 @@
 -- The laws of the two divisions: which number each is, that it is the only one, and what a shift, a factor, a sign and the order do to the nearest.
 -- Use a quotient through these, never through its definition.
-use Rattle.std.specs.Prelude.{◌≡◌, refl, ◌⊎◌, ℕ, zero, suc, ◌+◌, ◌*◌, ◌/◌, ◌≤◌, ◌<◌, ℤ, pos, negsuc, neg_ℤ, nat_abs, ◌+ℤ◌, ◌-ℤ◌, ◌*ℤ◌}
-use Rattle.std.proofs.Common.{sym, ap, ap₂, ◌∙◌, subst, inl, inr, arith}
+use Rattle.std.specs.Prelude.{◌≡◌, refl, ◌⊎◌, ℕ, zero, suc, ◌+◌, ◌*◌, ◌/◌, ◌≤◌, ◌<◌, ℤ, pos, negsuc, neg_ℤ, ◌+ℤ◌, ◌*ℤ◌}
+use Rattle.std.proofs.Common.{ap, ◌∙◌, inl, inr, arith}
 use Rattle.std.proofs.Math.Nat.{mul-div-le, lt-mul-div-succ}
-use Rattle.std.proofs.Math.IntN.{neg_ℤ-neg_ℤ, suc_ℤ, +ℤ_one}
+use Rattle.std.proofs.Math.IntN.{suc_ℤ, +ℤ_one}
 use Rattle.std.specs.Int.Signed.{shr_z}
 use Rattle.exact.specs.Whole.{◌≤ᶻ◌, ◌<ᶻ◌, is, Z, ord, up_neg, dn-neg}
 use Rattle.exact.specs.Laws.{lt_of_mul, mul-≤, mul-<, mul-posᶻ, sign, *ℤ-neg, neg-*ℤ}
-use Rattle.exact.specs.Fit.{Bd, abs}
 use Rattle.exact.specs.Divide.{floor_div, nearest_div}
 
 -- ---- the law of the floor
@@ -61,12 +60,6 @@ unfolding nearest_div
 nearest-law n (pos m) h = floor-law (pos 2 *ℤ n +ℤ pos m) (pos 2 *ℤ pos m) (omega (arith, ord))
 nearest-law n (negsuc m) h = absurd (omega (arith, ord))
 
-pub nearest-neg : (n d : ℤ) → (d ≡ pos 0 → ⊥) → nearest_div (neg_ℤ n) (neg_ℤ d) ≡ nearest_div n d
-unfolding nearest_div
-nearest-neg n (pos zero) h = absurd (h refl)
-nearest-neg n (pos (suc m)) h = ap (λ (x : ℤ). floor_div (pos 2 *ℤ x +ℤ pos (suc m)) (pos 2 *ℤ pos (suc m))) (neg_ℤ-neg_ℤ n)
-nearest-neg n (negsuc m) h = refl
-
 nearest-above : (n d : ℤ) → pos 0 <ᶻ d → floor_div (pos 2 *ℤ n +ℤ d) (pos 2 *ℤ d) ≡ nearest_div n d
 unfolding nearest_div
 nearest-above n (pos m) h = refl
@@ -87,7 +80,7 @@ nearest-shift n d k h = let l = nearest-law n d h in nearest-only (n +ℤ k *ℤ
     high q = rw (is n, is d, is k, is q) (simp Z (omega arith))
 
 -- a factor of both
-scaled : (n d k : ℤ) → pos 0 <ᶻ d → pos 0 <ᶻ k → nearest_div n d ≡ nearest_div (n *ℤ k) (d *ℤ k)
+pub scaled : (n d k : ℤ) → pos 0 <ᶻ d → pos 0 <ᶻ k → nearest_div n d ≡ nearest_div (n *ℤ k) (d *ℤ k)
 scaled n d k h p =
     let l = nearest-law n d h in
     nearest-only (n *ℤ k) (d *ℤ k) (nearest_div n d) (mul-posᶻ h p) (low (nearest_div n d) (mul-≤ (weak p) l.0)) (high (nearest_div n d) (mul-< p l.1))
@@ -110,15 +103,6 @@ product-some {d} {k} z p e = go (sign d)
     go : (pos 0 ≤ᶻ d) ⊎ (d <ᶻ pos 0) → ⊥
     go (inl l) = above (mul-posᶻ (pos_of l z) p) e
     go (inr l) = above (mul-posᶻ (neg-pos l) p) (neg-*ℤ d k ∙ ap neg_ℤ e)
-
-pub nearest-times : (n d k : ℤ) → (d ≡ pos 0 → ⊥) → pos 0 <ᶻ k → nearest_div n d ≡ nearest_div (n *ℤ k) (d *ℤ k)
-nearest-times n d k z p = go (sign d)
-  where
-    go : (pos 0 ≤ᶻ d) ⊎ (d <ᶻ pos 0) → nearest_div n d ≡ nearest_div (n *ℤ k) (d *ℤ k)
-    go (inl l) = scaled n d k (pos_of l z) p
-    go (inr l) =
-        sym (nearest-neg n d z) ∙ scaled (neg_ℤ n) (neg_ℤ d) k (neg-pos l) p ∙ ap₂ nearest_div (neg-*ℤ n k) (neg-*ℤ d k)
-        ∙ nearest-neg (n *ℤ k) (d *ℤ k) (product-some z p)
 
 -- the order
 pub nearest-mono : (m n d : ℤ) → pos 0 <ᶻ d → m ≤ᶻ n → nearest_div m d ≤ᶻ nearest_div n d

@@ -1,6 +1,6 @@
 -- A whole number's expression as a difference of two naturals, built as it is written: `Is z p n` says that z is p − n, and what is to be proved is then
 -- a fact over ℕ, which `omega` proves, products included. Whole.antt does the same by rewriting; this way names the two naturals.
-use Rattle.std.specs.Prelude.{◌≡◌, ℕ, ◌+◌, ◌*◌, ◌≤◌, ◌<◌, ℤ, pos, neg_ℤ, ◌+ℤ◌, ◌-ℤ◌, ◌*ℤ◌, ◌≤ℤ◌}
+use Rattle.std.specs.Prelude.{◌≡◌, ℕ, ◌+◌, ◌*◌, ◌≤◌, ℤ, pos, neg_ℤ, ◌+ℤ◌, ◌-ℤ◌, ◌*ℤ◌, ◌≤ℤ◌}
 use Rattle.std.proofs.Common.{arith}
 use Rattle.exact.specs.Whole.{up, dn, add_parts, up_neg, dn-neg, up-mul, dn-mul, mul-cross, ≤-parts, parts-≤}
 

@@ -1,11 +1,11 @@
 -- How the code comes to its quotients, by `/`, which rounds toward zero, and by a remainder; and how large what it makes can be.
-use Rattle.std.specs.Prelude.{◌≡◌, refl, Bool, true, false, cond, ℕ, suc, ◌+◌, ◌*◌, ◌/◌, ◌≤◌, ℤ, pos, negsuc, neg_ℤ, nat_abs, ◌+ℤ◌, ◌-ℤ◌, ◌*ℤ◌}
+use Rattle.std.specs.Prelude.{◌≡◌, refl, Bool, true, false, cond, ℕ, suc, ◌+◌, ◌/◌, ◌≤◌, ℤ, pos, negsuc, neg_ℤ, nat_abs, ◌+ℤ◌, ◌-ℤ◌, ◌*ℤ◌}
 use Rattle.std.proofs.Common.{ap, ◌∙◌, arith, SFits}
-use Rattle.std.specs.Int.Signed.{mag, lt_z, shr_z, quot_z, mag_shr}
+use Rattle.std.specs.Int.Signed.{mag, lt_z, quot_z, mag_shr}
 use Rattle.std.specs.Int.{w64}
 use mir.ValLaws.{sfits_le}
 use Rattle.exact.specs.Whole.{◌≤ᶻ◌, ◌<ᶻ◌, lt_z-true, lt_z-false, is, Z, ord, ext, add_parts, up_neg, dn-neg}
-use Rattle.exact.specs.Fit.{Bd, abs, abs-add, abs-mul, abs_neg}
+use Rattle.exact.specs.Fit.{Bd, abs}
 use Rattle.exact.specs.Divide.{floor_div, nearest_div}
 use Rattle.exact.specs.Nearest.{floor-law, nearest-only}
 
@@ -135,19 +135,8 @@ mag-abs : (z : ℤ) → mag z ≤ nat_abs z
 mag-abs (pos n) = omega arith
 mag-abs (negsuc n) = omega arith
 
-abs-floor : (a b : ℤ) → nat_abs (floor_div a b) ≤ nat_abs a + 1
+pub abs-floor : (a b : ℤ) → nat_abs (floor_div a b) ≤ nat_abs a + 1
 abs-floor a b = omega (arith, abs_mag (floor_div a b), mag_shr a (nat_abs b), mag-abs a)
 
 pub floor-size : (a b : ℤ) {n : ℕ} → Bd a n → Bd (floor_div a b) (n + 1)
 floor-size a b h = record { bd = omega (arith, abs-floor a b, h.bd) }
-
-abs-two : (n m : ℤ) → nat_abs (pos 2 *ℤ n +ℤ m) ≤ 2 * nat_abs n + nat_abs m
-abs-two n m = omega (arith, abs-add (pos 2 *ℤ n) m, abs-mul (pos 2) n)
-
-pub abs-nearest : (n d : ℤ) → nat_abs (nearest_div n d) ≤ 2 * nat_abs n + nat_abs d + 1
-unfolding nearest_div
-abs-nearest n (pos m) = omega (arith, abs-floor (pos 2 *ℤ n +ℤ pos m) (pos 2 *ℤ pos m), abs-two n (pos m))
-abs-nearest n (negsuc m) = omega (arith, abs-floor (pos 2 *ℤ neg_ℤ n +ℤ pos (suc m)) (pos 2 *ℤ pos (suc m)), abs-two (neg_ℤ n) (pos (suc m)), abs_neg n)
-
-pub nearest-size : {n d : ℤ} {a b : ℕ} → Bd n a → Bd d b → Bd (nearest_div n d) (2 * a + b + 1)
-nearest-size {n} {d} h k = record { bd = omega (arith, abs-nearest n d, h.bd, k.bd) }

@@ -8,7 +8,7 @@ use Rattle.exact.specs.Laws.{mul-≤}
 use Rattle.exact.specs.Divide.{nearest_div}
 use Rattle.exact.specs.Nearest.{nearest-mono, nearest-only}
 use Rattle.clip.specs.Line.{whole, based, nearest_whole}
-use Rattle.clip.specs.Based.{based-nearest}
+use Rattle.clip.proofs.Based.{based-nearest}
 use Rattle.clip.specs.Reach.{reach}
 use Rattle.turns.specs.Turn.{lesser_of, greater_of}
 use Rattle.turns.proofs.BoxLaws.{lesser-by, greater-by, lesser-≤, greater-≥}

@@ -8,7 +8,8 @@ use mathlib.Core.List.{List, [], ◌∷◌, map}
 use Rattle.std.proofs.Math.IntN.{*ℤ_comm}
 use Rattle.exact.specs.Whole.{◌≤ᶻ◌, ◌<ᶻ◌, ord, ◌≤?◌, ≤?-true, ≤?-false, le-≤?, ◌<?◌, lt-<?, le-<?, <?-false}
 use Rattle.exact.specs.Divide.{nearest_div}
-use Rattle.exact.specs.Nearest.{nearest-mono, nearest-times}
+use Rattle.exact.specs.Nearest.{nearest-mono}
+use Rattle.exact.proofs.NearestLaws.{nearest-times}
 use Rattle.exact.specs.Laws.{mul-posᶻ}
 use Rattle.exact.specs.Steps.{not-zero}
 use Rattle.clip.specs.Line.{Frac, nearest_whole}

@@ -19,7 +19,7 @@ use Rattle.reader.specs.declared.Next.{Next}
 use Rattle.reader.specs.Step.{step_of}
 use Rattle.reader.specs.Stream.{◌telling◌}
 use Rattle.reader.specs.Next.{is_nothing, next_of}
-use Rattle.reader.specs.NextLaws.{next-end, next-quiet, next-event}
+use Rattle.reader.proofs.NextLaws.{next-end, next-quiet, next-event}
 use Rattle.hpgl.specs.declared.Acted.{Acted}
 use Rattle.hpgl.specs.declared.Core.{Core}
 use Rattle.hpgl.specs.declared.Store.{Store}

@@ -20,7 +20,7 @@ use Rattle.reader.specs.Step.{passed_over}
 use Rattle.reader.specs.Stream.{◌telling◌}
 use Rattle.mnemonics.specs.Table.{EP, PU, PD, PA, PR}
 use Rattle.reader.specs.Sizes.{is_cause, Caused}
-use Rattle.reader.specs.Laws.{cause-law}
+use Rattle.reader.proofs.Laws.{cause-law}
 use Rattle.reader.specs.declared.Numbers.{Numbers}
 use Rattle.hpgl.specs.declared.Polygon.{Polygon}
 use Rattle.hpgl.specs.declared.Carriage.{Carriage}

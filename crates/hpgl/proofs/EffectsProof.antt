@@ -16,7 +16,7 @@ use Rattle.plane.specs.Bounds.{most_angle}
 use Rattle.turns.specs.Turn.{turn_count, find_turn, turned_back_of}
 use Rattle.turns.proofs.TurnLaws.{back-forth}
 use Rattle.turns.proofs.TurnsSaid.{quarters-found}
-use Rattle.plane.specs.CircleLaws.{vertex-point-split}
+use Rattle.plane.proofs.CircleLaws.{vertex-point-split}
 use Rattle.hpgl.proofs.Cases.{pick, choose, whether}
 use Rattle.hpgl.specs.declared.Position.{Position}
 use Rattle.hpgl.specs.declared.Scale.{Scale}

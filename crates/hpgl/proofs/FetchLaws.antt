@@ -6,7 +6,7 @@ use Prim.Native.Char.{code}
 use Rattle.std.proofs.Common.{arith, le-leb, length-append}
 use Rattle.std.proofs.Math.Dec.{eqb-suc-zero}
 use Rattle.decimals.specs.Decimal.{whole}
-use Rattle.decimals.specs.DecimalLaws.{whole-some}
+use Rattle.decimals.proofs.DecimalLaws.{whole-some}
 use Rattle.hpgl.specs.declared.Reply.{Reply}
 use Rattle.hpgl.specs.declared.State.{State}
 use Rattle.hpgl.specs.declared.Work.{Work}

@@ -3,7 +3,7 @@ use Rattle.std.specs.Prelude.{◌≡◌, refl, List, [], ◌∷◌, ◌↔◌}
 use Rattle.clip.specs.Clip.{clip}
 use Rattle.clip.specs.Line.{exactly}
 use Rattle.clip.specs.Types.{Inner, type_of}
-use Rattle.clip.specs.TypeLaws.{some-type, one_type, by-type}
+use Rattle.clip.proofs.TypeLaws.{some-type, one_type, by-type}
 use Rattle.clip.specs.declared.Point.{Point}
 use Rattle.clip.specs.declared.Rect.{Rect}
 use Rattle.hpgl.specs.declared.Settings.{Settings}

@@ -6,7 +6,8 @@ use Rattle.std.proofs.Math.Bool.{Bool, true, false}
 use Rattle.std.specs.Prelude.{cond, List, ◌∷◌, ℕ, ◌<◌}
 use Rattle.clip.specs.Clip.{clip}
 use Rattle.clip.specs.Line.{Exact, exactly, at, HasClose, Within}
-use Rattle.clip.specs.Nearness.{clip-near, clip-covers, clip-hides}
+use Rattle.clip.proofs.Nearness.{clip-near, clip-covers}
+use Rattle.clip.proofs.NearnessHidden.{clip-hides}
 use Rattle.clip.specs.declared.Point.{Point}
 use Rattle.clip.specs.declared.Rect.{Rect}
 use Rattle.clip.specs.declared.Clipped.{Clipped}

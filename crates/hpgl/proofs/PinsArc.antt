@@ -20,9 +20,9 @@ use Rattle.plane.specs.declared.position.ExactPosition.{ExactPosition}
 use Rattle.plane.specs.declared.circle.Way.{Way}
 use Rattle.plane.specs.Position.{axis_of, exact_of}
 use Rattle.plane.specs.Circle.{rotated_of, exact_vertex, vertex_point_of}
-use Rattle.plane.specs.CircleLaws.{vertex-nearest, vertex-point-split}
+use Rattle.plane.proofs.CircleLaws.{vertex-nearest, vertex-point-split}
 use Rattle.plane.specs.Arc.{exact_way, parts_of, towards, bend_of, exact_arc}
-use Rattle.plane.specs.ArcLaws.{way-exact, relative-way, parts-law, parts-some, bend-inner, bend-last}
+use Rattle.plane.proofs.ArcLaws.{way-exact, relative-way, parts-law, parts-some, bend-inner, bend-last}
 use Rattle.hpgl.proofs.Cases.{pick}
 use Rattle.hpgl.specs.declared.Position.{Position}
 use Rattle.hpgl.specs.declared.Range.{Range}

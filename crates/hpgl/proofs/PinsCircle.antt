@@ -15,7 +15,7 @@ use Rattle.plane.specs.declared.position.ExactPosition.{ExactPosition}
 use Rattle.plane.specs.Position.{axis_of, exact_of}
 use Rattle.turns.specs.Turn.{turned_exact}
 use Rattle.plane.specs.Circle.{chords_of, angle_of, rotated_of, exact_vertex}
-use Rattle.plane.specs.CircleLaws.{chords-law, angle-law}
+use Rattle.plane.proofs.CircleLaws.{chords-law, angle-law}
 use Rattle.hpgl.specs.declared.Range.{Range}
 use Rattle.hpgl.specs.declared.Settings.{Settings}
 use Rattle.hpgl.specs.declared.Core.{Core}

@@ -8,7 +8,7 @@ use mathlib.Core.List.{List, [], ◌∷◌, ◌++◌, append_assoc, append-nil}
 use native.Mathlib.Omega.{arith}
 use Rattle.std.proofs.Math.ListN.{length-set}
 use Rattle.clip.specs.Line.{nearest}
-use Rattle.plane.specs.PositionLaws as plane
+use Rattle.plane.proofs.PositionLaws as plane
 use Rattle.hpgl.proofs.Cases.{never}
 use Rattle.hpgl.specs.declared.Position.{Position}
 use Rattle.hpgl.specs.declared.Settings.{Settings}

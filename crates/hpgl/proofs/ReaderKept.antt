@@ -7,7 +7,7 @@ use Rattle.reader.specs.declared.Event.TheVariants.{Nothing, Named, Pair, Ended,
 use Rattle.reader.specs.declared.Reader.{Reader}
 use Rattle.reader.specs.Step.{step_of}
 use Rattle.reader.specs.Sizes.{is_cause, Caused, Sized, Readable}
-use Rattle.reader.specs.Laws.{cause-law, step-law, passed-over-law}
+use Rattle.reader.proofs.Laws.{cause-law, step-law, passed-over-law}
 use Rattle.reader.specs.InsideLaws.{Leads, step-tells}
 use Rattle.hpgl.specs.declared.Core.{Core}
 use Rattle.hpgl.specs.declared.State.{State}

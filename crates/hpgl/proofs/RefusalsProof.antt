@@ -29,9 +29,9 @@ use Rattle.plane.specs.declared.circle.Way.{Way}
 use Rattle.plane.specs.declared.circle.Centre.{Centre}
 use Rattle.plane.specs.Bounds.{most_number}
 use Rattle.plane.specs.Circle.{vertex_point_of, centre_of, point_from_centre}
-use Rattle.plane.specs.CircleLaws.{point-0, point-90, point-180, point-270, vertex-point-split}
+use Rattle.plane.proofs.CircleLaws.{point-0, point-90, point-180, point-270, vertex-point-split}
 use Rattle.plane.specs.Arc.{exact_way, way_of, way_fits, parts_of, bend_of, arc_fits}
-use Rattle.plane.specs.ArcLaws.{way-nearest, way-bounds, way-fits, each-small, each_fits}
+use Rattle.plane.proofs.ArcLaws.{way-nearest, way-bounds, way-fits, each-small, each_fits}
 use Rattle.hpgl.proofs.Cases.{whether}
 use Rattle.hpgl.specs.declared.Position.{Position}
 use Rattle.hpgl.specs.declared.Core.{Core}

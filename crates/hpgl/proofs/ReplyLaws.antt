@@ -6,7 +6,7 @@ use Prim.Native.Char.{code}
 use Rattle.exact.specs.Whole.{◌<ᶻ◌, ◌≤ᶻ◌, ord}
 use Rattle.exact.specs.Fit.{Bd}
 use Rattle.decimals.specs.Decimal.{digit, decimal, natural, whole}
-use Rattle.decimals.specs.DecimalLaws.{decimal-one, decimal-more, decimal-length}
+use Rattle.decimals.proofs.DecimalLaws.{decimal-one, decimal-more, decimal-length}
 use Rattle.clip.specs.Reach.{reach}
 use Rattle.turns.specs.Turn.{turned_box_of}
 use Rattle.turns.proofs.BoxLaws.{box-home}

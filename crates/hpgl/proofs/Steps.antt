@@ -26,8 +26,8 @@ use Rattle.plane.specs.declared.circle.Way.{Way}
 use Rattle.plane.specs.declared.circle.Centre.{Centre}
 use Rattle.plane.specs.Circle.{chords_of, angle_of, rotated_of, vertex_point_of, centre_of, point_from_centre}
 use Rattle.plane.specs.Arc.{parts_of, bend_of, arc_point}
-use Rattle.plane.specs.CircleLaws.{vertex-nearest, vertex-point-split, point-0}
-use Rattle.plane.specs.ArcLaws.{circle-arc, arc-nearest, arc-split}
+use Rattle.plane.proofs.CircleLaws.{vertex-nearest, vertex-point-split, point-0}
+use Rattle.plane.proofs.ArcLaws.{circle-arc, arc-nearest, arc-split}
 use Rattle.hpgl.proofs.Cases.{never, pick, cond-true, cond-false}
 use Rattle.hpgl.specs.declared.Position.{Position}
 use Rattle.hpgl.specs.declared.Window.{Window}

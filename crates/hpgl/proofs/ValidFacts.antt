@@ -16,9 +16,9 @@ use Rattle.plane.specs.Bounds.{most_number, most_point, most_product, most_angle
 use Rattle.plane.specs.Circle.{centre_of, point_from_centre}
 use Rattle.plane.specs.Arc.{parts_of, bend_of, way_fits, arc_fits, arc_point}
 use Rattle.turns.proofs.TurnLaws.{turned-small, rebased-small}
-use Rattle.plane.specs.PositionLaws as axis
-use Rattle.plane.specs.CircleLaws as round
-use Rattle.plane.specs.ArcLaws as curve
+use Rattle.plane.proofs.PositionLaws as axis
+use Rattle.plane.proofs.CircleLaws as round
+use Rattle.plane.proofs.ArcLaws as curve
 use Rattle.turns.proofs.LimitsLaws as box
 use Rattle.hpgl.specs.declared.Position.{Position}
 use Rattle.hpgl.specs.declared.Range.{Range}

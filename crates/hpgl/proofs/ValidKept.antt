@@ -12,7 +12,7 @@ use Rattle.reader.specs.declared.Event.{Event}
 use Rattle.reader.specs.declared.Event.TheVariants.{Nothing, Named, Pair, Ended, Refused}
 use Rattle.mnemonics.specs.Table.{cell_of, known_in_polygon}
 use Rattle.reader.specs.Step.{step_of}
-use Rattle.reader.specs.Laws.{fresh-law}
+use Rattle.reader.proofs.Laws.{fresh-law}
 use Rattle.hpgl.specs.declared.Core.{Core}
 use Rattle.hpgl.specs.declared.Edge.{Edge}
 use Rattle.hpgl.specs.declared.Action.{Action}

@@ -1,4 +1,6 @@
 // Lengths: of a stroke in tenths of a unit, rounded to the nearest, and in centimetres on the ice.
+#![tactic(auto)]
+
 ghost use Rattle.std.specs.Prelude.{◌≡◌, ◌*◌, ◌<◌};
 ghost use Rattle.measure.specs.Root.{Root, most, across, squares, tenths_of, centimetres_of, ice_of, narrow_of};
 

@@ -12,7 +12,7 @@ use mir.Val.{SFits, to_z, of_z}
 use mir.Facts.{to_z_pos, to_z-of_z}
 use Rattle.numerals.specs.Number.{places, below, past_of, unit_of}
 use Rattle.numerals.specs.Run.{reached_of}
-use Rattle.numerals.specs.NumeralLaws.{unit_size}
+use Rattle.numerals.proofs.NumeralLaws.{unit_size}
 
 pub scaled-le : {m : ℕ} (k : ℕ) → m < 2 ^ 32 → m * unit_of k ≤ 2 ^ 32 * 10000
 scaled-le k p = mul-le-mul (le_of_lt p) (unit_size k).1

@@ -4,6 +4,4 @@ pub mod Number
 pub mod Run
 pub mod Numeral
 pub mod Marks
-pub mod NumeralLaws
-pub mod Tail
 pub mod RunLaws

@@ -8,37 +8,43 @@ fn wide(bits: u32) -> u64 {
 }
 
 // The eight hexadecimal digits of a float's bits. Those of a NaN cannot be read.
-fn put_float(out: &mut [u8; 65536], used: usize, x: f32) -> usize {
-    let end = put_byte(out, used, b' ');
+fn put_float(rt: &HostRuntime, out: &mut [u8; 65536], used: usize, x: f32) -> usize {
+    let end = put_byte(rt, out, used, b' ');
     if x != x {
-        return put_bytes(out, end, b"NaN");
+        return put_bytes(rt, out, end, b"NaN");
     }
     let mut digits = [0u8; 16];
     let n = io::hex(wide(f32::to_bits(x)), 8, &mut digits);
-    put_bytes(out, end, &digits[..n])
+    put_bytes(rt, out, end, &digits[..n])
 }
 
-fn put_place(out: &mut [u8; 65536], used: usize, name: &[u8], place: Place) -> usize {
-    let end = put_bytes(out, used, name);
-    let end = put_float(out, end, place.x);
-    put_float(out, end, place.y)
+fn put_place(
+    rt: &HostRuntime,
+    out: &mut [u8; 65536],
+    used: usize,
+    name: &[u8],
+    place: Place,
+) -> usize {
+    let end = put_bytes(rt, out, used, name);
+    let end = put_float(rt, out, end, place.x);
+    put_float(rt, out, end, place.y)
 }
 
-fn put_move(out: &mut [u8; 65536], used: usize, step: Move) -> usize {
+fn put_move(rt: &HostRuntime, out: &mut [u8; 65536], used: usize, step: Move) -> usize {
     match step {
-        Move::Travel(place) => put_place(out, used, b" travel", place),
-        Move::Paint(place) => put_place(out, used, b" paint", place),
-        Move::Dot(place) => put_place(out, used, b" dot", place),
+        Move::Travel(place) => put_place(rt, out, used, b" travel", place),
+        Move::Paint(place) => put_place(rt, out, used, b" paint", place),
+        Move::Dot(place) => put_place(rt, out, used, b" dot", place),
     }
 }
 
-pub fn put_moves(out: &mut [u8; 65536], used: usize, moves: Moves) -> usize {
+pub fn put_moves(rt: &HostRuntime, out: &mut [u8; 65536], used: usize, moves: Moves) -> usize {
     match moves {
         Moves::Two(first, second) => {
-            let end = put_move(out, used, first);
-            put_move(out, end, second)
+            let end = put_move(rt, out, used, first);
+            put_move(rt, out, end, second)
         }
-        Moves::One(dot) => put_move(out, used, dot),
-        Moves::Refused(number) => put_number(out, used, b" E", number as i64),
+        Moves::One(dot) => put_move(rt, out, used, dot),
+        Moves::Refused(number) => put_number(rt, out, used, b" E", number as i64),
     }
 }

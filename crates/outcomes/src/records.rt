@@ -36,19 +36,26 @@ pub fn fitting(room: u64) -> usize
 }
 
 // The i-th record.
-fn put_record(out: &mut [u8; 65536], used: usize, numbers: &[i64; NUMBERS], i: usize) -> usize {
+fn put_record(
+    rt: &HostRuntime,
+    out: &mut [u8; 65536],
+    used: usize,
+    numbers: &[i64; NUMBERS],
+    i: usize,
+) -> usize {
     if RECORDS <= i {
         return used;
     }
     let pen = i * 5;
-    let end = put_number(out, used, b" ", numbers[pen]);
-    let end = put_number(out, end, b":", numbers[pen + 1]);
-    let end = put_number(out, end, b",", numbers[pen + 2]);
-    let end = put_number(out, end, b"-", numbers[pen + 3]);
-    put_number(out, end, b",", numbers[pen + 4])
+    let end = put_number(rt, out, used, b" ", numbers[pen]);
+    let end = put_number(rt, out, end, b":", numbers[pen + 1]);
+    let end = put_number(rt, out, end, b",", numbers[pen + 2]);
+    let end = put_number(rt, out, end, b"-", numbers[pen + 3]);
+    put_number(rt, out, end, b",", numbers[pen + 4])
 }
 
 pub fn put_records(
+    rt: &HostRuntime,
     out: &mut [u8; 65536],
     used: usize,
     numbers: &[i64; NUMBERS],
@@ -56,14 +63,14 @@ pub fn put_records(
 ) -> usize {
     let mut end = used;
     for i in 0..count {
-        end = put_record(out, end, numbers, i);
+        end = put_record(rt, out, end, numbers, i);
     }
     end
 }
 
-fn put_count(out: &mut [u8; 65536], used: usize, count: usize) -> usize {
-    let end = put_byte(out, used, b' ');
-    put_natural(out, end, count as u64)
+fn put_count(rt: &HostRuntime, out: &mut [u8; 65536], used: usize, count: usize) -> usize {
+    let end = put_byte(rt, out, used, b' ');
+    put_natural(rt, out, end, count as u64)
 }
 
 fn wide(number: u8) -> usize {
@@ -72,33 +79,35 @@ fn wide(number: u8) -> usize {
 
 // What the one feed of a line answered, as a field of its own.
 pub fn put_field(
+    rt: &HostRuntime,
     out: &mut [u8; 65536],
     used: usize,
     at: usize,
     stored: usize,
     number: u8,
 ) -> usize {
-    let end = put_count(out, used, at);
-    let end = put_count(out, end, stored);
-    let end = put_count(out, end, wide(number));
-    put_bytes(out, end, b" |")
+    let end = put_count(rt, out, used, at);
+    let end = put_count(rt, out, end, stored);
+    let end = put_count(rt, out, end, wide(number));
+    put_bytes(rt, out, end, b" |")
 }
 
 // What a feed within a sequence answered.
 pub fn put_answer(
+    rt: &HostRuntime,
     out: &mut [u8; 65536],
     used: usize,
     at: usize,
     stored: usize,
     number: u8,
 ) -> usize {
-    let end = put_bytes(out, used, b" (");
-    let end = put_natural(out, end, at as u64);
-    let end = put_byte(out, end, b',');
-    let end = put_natural(out, end, stored as u64);
-    let end = put_byte(out, end, b',');
-    let end = put_natural(out, end, number as u64);
-    put_byte(out, end, b')')
+    let end = put_bytes(rt, out, used, b" (");
+    let end = put_natural(rt, out, end, at as u64);
+    let end = put_byte(rt, out, end, b',');
+    let end = put_natural(rt, out, end, stored as u64);
+    let end = put_byte(rt, out, end, b',');
+    let end = put_natural(rt, out, end, number as u64);
+    put_byte(rt, out, end, b')')
 }
 
 // The refusal of a byte: none where the list is full or a reply waits.
@@ -110,6 +119,12 @@ fn refusal_of(number: u8) -> u8 {
 }
 
 // The refusal that a feed stopped at, if it did, after so many bytes.
-pub fn put_stop(out: &mut [u8; 65536], used: usize, number: u8, at: usize) -> usize {
-    put_refusal(out, used, refusal_of(number), at as u64)
+pub fn put_stop(
+    rt: &HostRuntime,
+    out: &mut [u8; 65536],
+    used: usize,
+    number: u8,
+    at: usize,
+) -> usize {
+    put_refusal(rt, out, used, refusal_of(number), at as u64)
 }

@@ -34,46 +34,59 @@ fn is_closed(buffer: &[u8; BUFFER], at: usize) -> bool {
     is_kept(buffer, at + 2)
 }
 
-fn put_spoilt(out: &mut [u8; 65536], used: usize) -> usize {
-    put_bytes(out, used, b" spoilt")
+fn put_spoilt(rt: &HostRuntime, out: &mut [u8; 65536], used: usize) -> usize {
+    put_bytes(rt, out, used, b" spoilt")
 }
 
 // So many bytes of a buffer.
-fn put_front(out: &mut [u8; 65536], used: usize, buffer: &[u8; BUFFER], count: usize) -> usize {
+fn put_front(
+    rt: &HostRuntime,
+    out: &mut [u8; 65536],
+    used: usize,
+    buffer: &[u8; BUFFER],
+    count: usize,
+) -> usize {
     let mut end = used;
     for i in 0..count {
         if BUFFER <= i {
             return end;
         }
         let byte = buffer[i];
-        end = put_byte(out, end, byte);
+        end = put_byte(rt, out, end, byte);
     }
     end
 }
 
 // A reply without the 13, 10 that close it. Where they do not, or a byte past it was written, the outcome tells.
-fn put_reply(out: &mut [u8; 65536], used: usize, buffer: &[u8; BUFFER], size: usize) -> usize {
+fn put_reply(
+    rt: &HostRuntime,
+    out: &mut [u8; 65536],
+    used: usize,
+    buffer: &[u8; BUFFER],
+    size: usize,
+) -> usize {
     if size < 2 {
-        return put_spoilt(out, used);
+        return put_spoilt(rt, out, used);
     }
     let end = size - 2;
     if !is_closed(buffer, end) {
-        return put_spoilt(out, used);
+        return put_spoilt(rt, out, used);
     }
-    let begun = put_bytes(out, used, b" \"");
-    let told = put_front(out, begun, buffer, end);
-    put_byte(out, told, b'"')
+    let begun = put_bytes(rt, out, used, b" \"");
+    let told = put_front(rt, out, begun, buffer, end);
+    put_byte(rt, out, told, b'"')
 }
 
 // A refused fetch.
-fn put_unfetched(out: &mut [u8; 65536], used: usize, number: u8) -> usize {
-    let end = put_bytes(out, used, b" E");
-    let end = put_natural(out, end, number as u64);
-    put_bytes(out, end, b"@fetch")
+fn put_unfetched(rt: &HostRuntime, out: &mut [u8; 65536], used: usize, number: u8) -> usize {
+    let end = put_bytes(rt, out, used, b" E");
+    let end = put_natural(rt, out, end, number as u64);
+    put_bytes(rt, out, end, b"@fetch")
 }
 
 // What a fetch answered, with a word for one where no reply waited. Such a one, and one that was refused, writes nothing.
 pub fn put_fetched(
+    rt: &HostRuntime,
     out: &mut [u8; 65536],
     used: usize,
     buffer: &[u8; BUFFER],
@@ -82,15 +95,15 @@ pub fn put_fetched(
     word: &[u8],
 ) -> usize {
     if 0 < size {
-        return put_reply(out, used, buffer, size);
+        return put_reply(rt, out, used, buffer, size);
     }
     if !is_kept(buffer, 0) {
-        return put_spoilt(out, used);
+        return put_spoilt(rt, out, used);
     }
     if number == 0 {
-        return put_bytes(out, used, word);
+        return put_bytes(rt, out, used, word);
     }
-    put_unfetched(out, used, number)
+    put_unfetched(rt, out, used, number)
 }
 
 pub fn marked() -> [u8; BUFFER]

@@ -1,4 +1,4 @@
--- Arcs: "AA and AR: centre (absolute or relative), swept angle and optional chord angle, as for CI". Definitions only: ArcLaws.antt has what follows of them.
+-- Arcs: "AA and AR: centre (absolute or relative), swept angle and optional chord angle, as for CI". Definitions only: proofs/ArcLaws.antt has what follows of them.
 use Rattle.std.specs.Prelude.{Bool, true, false, cond, ◌&&◌, ℕ, zero, suc, ◌+◌, ◌-◌, ◌*◌, ◌/◌, eqb, ltb, ℤ, pos, neg_ℤ, nat_abs, ◌+ℤ◌, ◌-ℤ◌, ◌*ℤ◌}
 use Rattle.exact.specs.Whole.{◌<?◌}
 use Rattle.exact.specs.Divide.{nearest_div}
@@ -19,7 +19,7 @@ use Rattle.plane.specs.Circle.{exact_vertex, vertex_of, from_centre, point_from_
 abbrev pub exact_way : Axis → ExactPosition → ExactPosition → Frac
 exact_way a p q = based (p.offset -ℤ q.offset) (p.base -ℤ q.base) a.width a.span
 
--- "rounded to ten-thousandths": O − Oc is whole, so that (B − Bc) × W / D is rounded (ArcLaws.antt, `way-nearest`)
+-- "rounded to ten-thousandths": O − Oc is whole, so that (B − Bc) × W / D is rounded (proofs/ArcLaws.antt, `way-nearest`)
 unfoldable pub way_of : Axis → ExactPosition → ExactPosition → ℤ
 way_of a p q = p.offset -ℤ q.offset +ℤ nearest_div ((p.base -ℤ q.base) *ℤ a.width) a.span
 
@@ -77,7 +77,7 @@ unfoldable pub arc_fits : Centre → Centre → Way → ℤ → ℕ → Bool
 arc_fits cx cy w sweep angle = fits_from cx cy w sweep angle 1 (parts_of sweep angle)
 
 -- A quick answer, and no rule of 02's: no part of a turned way is larger than |u| + |v|, so that where the points so far from the centre on either side are in range,
--- every vertex is (ArcLaws.antt, `round-small`)
+-- every vertex is (proofs/ArcLaws.antt, `round-small`)
 unfoldable pub ends_fit : Centre → ℕ → Bool
 ends_fit c r = cond (in_range_of (from_centre c (pos r *ℤ pos 100000))) (in_range_of (from_centre c (neg_ℤ (pos r) *ℤ pos 100000))) false
 

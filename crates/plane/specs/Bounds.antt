@@ -1,4 +1,4 @@
--- How large the numbers of the plane are. The code asks for these bounds, and each is had from the one before: see PositionLaws.antt and CircleLaws.antt.
+-- How large the numbers of the plane are. The code asks for these bounds, and each is had from the one before: see proofs/PositionLaws.antt and proofs/CircleLaws.antt.
 use Rattle.std.specs.Prelude.{◌≡◌, ℕ, ◌+◌, ◌*◌, pos, nat_abs, ◌*ℤ◌}
 use Rattle.exact.specs.Whole.{◌<ᶻ◌}
 use Rattle.exact.specs.Fit.{Bd}

@@ -1,4 +1,4 @@
--- Circles: "CI radius, chord angle". Definitions only: CircleLaws.antt has what follows of them.
+-- Circles: "CI radius, chord angle". Definitions only: proofs/CircleLaws.antt has what follows of them.
 use Rattle.std.specs.Prelude.{cond, ℕ, ◌+◌, ◌-◌, ◌*◌, ◌/◌, ltb, ℤ, pos, neg_ℤ, ◌+ℤ◌, ◌-ℤ◌, ◌*ℤ◌}
 use Rattle.exact.specs.Whole.{◌<?◌}
 use Rattle.exact.specs.Divide.{floor_div, nearest_div}
@@ -50,7 +50,7 @@ centre_of a p =
     cond (a.width <? pos 0) (split_of p.base (neg_ℤ (p.offset *ℤ a.span)) (neg_ℤ a.span) (neg_ℤ a.width))
     (split_of p.base (p.offset *ℤ a.span) a.span a.width)
 
--- `from_centre (centre_of a p) t` is `vertex_of a p t` (CircleLaws.antt, `vertex-split`)
+-- `from_centre (centre_of a p) t` is `vertex_of a p t` (proofs/CircleLaws.antt, `vertex-split`)
 unfoldable pub from_centre : Centre → ℤ → ℤ
 from_centre c t = c.base +ℤ nearest_div (c.part *ℤ pos 100000 +ℤ t *ℤ c.span) (c.width *ℤ pos 100000)
 

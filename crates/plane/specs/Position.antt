@@ -1,5 +1,5 @@
 -- Position on one axis: "For each axis: base B (plotter units), offset O (ten-thousandths), span D, width W." x and y go by the same definitions.
--- Definitions only: Bounds.antt says which numbers occur, PositionLaws.antt what follows.
+-- Definitions only: Bounds.antt says which numbers occur, proofs/PositionLaws.antt what follows.
 use Rattle.std.specs.Prelude.{Bool, true, false, cond, ℤ, pos, neg_ℤ, ◌+ℤ◌, ◌-ℤ◌, ◌*ℤ◌}
 use Rattle.exact.specs.Whole.{◌<?◌}
 use Rattle.exact.specs.Divide.{nearest_div}
@@ -26,7 +26,7 @@ relative_of p n = record { base = p.base; offset = p.offset +ℤ n }
 abbrev pub exact_of : Axis → ExactPosition → Frac
 exact_of a p = based p.base p.offset a.span a.width
 
--- "the location is that, rounded": B is whole, so that O × D / W is rounded (PositionLaws.antt, `location-nearest`)
+-- "the location is that, rounded": B is whole, so that O × D / W is rounded (proofs/PositionLaws.antt, `location-nearest`)
 unfoldable pub location_of : Axis → ExactPosition → ℤ
 location_of a p = p.base +ℤ nearest_div (p.offset *ℤ a.span) a.width
 

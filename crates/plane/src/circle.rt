@@ -1,4 +1,4 @@
-// Circles and arcs: a way from a centre, and the centre, split once, so that no vertex overflows: specs/Circle.antt says what a vertex is, specs/CircleLaws.antt that the split finds it.
+// Circles and arcs: a way from a centre, and the centre, split once, so that no vertex overflows: specs/Circle.antt says what a vertex is, proofs/CircleLaws.antt that the split finds it.
 
 // A way from a centre, in ten-thousandths; a rotated one is scaled.
 #[derive(Clone, Copy)]

@@ -1,5 +1,5 @@
 // The plane of the paper: positions on an axis, circles and arcs. Here are the types; specs/ has the definitions, and their laws beside them in
-// specs/..Laws.antt. The code is the crate placing.
+// proofs/..Laws.antt. The code is the crate placing.
 #![tactic(auto)]
 
 pub mod circle;

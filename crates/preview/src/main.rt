@@ -10,41 +10,57 @@ mod strokes;
 
 use output::{finish, put_bytes};
 use sheets::{Grid, Sheet, grid_of, head, sheet_of};
+use streams::{Source, Stream};
 use strokes::paint;
 
 // The page of a drawing of which something could be read.
-fn page(machine: Machine, s: Sheet, g: Grid, file: usize)
+fn page(
+    rt: &HostRuntime,
+    machine: Machine,
+    s: Sheet,
+    g: Grid,
+    file: usize,
+    source: &mut Stream<Source>,
+)
     requires { Usable machine.state }
 {
     let mut text = io::large_buffer();
-    let mut end = head(&mut text, 0, s, g);
-    let p = paint(machine, &mut text, end, s.dot, file);
+    let mut end = head(rt, &mut text, 0, s, g);
+    let p = paint(rt, machine, &mut text, end, s.dot, file, source);
     if p.unread {
         if p.read == 0 {
             return;
         }
     }
-    end = put_bytes(&mut text, p.used, b"</svg></g>\n");
-    end = summary(&mut text, end, s, g, p);
-    end = put_bytes(&mut text, end, b"</svg>\n");
-    finish(&text, end, b"preview: standard output");
+    end = put_bytes(rt, &mut text, p.used, b"</svg></g>\n");
+    end = summary(rt, &mut text, end, s, g, p);
+    end = put_bytes(rt, &mut text, end, b"</svg>\n");
+    finish(rt, &text, end, b"preview: standard output");
 }
 
-fn main() {
-    let r = asked();
-    if !ready(
+fn main(rt: HostRuntime) {
+    let r = asked(&rt);
+    let Some(mut source) = ready(
+        &rt,
         b"preview",
         b"Reads HP-GL and writes a picture of its strokes (SVG) on standard output, with what is refused.\n",
         r,
-    ) {
+    ) else {
         return;
-    }
+    };
     let hard = r.limits;
     let started = Machine::fresh(hard.left, hard.bottom, hard.right, hard.top);
     if started.number != 0 {
-        refused(b"preview");
+        refused(&rt, b"preview");
         return;
     }
     let machine = started.machine;
-    page(machine, sheet_of(hard), grid_of(hard, r.scale), r.file);
+    page(
+        &rt,
+        machine,
+        sheet_of(hard),
+        grid_of(hard, r.scale),
+        r.file,
+        &mut source,
+    );
 }

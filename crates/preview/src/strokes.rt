@@ -12,12 +12,11 @@ use counting::names::{Letters, letters_before, no_letters};
 use counting::refusals::{Refusals, none};
 use feed::{Listed, feed_list};
 use hpgl::Look;
-use libc::STDIN_FILENO;
 use machine::Machine;
 use noting::astray::{astray, changes, kind_at, moves, part_end};
 use noting::{Inks, inks_of, is_refusal, no_inks, refused};
 use output::{failed, flush};
-use streams::read;
+use streams::{Source, Stream, read};
 use tracing::{Hand, at_rest, closed, cross, elements};
 
 // A proved loop has to end: these go round so often at most, which no input uses up.
@@ -48,10 +47,18 @@ struct Drawing {
 }
 
 // A cross where the carriage stands, if a byte was refused and not too many before.
-fn crossed(text: &mut [u8; 65536], h: Hand, at: Point, number: u8, before: u64, arm: u64) -> Hand {
+fn crossed(
+    rt: &HostRuntime,
+    text: &mut [u8; 65536],
+    h: Hand,
+    at: Point,
+    number: u8,
+    before: u64,
+    arm: u64,
+) -> Hand {
     if before < CROSSES {
         if is_refusal(number) {
-            return cross(text, h, at, arm);
+            return cross(rt, text, h, at, arm);
         }
         return h;
     }
@@ -120,7 +127,7 @@ fn after(d: Drawing, l: Listed, block: &[u8], before: Look, seen: Look, hand: Ha
 }
 
 // One feed, with its strokes as text.
-fn step(d: Drawing, block: &[u8], text: &mut [u8; 65536], radius: u64) -> Drawing
+fn step(rt: &HostRuntime, d: Drawing, block: &[u8], text: &mut [u8; 65536], radius: u64) -> Drawing
     requires usable { Usable d.machine.state }
     requires at_in_bounds { d.at ≤ length block.now }
     ensures { result ≡ step_of d block.now result.hand }
@@ -135,8 +142,16 @@ fn step(d: Drawing, block: &[u8], text: &mut [u8; 65536], radius: u64) -> Drawin
     let seen = next.look();
     let hand = d.hand;
     let list = l.list;
-    let drawn = elements(text, hand, list, fed.stored, d.astray, radius);
-    let far = crossed(text, drawn, seen.location, fed.number, d.refused, radius);
+    let drawn = elements(rt, text, hand, list, fed.stored, d.astray, radius);
+    let far = crossed(
+        rt,
+        text,
+        drawn,
+        seen.location,
+        fed.number,
+        d.refused,
+        radius,
+    );
     after(d, l, block, before, seen, far)
 }
 
@@ -167,6 +182,7 @@ fn begun(d: Drawing, before: u64) -> Drawing
 
 // A block, with so many bytes before it.
 fn paint_block(
+    rt: &HostRuntime,
     d: Drawing,
     before: u64,
     block: &[u8],
@@ -182,16 +198,16 @@ fn paint_block(
         if !q.more {
             return q;
         }
-        q = step(q, block, text, radius);
+        q = step(rt, q, block, text, radius);
         turns -= 1;
     }
     q
 }
 
 // The text of a block is written out, before the next one is read.
-fn written(text: &[u8; 65536], h: Hand) -> Hand {
+fn written(rt: &HostRuntime, text: &[u8; 65536], h: Hand) -> Hand {
     Hand {
-        used: flush(text, h.used),
+        used: flush(rt, text, h.used),
         begun: h.begun,
         dashed: h.dashed,
         pen: h.pen,
@@ -200,7 +216,7 @@ fn written(text: &[u8; 65536], h: Hand) -> Hand {
     }
 }
 
-fn flushed(d: Drawing, block: &[u8], text: &[u8; 65536]) -> Drawing
+fn flushed(rt: &HostRuntime, d: Drawing, block: &[u8], text: &[u8; 65536]) -> Drawing
     ensures { result ≡ flushed_of d block.now result.hand }
 {
     let machine = d.machine;
@@ -220,17 +236,24 @@ fn flushed(d: Drawing, block: &[u8], text: &[u8; 65536]) -> Drawing
         harms: d.harms,
         astray: d.astray,
         more: d.more,
-        hand: written(text, hand),
+        hand: written(rt, text, hand),
     }
 }
 
 // A block, painted and written out.
-fn block_done(d: Drawing, before: u64, block: &[u8], text: &mut [u8; 65536], radius: u64) -> Drawing
+fn block_done(
+    rt: &HostRuntime,
+    d: Drawing,
+    before: u64,
+    block: &[u8],
+    text: &mut [u8; 65536],
+    radius: u64,
+) -> Drawing
     requires { Usable d.machine.state }
     ensures { Usable result.machine.state }
 {
-    let painted = paint_block(d, before, block, text, radius);
-    flushed(painted, block, text)
+    let painted = paint_block(rt, d, before, block, text, radius);
+    flushed(rt, painted, block, text)
 }
 
 // What is left at the end, after so many bytes.
@@ -273,11 +296,13 @@ fn blank(machine: Machine, used: usize) -> Drawing
 
 // Paints the input to its end, or to a read or a write that fails. A read that fails is told at once. Nothing is written before something is read.
 pub fn paint(
+    rt: &HostRuntime,
     machine: Machine,
     text: &mut [u8; 65536],
     used: usize,
     radius: u64,
     file: usize,
+    source: &mut Stream<Source>,
 ) -> Painted
     requires { Usable machine.state }
 {
@@ -287,9 +312,9 @@ pub fn paint(
     let mut turns = TURNS;
     let mut missing = false;
     while turns > 0 {
-        let got = read(STDIN_FILENO, &mut block);
+        let got = read(source, &mut block);
         if !got.good {
-            unread(b"preview", file);
+            unread(rt, b"preview", file, source.error);
             missing = true;
             break;
         }
@@ -297,7 +322,7 @@ pub fn paint(
         if n == 0 {
             break;
         }
-        d = block_done(d, before, &block[..n], text, radius);
+        d = block_done(rt, d, before, &block[..n], text, radius);
         if failed(d.hand.used) {
             break;
         }
@@ -305,6 +330,6 @@ pub fn paint(
         turns -= 1;
     }
     let hand = d.hand;
-    let last = closed(text, hand);
+    let last = closed(rt, text, hand);
     ended(d, before, missing, last.used)
 }

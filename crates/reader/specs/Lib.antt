@@ -6,11 +6,6 @@ pub mod Stream
 pub mod Written
 pub mod Sizes
 pub mod NameLaws
-pub mod Laws
 pub mod Examples
-pub mod TextLaws
-pub mod InstructionLaws
 pub mod CauseLaws
-pub mod SizeLaws
 pub mod InsideLaws
-pub mod NextLaws

@@ -6,7 +6,7 @@ use borrow.Author.Tests.{eqb-true, le-ltb, eq-eqb, ltb-false}
 use Rattle.clip.specs.declared.Rect.{Rect}
 use Rattle.rows.specs.Rows.{row_at}
 use Rattle.seal.specs.Seal.{sealed_of, header_sound, sum_stands}
-use Rattle.seal.specs.SealLaws.{seal-header, seal-sum, seal-back}
+use Rattle.seal.proofs.SealLaws.{seal-header, seal-sum, seal-back}
 use Rattle.seal.specs.Light.{Light}
 use Rattle.hpgl.specs.declared.State.{State}
 use Rattle.hpgl.specs.Machine.{fresh_state, take_state, draw_state, fetch_state}

@@ -21,7 +21,7 @@ use Rattle.reader.specs.Reader.{open_of}
 use Rattle.reader.specs.Step.{in_number_of, by_mode, step_of}
 use Rattle.reader.specs.Stream.{◌telling◌}
 use Rattle.reader.specs.Next.{more_digits, is_nothing, placed, next_of}
-use Rattle.reader.specs.NextLaws.{next-quiet, next-event}
+use Rattle.reader.proofs.NextLaws.{next-quiet, next-event}
 use Rattle.reader.specs.declared.Event.TheVariants.{Nothing}
 use Rattle.reader.specs.declared.Mode.{Mode}
 use Rattle.reader.specs.declared.Mode.TheVariants.{Idle, First, Parameters, InNumber, PassOver, Label}

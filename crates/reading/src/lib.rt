@@ -1,4 +1,6 @@
 // The code of the reader: bytes to events, one by one or a run at once, as the definitions of the crate reader say.
+#![tactic(auto)]
+
 ghost use Rattle.std.specs.Prelude.{◌≡◌, true, drop};
 ghost use Rattle.reader.specs.Inside.{inside};
 ghost use Rattle.reader.specs.Next.{more_digits, is_nothing, in_parameters, awaits_pair, paired_of, ReadAhead, next_of};

@@ -11,7 +11,7 @@ use Rattle.std.proofs.Math.ListN.{length}
 use Rattle.std.proofs.lemmas.List.Edits.{sets-eq}
 use Rattle.exact.specs.Int16.{int16, int16-size}
 use Rattle.decimals.specs.Decimal.{decimal, sign, whole}
-use Rattle.decimals.specs.DecimalLaws.{decimal-one, more-length, decimal-length}
+use Rattle.decimals.proofs.DecimalLaws.{decimal-one, more-length, decimal-length}
 use Rattle.decimals.specs.Puts.{Puts}
 use Rattle.hpgl.specs.declared.Stroke.{Stroke}
 use Rattle.redrawn.specs.declared.Written.{Written}

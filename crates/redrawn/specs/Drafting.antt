@@ -12,13 +12,13 @@ use Rattle.exact.specs.Int16.{int16, int16-size}
 use Rattle.clip.specs.declared.Point.{Point}
 use Rattle.clip.specs.declared.Rect.{Rect}
 use Rattle.clip.specs.Clip.{clip, inside}
-use Rattle.clip.specs.Unclipped.{unclipped}
+use Rattle.clip.proofs.Unclipped.{unclipped}
 use Rattle.clip.specs.declared.Clipped.TheVariants as clipped
 use Rattle.mnemonics.specs.Table.{IN, SP, PU, PD}
 use Rattle.reader.specs.declared.Event.TheVariants.{Named, Pair, Ended}
 use Rattle.reader.specs.Reader.{none_of, stored_of}
 use Rattle.plane.specs.Position.{axis_of, absolute_of, location_of}
-use Rattle.plane.specs.PositionLaws.{in-range-of}
+use Rattle.plane.proofs.PositionLaws.{in-range-of}
 use Rattle.turns.specs.Turn.{turns, turn_of, turned_of}
 use Rattle.turns.proofs.TurnLaws.{east, north, coord-is}
 use Rattle.turns.specs.Limits.{limits_of}

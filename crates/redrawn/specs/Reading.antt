@@ -18,7 +18,7 @@ use Rattle.reader.specs.declared.Mode.TheVariants.{Idle}
 use Rattle.reader.specs.declared.Reader.{Reader}
 use Rattle.reader.specs.Reader.{none_of, stored_of}
 use Rattle.reader.specs.Stream.{reader, Means, done, quiet, loud}
-use Rattle.reader.specs.InstructionLaws.{instruction-of-numbers, instruction-of-pairs}
+use Rattle.reader.proofs.InstructionLaws.{instruction-of-numbers, instruction-of-pairs}
 use Rattle.redrawn.specs.Numerals.{kept, numeral_of, numeral-text, literal}
 use Rattle.redrawn.specs.Redrawn.{pen_text, move_text, start_text}
 

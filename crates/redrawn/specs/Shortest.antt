@@ -8,7 +8,7 @@ use Rattle.exact.specs.Laws.{neg-*ℤ}
 use Rattle.exact.specs.Divide.{nearest_div}
 use Rattle.exact.specs.Nearest.{nearest-mono}
 use Rattle.decimals.specs.Decimal.{decimal, sign, whole}
-use Rattle.decimals.specs.DecimalLaws.{decimal-length}
+use Rattle.decimals.proofs.DecimalLaws.{decimal-length}
 use Rattle.numerals.specs.declared.number.Value.{Value}
 use Rattle.numerals.specs.declared.number.Value.TheVariants.{Good, Bad}
 use Rattle.numerals.specs.Numeral.{Sign, bare, plus, minus, Fraction, none, point, Numeral, text, sign_text, digits_text, fraction_text, Digits, worth, worth_from, decimals, ten, signed, some, in_range, nearest, value_of}

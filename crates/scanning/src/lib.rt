@@ -1,4 +1,6 @@
 // What bytes say without a machine: pieces within which no other pen is taken and no escape sequence begins or ends, and line types that have numbers.
+#![tactic(auto)]
+
 ghost use Rattle.std.specs.Prelude.{◌≡◌, drop};
 ghost use Rattle.scanning.specs.Pieces as P;
 ghost use Rattle.scanning.specs.Types as T;

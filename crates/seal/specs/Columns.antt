@@ -1,13 +1,12 @@
 -- The sum by columns: rows are put together number by number, from the last to the first, so that no number needs a product of its own.
 -- Why it is the sum: a row that stands five places further on weighs five times its numbers more, and a row is in as many parts as there are rows before it.
-use Rattle.std.specs.Prelude.{◌≡◌, refl, List, ℕ, zero, suc, ◌+◌, ◌*◌, ◌-◌, ◌≤◌, ◌<◌, ℤ, pos, ◌+ℤ◌, ◌*ℤ◌, length, drop}
-use Rattle.std.proofs.Common.{sym, ap, ap₂, ◌∙◌, subst, arith, leb→le}
+use Rattle.std.specs.Prelude.{◌≡◌, ℕ, zero, suc, ◌+◌, ◌*◌, ◌-◌, ◌≤◌, ◌<◌, ℤ, pos, ◌+ℤ◌, ◌*ℤ◌}
+use Rattle.std.proofs.Common.{sym, ap, ap₂, ◌∙◌, arith, leb→le}
 use Rattle.exact.specs.Whole.{is, Z}
 use Rattle.exact.specs.Fit.{Bd, ◌⊞◌, ◌⊠◌, lit}
 use Rattle.rows.specs.declared.Row.{Row}
-use Rattle.rows.specs.Rows.{row, row_at}
-use Rattle.seal.specs.Seal.{weighed}
-use Rattle.seal.specs.Light.{row_count, most_at, LightRow, weigh_of, weighed-more}
+use Rattle.rows.specs.Rows.{row}
+use Rattle.seal.specs.Light.{row_count, most_at, LightRow, weigh_of}
 
 unfoldable pub plus_of : Row → Row → Row
 plus_of p q = row (p.a +ℤ q.a) (p.b +ℤ q.b) (p.c +ℤ q.c) (p.d +ℤ q.d) (p.e +ℤ q.e)
@@ -83,17 +82,6 @@ columns-more p r part all =
   where
     regroup : (a t w r : ℤ) → pos 5 *ℤ (a +ℤ t) +ℤ (w +ℤ r) ≡ r +ℤ (pos 5 *ℤ a +ℤ (w +ℤ pos 5 *ℤ t))
     regroup a t w r = rw (is a, is t, is w, is r) (simp Z (omega arith))
-
--- so the row before those from k on, in the sum
-pub columns-step : (zs : List ℤ) (k : ℕ) (part all : Row) → length zs ≡ row_count * 5 → 0 < k → k ≤ row_count → columns_of (pos (k * 5)) part all ≡ weighed (k * 5 + 1) (drop (k * 5) zs) →
-    columns_of (pos ((k - 1) * 5)) (plus_of part (row_at zs ((k - 1) * 5))) (plus_of all part) ≡ weighed ((k - 1) * 5 + 1) (drop ((k - 1) * 5) zs)
-columns-step zs k part all e l h inv =
-    let j : ℕ = k - 1 in
-    let next : k ≡ j + 1 = omega (arith, l) in
-    let places : j * 5 + 5 ≡ (j + 1) * 5 = omega arith in
-    let r : Row = row_at zs (j * 5) in
-    let rest : columns_of (pos ((j + 1) * 5)) part all ≡ weighed ((j + 1) * 5 + 1) (drop ((j + 1) * 5) zs) = subst (λ (n : ℕ). columns_of (pos (n * 5)) part all ≡ weighed (n * 5 + 1) (drop (n * 5) zs)) next inv in
-    columns-more (pos (j * 5)) r part all ∙ ap (λ (w : ℤ). weigh_of (pos (j * 5)) r +ℤ w) (ap (λ (n : ℕ). columns_of (pos n) part all) places ∙ rest) ∙ sym (weighed-more zs j e (omega (arith, l, h)))
 
 -- ---- how large they are, once n rows are put together
 

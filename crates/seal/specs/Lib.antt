@@ -1,4 +1,3 @@
 pub mod Seal
-pub mod SealLaws
 pub mod Light
 pub mod Columns

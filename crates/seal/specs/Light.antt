@@ -1,8 +1,7 @@
 -- How large the numbers of a list may be, so that its sum fits an i64: those of the rows before the edges as a centre of a circle, those of its other rows as a place on the page.
-use Rattle.std.specs.Prelude.{◌≡◌, refl, Bool, true, false, cond, List, ◌∷◌, ℕ, zero, suc, ◌+◌, ◌*◌, ◌-◌, ◌≤◌, ◌<◌, ltb, ℤ, pos, ◌+ℤ◌, ◌*ℤ◌, length, get_or, drop}
-use Rattle.std.proofs.Common.{ap, ◌∙◌, subst, mul-le-mul_right, add-one, arith, ltb-true, leb→le, length-drop, drop_of_length-le, drop-cons}
-use Rattle.exact.specs.Whole.{is, Z}
-use Rattle.exact.specs.Fit.{Bd, ◌⊞◌, ◌⊠◌, lit}
+use Rattle.std.specs.Prelude.{◌≡◌, cond, List, ◌∷◌, ℕ, suc, ◌+◌, ◌*◌, ◌≤◌, ◌<◌, ltb, ℤ, pos, ◌+ℤ◌, ◌*ℤ◌, length, get_or, drop}
+use Rattle.std.proofs.Common.{ap, ◌∙◌, arith, length-drop, drop_of_length-le, drop-cons}
+use Rattle.exact.specs.Fit.{Bd}
 use Rattle.rows.specs.declared.Row.{Row}
 use Rattle.rows.specs.Rows.{lay, row_at}
 use Rattle.seal.specs.Seal.{weighed}
@@ -35,21 +34,6 @@ pub record Light (zs : List ℤ) : Type 0 where
 unfoldable pub weigh_of : ℤ → Row → ℤ
 weigh_of p r = (p +ℤ pos 1) *ℤ r.a +ℤ (p +ℤ pos 2) *ℤ r.b +ℤ (p +ℤ pos 3) *ℤ r.c +ℤ (p +ℤ pos 4) *ℤ r.d +ℤ (p +ℤ pos 5) *ℤ r.e
 
--- the sum over the row at the place p, and the rest
-pub weighed-row : (p : ℕ) (r : Row) (zs : List ℤ) → weighed (p + 1) (lay r zs) ≡ weigh_of (pos p) r +ℤ weighed (p + 5 + 1) zs
-unfolding weighed weigh_of
-weighed-row p r zs =
-    let two : suc (p + 1) ≡ p + 2 = omega arith in
-    let three : suc (suc (p + 1)) ≡ p + 3 = omega arith in
-    let four : suc (suc (suc (p + 1))) ≡ p + 4 = omega arith in
-    let five : suc (suc (suc (suc (p + 1)))) ≡ p + 5 = omega arith in
-    let six : suc (suc (suc (suc (suc (p + 1))))) ≡ p + 5 + 1 = omega arith in
-    (λ i. pos (p + 1) *ℤ r.a +ℤ (pos (two i) *ℤ r.b +ℤ (pos (three i) *ℤ r.c +ℤ (pos (four i) *ℤ r.d +ℤ (pos (five i) *ℤ r.e +ℤ weighed (six i) zs)))))
-    ∙ go (pos (p + 1) *ℤ r.a) (pos (p + 2) *ℤ r.b) (pos (p + 3) *ℤ r.c) (pos (p + 4) *ℤ r.d) (pos (p + 5) *ℤ r.e) (weighed (p + 5 + 1) zs)
-  where
-    go : (a b c d e w : ℤ) → a +ℤ (b +ℤ (c +ℤ (d +ℤ (e +ℤ w)))) ≡ a +ℤ b +ℤ c +ℤ d +ℤ e +ℤ w
-    go a b c d e w = rw (is a, is b, is c, is d, is e, is w) (simp Z (omega arith))
-
 -- ---- the sum, row by row
 
 -- a list from a place on is the row there, and the list from the next row on
@@ -67,14 +51,6 @@ row_drop zs i h =
   where
     step : (j k : ℕ) → j < length zs → suc j ≡ k → drop j zs ≡ get_or zs j (pos 0) ∷ drop k zs
     step j k l e = drop-cons zs j (pos 0) l ∙ ap (λ (n : ℕ). get_or zs j (pos 0) ∷ drop n zs) e
-
--- row k is weighed, and those after it are left
-pub weighed-more : (zs : List ℤ) (k : ℕ) → length zs ≡ row_count * 5 → k < row_count →
-    weighed (k * 5 + 1) (drop (k * 5) zs) ≡ weigh_of (pos (k * 5)) (row_at zs (k * 5)) +ℤ weighed ((k + 1) * 5 + 1) (drop ((k + 1) * 5) zs)
-weighed-more zs k e h =
-    let next : k * 5 + 5 ≡ (k + 1) * 5 = omega arith in
-    ap (weighed (k * 5 + 1)) (row_drop zs (k * 5) (omega (arith, e, h))) ∙ weighed-row (k * 5) (row_at zs (k * 5)) (drop (k * 5 + 5) zs)
-    ∙ ap (λ (n : ℕ). weigh_of (pos (k * 5)) (row_at zs (k * 5)) +ℤ weighed (n + 1) (drop n zs)) next
 
 -- none is left
 pub weighed-all : (zs : List ℤ) (k : ℕ) → length zs ≡ row_count * 5 → row_count ≤ k → weighed (k * 5 + 1) (drop (k * 5) zs) ≡ pos 0

@@ -1,5 +1,7 @@
 // The seal of a machine's list of numbers: a row before them with the version of the form and a sum, each number times its place.
-// So a list that was kept in memory or on disk, and changed there, is told from one that the calls wrote. specs/Seal.antt says what is computed, specs/SealLaws.antt what it tells.
+// So a list that was kept in memory or on disk, and changed there, is told from one that the calls wrote. specs/Seal.antt says what is computed, proofs/SealLaws.antt what it tells.
+#![tactic(auto)]
+
 ghost use Rattle.std.specs.Prelude.{◌≡◌, pos, drop};
 ghost use Rattle.seal.specs.Seal as S;
 ghost use Rattle.seal.specs.Light as L;

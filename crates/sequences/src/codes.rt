@@ -2,6 +2,7 @@
 ghost use Rattle.std.specs.Prelude.{◌<◌, ◌≤◌, length};
 
 use crate::fields::natural_at;
+use crate::scan::find;
 
 // Room for the codes of the longest sequence.
 pub const ROOM: usize = 160000;
@@ -230,7 +231,7 @@ fn put_braces(codes: &mut [u16; ROOM], count: usize, text: &[u8], at: usize) -> 
     requires { at < length text.now }
     ensures { at < result.next }
 {
-    let end = bytes::scan::find(text, at, text.len(), b'}');
+    let end = find(text, at, text.len(), b'}');
     let written = put_mark(codes, count, text, at, end);
     Written {
         count: written,

@@ -1,6 +1,8 @@
 // The fields of a line, and the numbers in them.
 ghost use Rattle.std.specs.Prelude.{◌+◌, ◌≤◌, ◌<◌, ◌^◌, length};
 
+use crate::scan::find;
+
 // A part of a line: from one place up to another.
 #[derive(Clone, Copy)]
 pub struct Span {
@@ -26,7 +28,7 @@ fn place_after(line: &[u8], from: usize, byte: u8) -> usize
     requires { from ≤ length line.now }
     ensures { result ≤ length line.now }
 {
-    let at = bytes::scan::find(line, from, line.len(), byte);
+    let at = find(line, from, line.len(), byte);
     if at < line.len() {
         return at + 1;
     }
@@ -69,7 +71,7 @@ pub fn field(line: &[u8], n: usize) -> Span
     for _ in 0..n {
         bar = place_after(line, bar, b'|');
     }
-    let end = bytes::scan::find(line, bar, line.len(), b'|');
+    let end = find(line, bar, line.len(), b'|');
     let from = without_first_blanks(line, bar, end);
     let to = without_last_blanks(line, from, end);
     Span { from: from, to: to }
@@ -82,7 +84,7 @@ pub fn name_of(line: &[u8]) -> Span
     let words = field(line, 0);
     let from = words.from;
     let to = words.to;
-    let blank = bytes::scan::find(line, from, to, b' ');
+    let blank = find(line, from, to, b' ');
     let name = without_first_blanks(line, blank, to);
     Span { from: name, to: to }
 }

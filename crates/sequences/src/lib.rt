@@ -1,8 +1,11 @@
 // What a line of the program vectors says, as text alone: its fields, the numbers in them, and a sequence of bytes and marks. It knows of no machine.
+#![tactic(auto)]
+
 ghost use Rattle.std.specs.Prelude.{◌≤◌, length};
 
 pub mod codes;
 pub mod fields;
+pub mod scan;
 
 use codes::{PLAIN, ROOM, bytes_of, write_out};
 use fields::{field, natural_at};

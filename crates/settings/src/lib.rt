@@ -1,4 +1,6 @@
 // The fresh state, its core and its hard limits; the instructions IN, DF, IP, SC, RO, IW and SP. Pages are those of the DraftPro manual.
+#![tactic(auto)]
+
 ghost use Rattle.std.specs.Prelude.{◌≡◌, not, ◌&&◌, true, ◌<◌};
 ghost use Rattle.exact.specs.Whole.{◌<?◌, ◌≡?◌};
 ghost use Rattle.reader.specs.Sizes.{Small, SmallPair};

@@ -124,39 +124,46 @@ pub fn grid_of(r: Rect, scale: u8) -> Grid
 }
 
 // The colours of the pens, and what lines, dots, frame, grid and text look like. A dot has a white rim, to be seen on a line. Lines stay thin in an enlarged page.
-fn style(text: &mut [u8; 65536], used: usize, s: Sheet) -> usize {
+fn style(rt: &HostRuntime, text: &mut [u8; 65536], used: usize, s: Sheet) -> usize {
     let mut end = put_bytes(
+        rt,
         text,
         used,
         b"<style>path,circle,rect{fill:none;stroke:currentColor;stroke-width:1.5px;stroke-linecap:round;stroke-linejoin:round;vector-effect:non-scaling-stroke}\n",
     );
     end = put_bytes(
+        rt,
         text,
         end,
         b".p1{color:#000000}.p2{color:#d00000}.p3{color:#0040d0}.p4{color:#d0a000}\n",
     );
     end = put_bytes(
+        rt,
         text,
         end,
         b".p5{color:#00902a}.p6{color:#c000c0}.p7{color:#00a0b0}.p8{color:#804000}\n",
     );
     end = put_bytes(
+        rt,
         text,
         end,
         b".d{fill:currentColor;stroke:#ffffff}.f{color:#808080;stroke-width:1px}.g{color:#c4d0dc;stroke-width:.7px}.w{stroke-width:5px}\n",
     );
     end = put_bytes(
+        rt,
         text,
         end,
         b".a{stroke-dasharray:7 5;stroke-linecap:butt}.s{color:#00902a;stroke-width:2px}.x{color:#ff0060;stroke-width:2.5px}\n",
     );
     end = put_bytes(
+        rt,
         text,
         end,
         b"text{font-family:monospace;fill:#202020;font-size:",
     );
-    end = natural_then(text, end, s.letter, b'p');
+    end = natural_then(rt, text, end, s.letter, b'p');
     put_bytes(
+        rt,
         text,
         end,
         b"x}.n{text-anchor:middle;fill:#607080}.m{text-anchor:end;fill:#607080}</style>\n",
@@ -164,11 +171,11 @@ fn style(text: &mut [u8; 65536], used: usize, s: Sheet) -> usize {
 }
 
 // A width and a height.
-fn size(text: &mut [u8; 65536], used: usize, s: Sheet) -> usize {
-    let mut end = put_bytes(text, used, b" width=\"");
-    end = natural_then(text, end, s.width, b'"');
-    end = put_bytes(text, end, b" height=\"");
-    natural_then(text, end, s.height, b'"')
+fn size(rt: &HostRuntime, text: &mut [u8; 65536], used: usize, s: Sheet) -> usize {
+    let mut end = put_bytes(rt, text, used, b" width=\"");
+    end = natural_then(rt, text, end, s.width, b'"');
+    end = put_bytes(rt, text, end, b" height=\"");
+    natural_then(rt, text, end, s.height, b'"')
 }
 
 // From one number down to another, or nothing.
@@ -183,6 +190,7 @@ pub fn below(a: u64, b: u64) -> u64
 
 // A number along an edge: below the sheet for a line that goes up, else on its left.
 fn number(
+    rt: &HostRuntime,
     text: &mut [u8; 65536],
     used: usize,
     s: Sheet,
@@ -191,38 +199,46 @@ fn number(
     metres: u64,
 ) -> usize {
     if upright {
-        let mut end = put_bytes(text, used, b"<text class=\"n\" x=\"");
-        end = natural_then(text, end, sum(s.margin, at), b'"');
-        end = put_bytes(text, end, b" y=\"");
-        end = natural_then(text, end, sum(s.base, s.line), b'"');
-        end = put_byte(text, end, b'>');
-        end = put_natural(text, end, metres);
-        return put_bytes(text, end, b"</text>\n");
+        let mut end = put_bytes(rt, text, used, b"<text class=\"n\" x=\"");
+        end = natural_then(rt, text, end, sum(s.margin, at), b'"');
+        end = put_bytes(rt, text, end, b" y=\"");
+        end = natural_then(rt, text, end, sum(s.base, s.line), b'"');
+        end = put_byte(rt, text, end, b'>');
+        end = put_natural(rt, text, end, metres);
+        return put_bytes(rt, text, end, b"</text>\n");
     }
-    let mut end = put_bytes(text, used, b"<text class=\"m\" dy=\".35em\" x=\"");
-    end = natural_then(text, end, below(s.margin, s.letter / 2), b'"');
-    end = put_bytes(text, end, b" y=\"");
-    end = natural_then(text, end, below(s.base, at), b'"');
-    end = put_byte(text, end, b'>');
-    end = put_natural(text, end, metres);
-    put_bytes(text, end, b"</text>\n")
+    let mut end = put_bytes(rt, text, used, b"<text class=\"m\" dy=\".35em\" x=\"");
+    end = natural_then(rt, text, end, below(s.margin, s.letter / 2), b'"');
+    end = put_bytes(rt, text, end, b" y=\"");
+    end = natural_then(rt, text, end, below(s.base, at), b'"');
+    end = put_byte(rt, text, end, b'>');
+    end = put_natural(rt, text, end, metres);
+    put_bytes(rt, text, end, b"</text>\n")
 }
 
 // A line of the grid, from edge to edge.
-fn grid_line(text: &mut [u8; 65536], used: usize, s: Sheet, upright: bool, at: u64) -> usize {
-    let mut end = put_byte(text, used, b'M');
+fn grid_line(
+    rt: &HostRuntime,
+    text: &mut [u8; 65536],
+    used: usize,
+    s: Sheet,
+    upright: bool,
+    at: u64,
+) -> usize {
+    let mut end = put_byte(rt, text, used, b'M');
     if upright {
-        end = put_natural(text, end, at);
-        end = put_bytes(text, end, b" 0v");
-        return put_natural(text, end, s.height);
+        end = put_natural(rt, text, end, at);
+        end = put_bytes(rt, text, end, b" 0v");
+        return put_natural(rt, text, end, s.height);
     }
-    end = put_bytes(text, end, b"0 ");
-    end = put_natural(text, end, at);
-    end = put_byte(text, end, b'h');
-    put_natural(text, end, s.width)
+    end = put_bytes(rt, text, end, b"0 ");
+    end = put_natural(rt, text, end, at);
+    end = put_byte(rt, text, end, b'h');
+    put_natural(rt, text, end, s.width)
 }
 
 fn mark(
+    rt: &HostRuntime,
     text: &mut [u8; 65536],
     used: usize,
     s: Sheet,
@@ -232,9 +248,9 @@ fn mark(
     metres: u64,
 ) -> usize {
     if numbers {
-        return number(text, used, s, upright, at, metres);
+        return number(rt, text, used, s, upright, at, metres);
     }
-    grid_line(text, used, s, upright, at)
+    grid_line(rt, text, used, s, upright, at)
 }
 
 // How far the grid goes one way.
@@ -247,6 +263,7 @@ fn reach(s: Sheet, upright: bool) -> u64 {
 
 // The lines of the grid that go up, or those across it; or the numbers at their ends, in metres from the lower left corner.
 fn marks(
+    rt: &HostRuntime,
     text: &mut [u8; 65536],
     used: usize,
     s: Sheet,
@@ -263,7 +280,7 @@ fn marks(
         if most < at {
             return end;
         }
-        end = mark(text, end, s, upright, numbers, at, metres);
+        end = mark(rt, text, end, s, upright, numbers, at, metres);
         at = sum(at, g.cell);
         metres = sum(metres, g.step as u64);
         i += 1;
@@ -272,42 +289,44 @@ fn marks(
 }
 
 // The page, and the numbers along two edges of the sheet.
-fn page(text: &mut [u8; 65536], used: usize, s: Sheet, g: Grid) -> usize {
+fn page(rt: &HostRuntime, text: &mut [u8; 65536], used: usize, s: Sheet, g: Grid) -> usize {
     let mut end = put_bytes(
+        rt,
         text,
         used,
         b"<svg xmlns=\"http://www.w3.org/2000/svg\" width=\"100%\" height=\"100%\" viewBox=\"0 0 ",
     );
-    end = natural_then(text, end, s.wide, b' ');
-    end = natural_then(text, end, s.high, b'"');
-    end = put_bytes(text, end, b">\n");
-    end = style(text, end, s);
+    end = natural_then(rt, text, end, s.wide, b' ');
+    end = natural_then(rt, text, end, s.high, b'"');
+    end = put_bytes(rt, text, end, b">\n");
+    end = style(rt, text, end, s);
     end = put_bytes(
+        rt,
         text,
         end,
         b"<rect width=\"100%\" height=\"100%\" style=\"fill:#ffffff;stroke:none\"/>\n",
     );
-    end = marks(text, end, s, g, true, true);
-    marks(text, end, s, g, false, true)
+    end = marks(rt, text, end, s, g, true, true);
+    marks(rt, text, end, s, g, false, true)
 }
 
 // The page as far as the first stroke: the sheet is turned over, so that y goes upwards.
-pub fn head(text: &mut [u8; 65536], used: usize, s: Sheet, g: Grid) -> usize {
-    let mut end = page(text, used, s, g);
-    end = put_bytes(text, end, b"<g transform=\"translate(");
-    end = natural_then(text, end, s.margin, b' ');
-    end = natural_then(text, end, s.base, b')');
-    end = put_bytes(text, end, b" scale(1 -1)\">\n<path class=\"g\" d=\"");
-    end = marks(text, end, s, g, true, false);
-    end = marks(text, end, s, g, false, false);
-    end = put_bytes(text, end, b"\"/>\n<rect class=\"f\"");
-    end = size(text, end, s);
-    end = put_bytes(text, end, b"/>\n<svg overflow=\"visible\"");
-    end = size(text, end, s);
-    end = put_bytes(text, end, b" viewBox=\"");
-    end = whole_then(text, end, s.left, b' ');
-    end = whole_then(text, end, s.bottom, b' ');
-    end = natural_then(text, end, s.width, b' ');
-    end = natural_then(text, end, s.height, b'"');
-    put_bytes(text, end, b">\n")
+pub fn head(rt: &HostRuntime, text: &mut [u8; 65536], used: usize, s: Sheet, g: Grid) -> usize {
+    let mut end = page(rt, text, used, s, g);
+    end = put_bytes(rt, text, end, b"<g transform=\"translate(");
+    end = natural_then(rt, text, end, s.margin, b' ');
+    end = natural_then(rt, text, end, s.base, b')');
+    end = put_bytes(rt, text, end, b" scale(1 -1)\">\n<path class=\"g\" d=\"");
+    end = marks(rt, text, end, s, g, true, false);
+    end = marks(rt, text, end, s, g, false, false);
+    end = put_bytes(rt, text, end, b"\"/>\n<rect class=\"f\"");
+    end = size(rt, text, end, s);
+    end = put_bytes(rt, text, end, b"/>\n<svg overflow=\"visible\"");
+    end = size(rt, text, end, s);
+    end = put_bytes(rt, text, end, b" viewBox=\"");
+    end = whole_then(rt, text, end, s.left, b' ');
+    end = whole_then(rt, text, end, s.bottom, b' ');
+    end = natural_then(rt, text, end, s.width, b' ');
+    end = natural_then(rt, text, end, s.height, b'"');
+    put_bytes(rt, text, end, b">\n")
 }

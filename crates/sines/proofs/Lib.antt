@@ -1,1 +1,2 @@
 mod Remainder
+pub mod Quarters

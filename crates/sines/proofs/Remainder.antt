@@ -1,6 +1,6 @@
 -- What `%` gives of an angle: a remainder with the angle's sign, below a turn in size, that is the angle's rest, or lacks a turn of it.
 use mathlib.Core.Path.{◌≡◌, sym, ap, ◌∙◌}
-use Prim.Native.Nat.{suc, ◌+◌, ◌*◌, ◌/◌, ◌%◌, ◌≤◌, ◌<◌}
+use Prim.Native.Nat.{suc, ◌/◌, ◌%◌, ◌<◌}
 use native.Mathlib.Nat.{div-add-mod', mod-lt}
 use native.Mathlib.Omega.{arith}
 use lib.IntN.{ℤ, pos, negsuc, neg_ℤ, nat_abs, ◌+ℤ◌, ◌-ℤ◌, ◌*ℤ◌}
@@ -10,7 +10,7 @@ use mir.Val.{SFits}
 use Rattle.exact.specs.Whole.{◌≤ᶻ◌, ◌<ᶻ◌, is, Z, ord}
 use Rattle.exact.specs.Fit.{Bd, abs, abs_neg}
 use Rattle.sines.specs.Angle.{rest_of}
-use Rattle.sines.specs.Quarters.{rest-is}
+use Rattle.sines.proofs.Quarters.{rest-is}
 
 pub rem-size : (a : ℤ) → Bd (rem_z a (pos 3600)) 3599
 rem-size (pos n) = let h : n % 3600 < 3600 = mod-lt n (omega arith) in record { bd = omega arith }

@@ -2,4 +2,3 @@ pub mod Table
 pub mod Angle
 mod Walk
 pub mod Rules
-pub mod Quarters

@@ -70,13 +70,12 @@ near_by d a b t =
 square : ℕ → ℕ → ℕ → Bool
 square s c next = near 150000 (s * s + c * c) 10000000000
 
-square-test : T (walk square sines (reverse sines) (drop 0 sines))
-unfolding sines square near
-square-test = tt
-
 pub squares : (i : ℕ) → i ≤ 900 → DifferBy 150000 (sine_at i * sine_at i + cosine_at i * cosine_at i) 10000000000
-unfolding square
-squares i h = near_by 150000 (sine_at i * sine_at i + cosine_at i * cosine_at i) 10000000000 (rule square 0 square-test i (omega arith))
+unfolding sines square near
+squares i h = near_by 150000 (sine_at i * sine_at i + cosine_at i * cosine_at i) 10000000000 (rule square 0 test i (omega arith))
+  where
+    test : T (walk square sines (reverse sines) (drop 0 sines))
+    test = tt
 
 -- "For j of 1, 10, 100, 300 and i + j at most 900: sine(i+j) × 100,000 differs from sine i × cosine j + cosine i × sine j by at most 200,000."
 adds : ℕ → ℕ → ℕ → ℕ → ℕ → Bool

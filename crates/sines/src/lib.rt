@@ -1,5 +1,5 @@
 // Sine and cosine of any whole angle in tenths of a degree, scaled by 100,000, by a table to 90 degrees.
-// specs/Table.antt and specs/Angle.antt say what, specs/Rules.antt and specs/Quarters.antt what holds of it.
+// specs/Table.antt and specs/Angle.antt say what, specs/Rules.antt and proofs/Quarters.antt what holds of it.
 #![tactic(auto)]
 
 ghost use Rattle.std.specs.Prelude.{◌≡◌, ◌≤◌, pos};

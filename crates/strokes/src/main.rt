@@ -2,39 +2,44 @@
 // soon as it is made: a package may send OA; and wait.
 use arguments::desk::{asked, ready, unread};
 use delivery::files::{End, Sink, run};
-use libc::{STDERR_FILENO, STDIN_FILENO, STDOUT_FILENO};
+use streams::{Stream, write_all};
 use textlines::word::Limits;
 
-// Says what went wrong, if anything did. Limits that are asked for are never refused.
-fn tell(end: End, file: usize) {
+// Says what went wrong, if anything did, by the error of the read or of the write. Limits that are asked for are never refused.
+fn tell(rt: &HostRuntime, end: End, file: usize, read: i32, written: i32) {
     match end {
         End::Done => {}
         End::NoLimits => {
-            streams::write_all(STDERR_FILENO, b"strokes: no limits\n");
+            write_all(&mut Stream::new(rt.stderr()), b"strokes: no limits\n");
         }
         End::Refused => {
-            streams::write_all(STDERR_FILENO, b"strokes: limits refused with 10\n");
+            write_all(
+                &mut Stream::new(rt.stderr()),
+                b"strokes: limits refused with 10\n",
+            );
         }
-        End::Unread => unread(b"strokes", file),
-        End::Undelivered => os::fail(b"strokes: standard output"),
+        End::Unread => unread(rt, b"strokes", file, read),
+        End::Undelivered => streams::tell(rt.stderr(), b"strokes: standard output", written),
     }
 }
 
-fn main() {
-    let r = asked();
-    if !ready(
+fn main(rt: HostRuntime) {
+    let r = asked(&rt);
+    let Some(mut source) = ready(
+        &rt,
         b"strokes",
         b"Reads HP-GL and prints a line for each stroke, pen x0 y0 x1 y1, and for each refused byte, E number byte; replies stand among them.\n",
         r,
-    ) {
+    ) else {
         return;
-    }
+    };
     let hard = r.limits;
+    let mut sink = Sink::Write(Stream::new(rt.stdout()));
     let finished = run(
         Limits::Four(hard.left, hard.bottom, hard.right, hard.top),
-        STDIN_FILENO,
-        Sink::Write(STDOUT_FILENO),
+        &mut source,
+        &mut sink,
     );
     let end = finished.end;
-    tell(end, r.file);
+    tell(&rt, end, r.file, source.error, sink.error());
 }

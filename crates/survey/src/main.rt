@@ -4,41 +4,44 @@ ghost use Rattle.std.specs.Prelude.{false, ◌≡◌};
 ghost use Rattle.hpgl.specs.Machine.{occupied};
 ghost use Rattle.hpgl.specs.Valid.{Usable};
 
-use arguments::desk::{asked, ready, refused};
+use arguments::desk::{asked, ready, refused, word_at};
 use machine::Machine;
 
 mod page;
 
 use page::page;
+use streams::{Source, Stream};
 use surveying::{Surveyed, survey};
 
-// Surveys standard input. A file in its place is told by its name, which is looked up before a read can fail: errno is then that of the read.
-fn named(machine: Machine, file: usize) -> Surveyed
+// Surveys the input. A file in the place of standard input is told by its name.
+fn named(rt: &HostRuntime, machine: Machine, file: usize, source: &mut Stream<Source>) -> Surveyed
     requires { Usable machine.state × (occupied machine.state.work ≡ false) }
 {
     if file == 0 {
-        return survey(machine, b"standard input");
+        return survey(rt, machine, b"standard input", source);
     }
     let mut word = io::buffer();
-    let n = os::arg(file, &mut word);
-    survey(machine, &word[..n])
+    let n = word_at(rt, file, &mut word);
+    survey(rt, machine, &word[..n], source)
 }
 
-fn main() {
-    let r = asked();
-    if !ready(
+fn main(rt: HostRuntime) {
+    let r = asked(&rt);
+    let Some(mut source) = ready(
+        &rt,
         b"survey",
         b"Reads HP-GL and prints one page: strokes and metres by pen, what the limits cut off, what is refused, and whether the drawing is fit to paint.\n",
         r,
-    ) {
+    ) else {
         return;
-    }
+    };
     let hard = r.limits;
     let started = Machine::fresh(hard.left, hard.bottom, hard.right, hard.top);
     if started.number != 0 {
-        refused(b"survey");
+        refused(&rt, b"survey");
         return;
     }
     let machine = started.machine;
-    page(hard, named(machine, r.file), r.scale);
+    let surveyed = named(&rt, machine, r.file, &mut source);
+    page(&rt, hard, surveyed, r.scale);
 }

@@ -16,7 +16,6 @@ use counting::verdict::segments;
 use decimals::size;
 use hpgl::{Drawn, Segment, Stroke};
 use inking::inked;
-use libc::{STDERR_FILENO, STDIN_FILENO};
 use machine::Machine;
 use reader::UNKNOWN;
 use repeats::{ROOM, Repeats, painted, told};
@@ -24,7 +23,7 @@ use rows::Row;
 use rulekit::numbers::BUSY;
 use scanning::escapes::{Escapes, belongs, broken_at_end, escapes_in, no_escapes};
 use scanning::{Types, mode_after, no_types, piece, types_in};
-use streams::{read, write_all};
+use streams::{Source, Stream, read, tell, write_all};
 
 // A proved loop has to end: this one reads so many blocks at most, which no input uses up.
 const TURNS: u64 = 0x800000000000;
@@ -492,8 +491,13 @@ fn begun(machine: Machine) -> Watched
     }
 }
 
-// Standard input to its end, or to a read that fails, which is told at once, with the name of the input.
-pub fn survey(machine: Machine, input: &[u8]) -> Surveyed
+// The input to its end, or to a read that fails, which is told at once, with the name of the input.
+pub fn survey(
+    rt: &HostRuntime,
+    machine: Machine,
+    input: &[u8],
+    source: &mut Stream<Source>,
+) -> Surveyed
     requires { Usable machine.state × (occupied machine.state.work ≡ false) }
 {
     let mut block = io::large_buffer();
@@ -502,10 +506,10 @@ pub fn survey(machine: Machine, input: &[u8]) -> Surveyed
     let mut w = begun(machine);
     let mut turns = TURNS;
     while turns > 0 {
-        let got = read(STDIN_FILENO, &mut block);
+        let got = read(source, &mut block);
         if !got.good {
-            write_all(STDERR_FILENO, b"survey: ");
-            os::fail(input);
+            write_all(&mut Stream::new(rt.stderr()), b"survey: ");
+            tell(rt.stderr(), input, source.error);
             return finished(w, types, true, &lines);
         }
         let n = got.count;

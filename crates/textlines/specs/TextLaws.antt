@@ -7,7 +7,7 @@ use Rattle.std.specs.Int.{w64}
 use Rattle.exact.specs.Whole.{◌≡?◌}
 use Rattle.exact.specs.Fit.{arg, m64}
 use Rattle.decimals.specs.Decimal.{natural, whole}
-use Rattle.decimals.specs.DecimalLaws.{natural-length, whole_length, whole-some}
+use Rattle.decimals.proofs.DecimalLaws.{natural-length, whole_length, whole-some}
 use Rattle.decimals.specs.Puts.{Puts, puts-nothing, puts-length, puts_then}
 use Rattle.textlines.specs.Text.{line_end, stroke_text, stroke_at, refusal_text, mark_at, longest}
 

@@ -1,4 +1,6 @@
 // Lines of text in a lent buffer: a stroke's five numbers, or a refusal's number and byte. specs/Text.antt has the text of each.
+#![tactic(auto)]
+
 ghost use Rattle.std.specs.Prelude.{◌+◌, ◌*◌, ◌≤◌, length};
 ghost use Rattle.decimals.specs.Puts.{Puts};
 ghost use Rattle.textlines.specs.Text.{stroke_at, refusal_text, mark_at, marks_below, longest};

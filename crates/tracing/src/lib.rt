@@ -37,26 +37,26 @@ pub fn at_rest(used: usize) -> Hand {
     resting(used, false, false)
 }
 
-fn point(text: &mut [u8; 65536], used: usize, x: i64, y: i64) -> usize {
-    let mut end = put_whole(text, used, x);
-    end = put_byte(text, end, b' ');
-    put_whole(text, end, y)
+fn point(rt: &HostRuntime, text: &mut [u8; 65536], used: usize, x: i64, y: i64) -> usize {
+    let mut end = put_whole(rt, text, used, x);
+    end = put_byte(rt, text, end, b' ');
+    put_whole(rt, text, end, y)
 }
 
 // Ends the path that is open.
-pub fn closed(text: &mut [u8; 65536], h: Hand) -> Hand {
+pub fn closed(rt: &HostRuntime, text: &mut [u8; 65536], h: Hand) -> Hand {
     if h.pen == 0 {
         return h;
     }
-    resting(put_bytes(text, h.used, b"\"/>\n"), h.begun, h.dashed)
+    resting(put_bytes(rt, text, h.used, b"\"/>\n"), h.begun, h.dashed)
 }
 
 // From here on lines are dashed, or whole: no path goes on from one to the other.
-fn dashing(text: &mut [u8; 65536], h: Hand, dashed: bool) -> Hand {
+fn dashing(rt: &HostRuntime, text: &mut [u8; 65536], h: Hand, dashed: bool) -> Hand {
     if h.dashed == dashed {
         return h;
     }
-    let c = closed(text, h);
+    let c = closed(rt, text, h);
     resting(c.used, c.begun, dashed)
 }
 
@@ -72,28 +72,28 @@ fn joins(h: Hand, s: Stroke) -> bool {
 }
 
 // A path begins.
-fn opened(text: &mut [u8; 65536], h: Hand, s: Stroke) -> usize {
-    let c = closed(text, h);
-    let mut end = put_bytes(text, c.used, b"<path class=\"p");
-    end = put_natural(text, end, s.pen as u64);
+fn opened(rt: &HostRuntime, text: &mut [u8; 65536], h: Hand, s: Stroke) -> usize {
+    let c = closed(rt, text, h);
+    let mut end = put_bytes(rt, text, c.used, b"<path class=\"p");
+    end = put_natural(rt, text, end, s.pen as u64);
     if h.dashed {
-        end = put_bytes(text, end, b" a");
+        end = put_bytes(rt, text, end, b" a");
     }
-    end = put_bytes(text, end, b"\" d=\"M");
-    end = point(text, end, s.x0, s.y0);
-    put_byte(text, end, b'L')
+    end = put_bytes(rt, text, end, b"\" d=\"M");
+    end = point(rt, text, end, s.x0, s.y0);
+    put_byte(rt, text, end, b'L')
 }
 
 // A line of the picture, of the path that is open or of a new one.
-fn line(text: &mut [u8; 65536], h: Hand, s: Stroke) -> Hand {
+fn line(rt: &HostRuntime, text: &mut [u8; 65536], h: Hand, s: Stroke) -> Hand {
     let mut end = h.used;
     if joins(h, s) {
-        end = put_byte(text, end, b' ');
+        end = put_byte(rt, text, end, b' ');
     } else {
-        end = opened(text, h, s);
+        end = opened(rt, text, h, s);
     }
     Hand {
-        used: point(text, end, s.x1, s.y1),
+        used: point(rt, text, end, s.x1, s.y1),
         begun: true,
         dashed: h.dashed,
         pen: s.pen,
@@ -103,43 +103,44 @@ fn line(text: &mut [u8; 65536], h: Hand, s: Stroke) -> Hand {
 }
 
 // The middle of a circle, and its radius.
-fn round(text: &mut [u8; 65536], used: usize, s: Stroke, radius: u64) -> usize {
-    let mut end = put_bytes(text, used, b"\" cx=\"");
-    end = put_whole(text, end, s.x0);
-    end = put_bytes(text, end, b"\" cy=\"");
-    end = put_whole(text, end, s.y0);
-    end = put_bytes(text, end, b"\" r=\"");
-    end = put_natural(text, end, radius);
-    put_bytes(text, end, b"\"/>\n")
+fn round(rt: &HostRuntime, text: &mut [u8; 65536], used: usize, s: Stroke, radius: u64) -> usize {
+    let mut end = put_bytes(rt, text, used, b"\" cx=\"");
+    end = put_whole(rt, text, end, s.x0);
+    end = put_bytes(rt, text, end, b"\" cy=\"");
+    end = put_whole(rt, text, end, s.y0);
+    end = put_bytes(rt, text, end, b"\" r=\"");
+    end = put_natural(rt, text, end, radius);
+    put_bytes(rt, text, end, b"\"/>\n")
 }
 
 // A stroke of no length: a line of it would be too small to be found.
-fn dot(text: &mut [u8; 65536], h: Hand, s: Stroke, radius: u64) -> Hand {
-    let c = closed(text, h);
-    let mut end = put_bytes(text, c.used, b"<circle class=\"d p");
-    end = put_natural(text, end, s.pen as u64);
-    resting(round(text, end, s, radius), true, h.dashed)
+fn dot(rt: &HostRuntime, text: &mut [u8; 65536], h: Hand, s: Stroke, radius: u64) -> Hand {
+    let c = closed(rt, text, h);
+    let mut end = put_bytes(rt, text, c.used, b"<circle class=\"d p");
+    end = put_natural(rt, text, end, s.pen as u64);
+    resting(round(rt, text, end, s, radius), true, h.dashed)
 }
 
 // A ring where the first stroke starts.
-fn start(text: &mut [u8; 65536], h: Hand, s: Stroke, radius: u64) -> Hand {
+fn start(rt: &HostRuntime, text: &mut [u8; 65536], h: Hand, s: Stroke, radius: u64) -> Hand {
     if h.begun {
         return h;
     }
-    let end = put_bytes(text, h.used, b"<circle class=\"s");
-    resting(round(text, end, s, sum(radius, radius)), true, h.dashed)
+    let end = put_bytes(rt, text, h.used, b"<circle class=\"s");
+    resting(round(rt, text, end, s, sum(radius, radius)), true, h.dashed)
 }
 
-fn element(text: &mut [u8; 65536], h: Hand, s: Stroke, radius: u64) -> Hand {
-    let from = start(text, h, s, radius);
+fn element(rt: &HostRuntime, text: &mut [u8; 65536], h: Hand, s: Stroke, radius: u64) -> Hand {
+    let from = start(rt, text, h, s, radius);
     if ends_equal(s) {
-        return dot(text, from, s, radius);
+        return dot(rt, text, from, s, radius);
     }
-    line(text, from, s)
+    line(rt, text, from, s)
 }
 
 // The first strokes of a list, dashed or whole.
 pub fn elements(
+    rt: &HostRuntime,
     text: &mut [u8; 65536],
     h: Hand,
     list: [Stroke; 64],
@@ -149,35 +150,35 @@ pub fn elements(
 ) -> Hand
     requires { count ≤ 64 }
 {
-    let mut far = dashing(text, h, dashed);
+    let mut far = dashing(rt, text, h, dashed);
     let mut i = 0;
     while i < count {
         let s = list[i];
-        far = element(text, far, s, radius);
+        far = element(rt, text, far, s, radius);
         i += 1;
     }
     far
 }
 
 // A cross with arms of this length.
-pub fn cross(text: &mut [u8; 65536], h: Hand, at: Point, arm: u64) -> Hand {
-    let c = closed(text, h);
+pub fn cross(rt: &HostRuntime, text: &mut [u8; 65536], h: Hand, at: Point, arm: u64) -> Hand {
+    let c = closed(rt, text, h);
     let whole = sum(arm, arm);
-    let mut end = put_bytes(text, c.used, b"<path class=\"x\" d=\"M");
-    end = point(text, end, at.x, at.y);
-    end = put_bytes(text, end, b"m-");
-    end = put_natural(text, end, arm);
-    end = put_byte(text, end, b'-');
-    end = put_natural(text, end, arm);
-    end = put_byte(text, end, b'l');
-    end = put_natural(text, end, whole);
-    end = put_byte(text, end, b' ');
-    end = put_natural(text, end, whole);
-    end = put_bytes(text, end, b"m0-");
-    end = put_natural(text, end, whole);
-    end = put_bytes(text, end, b"l-");
-    end = put_natural(text, end, whole);
-    end = put_byte(text, end, b' ');
-    end = put_natural(text, end, whole);
-    resting(put_bytes(text, end, b"\"/>\n"), h.begun, h.dashed)
+    let mut end = put_bytes(rt, text, c.used, b"<path class=\"x\" d=\"M");
+    end = point(rt, text, end, at.x, at.y);
+    end = put_bytes(rt, text, end, b"m-");
+    end = put_natural(rt, text, end, arm);
+    end = put_byte(rt, text, end, b'-');
+    end = put_natural(rt, text, end, arm);
+    end = put_byte(rt, text, end, b'l');
+    end = put_natural(rt, text, end, whole);
+    end = put_byte(rt, text, end, b' ');
+    end = put_natural(rt, text, end, whole);
+    end = put_bytes(rt, text, end, b"m0-");
+    end = put_natural(rt, text, end, whole);
+    end = put_bytes(rt, text, end, b"l-");
+    end = put_natural(rt, text, end, whole);
+    end = put_byte(rt, text, end, b' ');
+    end = put_natural(rt, text, end, whole);
+    resting(put_bytes(rt, text, end, b"\"/>\n"), h.begun, h.dashed)
 }

@@ -5,14 +5,15 @@ ghost use Rattle.hpgl.specs.Valid.{Usable};
 use clip::Rect;
 use courses::{BYTES, Course, begun, feed_all, feed_once, look_at, run};
 use drive::drive;
-use libc::STDIN_FILENO;
 use machine::{Machine, Stroke};
 use outcomes::moves::put_moves;
 use outcomes::put_limits;
 use output::{put_byte, put_bytes};
 use sequences::codes::ROOM;
 use sequences::fields::{field, name_of, whole_at};
+use sequences::scan::find;
 use sequences::{codes_of, number_of, plain_of};
+use streams::{read_full, standard, tell};
 
 // The hard limits of the lines to come.
 const USUAL: Rect = Rect {
@@ -47,9 +48,9 @@ fn limits_of(line: &[u8]) -> Rect {
 }
 
 // Limits, and the number that fresh answers for them.
-fn run_limits(limits: Rect, out: &mut [u8; 65536], used: usize) -> usize {
+fn run_limits(rt: &HostRuntime, limits: Rect, out: &mut [u8; 65536], used: usize) -> usize {
     let started = Machine::fresh(limits.left, limits.bottom, limits.right, limits.top);
-    put_limits(out, used, limits, started.number)
+    put_limits(rt, out, used, limits, started.number)
 }
 
 fn fresh_machine(limits: Rect) -> Machine
@@ -59,52 +60,83 @@ fn fresh_machine(limits: Rect) -> Machine
     started.machine
 }
 
-fn put_name(line: &[u8], out: &mut [u8; 65536], used: usize) -> usize {
+fn put_name(rt: &HostRuntime, line: &[u8], out: &mut [u8; 65536], used: usize) -> usize {
     let name = name_of(line);
     let from = name.from;
     let to = name.to;
-    let end = put_bytes(out, used, &line[from..to]);
-    put_bytes(out, end, b" |")
+    let end = put_bytes(rt, out, used, &line[from..to]);
+    put_bytes(rt, out, end, b" |")
 }
 
 // The calls over the sequence of a line's first field, from a fresh machine.
-fn run_codes(line: &[u8], limits: Rect, hold: bool, out: &mut [u8; 65536], used: usize) -> Course
+fn run_codes(
+    rt: &HostRuntime,
+    line: &[u8],
+    limits: Rect,
+    hold: bool,
+    out: &mut [u8; 65536],
+    used: usize,
+) -> Course
     ensures { Usable result.machine.state }
 {
     let mut codes = [0u16; ROOM];
     let count = codes_of(line, 1, &mut codes);
-    run(begun(fresh_machine(limits), hold, used), &codes, count, out)
+    run(
+        rt,
+        begun(fresh_machine(limits), hold, used),
+        &codes,
+        count,
+        out,
+    )
 }
 
-fn run_take(line: &[u8], limits: Rect, out: &mut [u8; 65536], used: usize) -> usize {
-    let course = run_codes(line, limits, false, out, used);
-    let end = put_bytes(out, course.used, b" |");
+fn run_take(
+    rt: &HostRuntime,
+    line: &[u8],
+    limits: Rect,
+    out: &mut [u8; 65536],
+    used: usize,
+) -> usize {
+    let course = run_codes(rt, line, limits, false, out, used);
+    let end = put_bytes(rt, out, course.used, b" |");
     let last = course.machine;
-    look_at(last, out, end)
+    look_at(rt, last, out, end)
 }
 
 // One feed of a line's third field, into as many records as its second one says.
-fn feed_line(line: &[u8], m: Machine, out: &mut [u8; 65536], used: usize) -> usize
+fn feed_line(rt: &HostRuntime, line: &[u8], m: Machine, out: &mut [u8; 65536], used: usize) -> usize
     requires { Usable m.state }
 {
     let mut bytes = [0u8; BYTES];
     let n = plain_of(line, 3, &mut bytes);
-    feed_once(m, &bytes[0..n], number_of(line, 2), out, used)
+    feed_once(rt, m, &bytes[0..n], number_of(line, 2), out, used)
 }
 
-fn run_feed(line: &[u8], limits: Rect, out: &mut [u8; 65536], used: usize) -> usize {
-    let course = run_codes(line, limits, true, out, used);
+fn run_feed(
+    rt: &HostRuntime,
+    line: &[u8],
+    limits: Rect,
+    out: &mut [u8; 65536],
+    used: usize,
+) -> usize {
+    let course = run_codes(rt, line, limits, true, out, used);
     let m = course.machine;
-    feed_line(line, m, out, course.used)
+    feed_line(rt, line, m, out, course.used)
 }
 
-fn run_strokes(line: &[u8], limits: Rect, out: &mut [u8; 65536], used: usize) -> usize {
+fn run_strokes(
+    rt: &HostRuntime,
+    line: &[u8],
+    limits: Rect,
+    out: &mut [u8; 65536],
+    used: usize,
+) -> usize {
     let mut bytes = [0u8; BYTES];
     let n = plain_of(line, 1, &mut bytes);
-    feed_all(fresh_machine(limits), &bytes[0..n], out, used)
+    feed_all(rt, fresh_machine(limits), &bytes[0..n], out, used)
 }
 
-fn run_drive(line: &[u8], out: &mut [u8; 65536], used: usize) -> usize {
+fn run_drive(rt: &HostRuntime, line: &[u8], out: &mut [u8; 65536], used: usize) -> usize {
     let pitch = number_of(line, 1) % 256;
     let pen = number_of(line, 2) % 256;
     let span = field(line, 2);
@@ -120,26 +152,32 @@ fn run_drive(line: &[u8], out: &mut [u8; 65536], used: usize) -> usize {
         x1: x1.value,
         y1: y1.value,
     };
-    put_moves(out, used, drive(stroke, pitch as u8))
+    put_moves(rt, out, used, drive(stroke, pitch as u8))
 }
 
 // A line of calls. Comments and empty lines are none.
-fn run_line(line: &[u8], limits: Rect, out: &mut [u8; 65536], used: usize) -> usize {
+fn run_line(
+    rt: &HostRuntime,
+    line: &[u8],
+    limits: Rect,
+    out: &mut [u8; 65536],
+    used: usize,
+) -> usize {
     let kind = kind_of(line);
-    let named = put_name(line, out, used);
+    let named = put_name(rt, line, out, used);
     if kind == b't' {
-        return run_take(line, limits, out, named);
+        return run_take(rt, line, limits, out, named);
     }
     if kind == b'f' {
-        return run_feed(line, limits, out, named);
+        return run_feed(rt, line, limits, out, named);
     }
     if kind == b's' {
-        return run_strokes(line, limits, out, named);
+        return run_strokes(rt, line, limits, out, named);
     }
     if kind == b'd' {
-        return run_drive(line, out, named);
+        return run_drive(rt, line, out, named);
     }
-    put_bytes(out, named, b" unknown")
+    put_bytes(rt, out, named, b" unknown")
 }
 
 fn is_comment(line: &[u8]) -> bool {
@@ -147,13 +185,13 @@ fn is_comment(line: &[u8]) -> bool {
     kind == 0 || kind == b'#'
 }
 
-fn run_lines(text: &[u8]) {
+fn run_lines(rt: &HostRuntime, text: &[u8]) {
     let mut out = io::large_buffer();
     let mut used = 0;
     let mut limits = USUAL;
     let mut at = 0;
     while at < text.len() {
-        let end = bytes::scan::find(text, at, text.len(), b'\n');
+        let end = find(text, at, text.len(), b'\n');
         let line = &text[at..end];
         at = end + 1;
         if is_comment(line) {
@@ -161,22 +199,23 @@ fn run_lines(text: &[u8]) {
         }
         if kind_of(line) == b'l' {
             limits = limits_of(line);
-            used = run_limits(limits, &mut out, used);
+            used = run_limits(rt, limits, &mut out, used);
         } else {
-            used = run_line(line, limits, &mut out, used);
+            used = run_line(rt, line, limits, &mut out, used);
         }
-        used = put_byte(&mut out, used, b'\n');
+        used = put_byte(rt, &mut out, used, b'\n');
     }
-    output::finish(&out, used, b"vectors: standard output");
+    output::finish(rt, &out, used, b"vectors: standard output");
 }
 
-fn main() {
+fn main(rt: HostRuntime) {
     let mut input = io::large_buffer();
-    let got = streams::read_full(STDIN_FILENO, &mut input);
+    let mut source = standard(&rt);
+    let got = read_full(&mut source, &mut input);
     if !got.good {
-        os::fail(b"vectors: standard input");
+        tell(rt.stderr(), b"vectors: standard input", source.error);
         return;
     }
     let n = got.count;
-    run_lines(&input[..n]);
+    run_lines(&rt, &input[..n]);
 }

@@ -8,7 +8,7 @@ use Rattle.clip.specs.declared.Clipped.{Clipped}
 use Rattle.clip.specs.declared.Clipped.TheVariants as clipped
 use Rattle.clip.specs.Line.{exactly, Within}
 use Rattle.clip.specs.Clip.{clip}
-use Rattle.clip.specs.Nearness.{clip-inside}
+use Rattle.clip.proofs.Nearness.{clip-inside}
 use Rattle.hpgl.specs.declared.State.{State}
 use Rattle.hpgl.specs.declared.Stroke.{Stroke}
 use Rattle.hpgl.specs.declared.Drawn.{Drawn}

@@ -15,7 +15,7 @@ use Rattle.plane.specs.declared.position.Axis.{Axis}
 use Rattle.plane.specs.declared.position.ExactPosition.{ExactPosition}
 use Rattle.plane.specs.Bounds.{most_product, AxisBounds, Locatable}
 use Rattle.plane.specs.Position.{in_range_of}
-use Rattle.plane.specs.PositionLaws.{in-range, in-range-of}
+use Rattle.plane.proofs.PositionLaws.{in-range, in-range-of}
 use Rattle.hpgl.specs.declared.Position.{Position}
 use Rattle.hpgl.specs.declared.Polygon.{Polygon}
 use Rattle.hpgl.specs.declared.Settings.{Settings}

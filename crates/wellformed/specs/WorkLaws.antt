@@ -22,7 +22,7 @@ use Rattle.clip.specs.Reach.{SmallPoint}
 use Rattle.plane.specs.declared.circle.Centre.{Centre}
 use Rattle.plane.specs.Bounds.{most_angle, most_sweep, WayBounds, CentreBounds}
 use Rattle.plane.specs.Arc.{arc_point}
-use Rattle.plane.specs.ArcLaws.{each-small, each_fits}
+use Rattle.plane.proofs.ArcLaws.{each-small, each_fits}
 use Rattle.hpgl.specs.declared.Edge.{Edge}
 use Rattle.hpgl.specs.declared.Circle.{Circle}
 use Rattle.hpgl.specs.declared.Polygon.{Polygon}

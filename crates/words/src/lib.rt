@@ -1,5 +1,7 @@
 // The words of the desk: what the numbers of documents 01 and 02 mean and what to do about them, and what becomes of instructions that the machine does not have.
 // Each text has blanks after it, up to 72 bytes. specs/Words.antt and specs/Names.antt have the same tables.
+#![tactic(auto)]
+
 ghost use Rattle.std.specs.Prelude.{◌≡◌};
 ghost use Rattle.words.specs.Words.{cause_of, advice_of, of_foreign, of_kind};
 ghost use Rattle.words.specs.Names.{same_name, kind_in, kind_of, has_of, refused_kind, harmless_of};

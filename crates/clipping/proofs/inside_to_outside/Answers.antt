@@ -1,6 +1,6 @@
 -- The proof of `inside_to_outside`: the first end is kept, and for the last stands the point where the way back enters.
 use mathlib.Core.Path.{sym, ap, ◌∙◌}
-use Rattle.clip.specs.Unclipped.{leaves}
+use Rattle.clip.proofs.Unclipped.{leaves}
 use Rattle.clip.specs.declared.Clipped.TheVariants.{Stroke}
 use Rattle.clipping.proofs.inside_to_outside.Goals as goal
 

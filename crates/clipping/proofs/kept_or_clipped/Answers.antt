@@ -1,6 +1,6 @@
 -- The proof of `kept_or_clipped`: of two ends in the box the definition leaves the segment as it is.
 use mathlib.Core.Path.{sym, ◌∙◌}
-use Rattle.clip.specs.Unclipped.{unclipped}
+use Rattle.clip.proofs.Unclipped.{unclipped}
 use Rattle.clipping.proofs.kept_or_clipped.Goals as goal
 use Rattle.clipping.proofs.kept_or_clipped.Lts
 use Rattle.clipping.proofs.kept_or_clipped.Tie

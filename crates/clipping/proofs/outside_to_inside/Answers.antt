@@ -1,6 +1,6 @@
 -- The proof of `outside_to_inside`: the last end is kept, and for the first stands the point where the way enters.
 use mathlib.Core.Path.{sym, ap, ◌∙◌}
-use Rattle.clip.specs.Unclipped.{enters}
+use Rattle.clip.proofs.Unclipped.{enters}
 use Rattle.clip.specs.declared.Point.{Point}
 use Rattle.clip.specs.declared.Clipped.TheVariants.{Stroke}
 use Rattle.clipping.proofs.outside_to_inside.Goals as goal

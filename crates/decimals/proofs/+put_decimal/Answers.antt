@@ -1,7 +1,7 @@
 -- The proof of `put_decimal`, which calls itself for what stands before the last four digits of its number.
 use mathlib.Core.Path.{sym}
 use native.Mathlib.Omega.{arith}
-use Rattle.decimals.specs.DecimalLaws.{decimal-fours, fours-length}
+use Rattle.decimals.proofs.DecimalLaws.{decimal-fours, fours-length}
 use Rattle.decimals.specs.Puts.{puts-same, puts_then, puts-length}
 use Rattle.decimals.proofs.+put_decimal.Goals as goal
 

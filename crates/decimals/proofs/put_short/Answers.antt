@@ -5,8 +5,8 @@ use mathlib.Core.List.{[], ◌∷◌}
 use Prim.Native.Nat.{ℕ, ◌/◌, ◌%◌}
 use native.Mathlib.Omega.{arith}
 use lib.ListN.{length}
-use Rattle.decimals.specs.Decimal.{digit, decimal}
-use Rattle.decimals.specs.DecimalLaws.{two, four, decimal-one, decimal-two, decimal-three, decimal-four}
+use Rattle.decimals.specs.Decimal.{digit, decimal, two, four}
+use Rattle.decimals.proofs.DecimalLaws.{decimal-one, decimal-two, decimal-three, decimal-four}
 use Rattle.decimals.specs.Puts.{puts-same, puts_then}
 use Rattle.decimals.proofs.put_short.Goals as goal
 use Rattle.decimals.proofs.put_short.Lts

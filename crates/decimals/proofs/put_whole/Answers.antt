@@ -9,7 +9,7 @@ use mir.Syntax.{w64}
 use Rattle.exact.specs.Fit.{arg}
 use Rattle.decimals.specs.Decimal.{natural, sign}
 use Rattle.decimals.specs.Puts.{Puts, puts-signed}
-use Rattle.decimals.specs.DecimalLaws.{whole_parts, natural-some}
+use Rattle.decimals.proofs.DecimalLaws.{whole_parts, natural-some}
 use Rattle.decimals.proofs.put_whole.Goals as goal
 use Rattle.decimals.proofs.put_whole.Goals.{After-put_natural, After-sign_length, After-size, Start}
 

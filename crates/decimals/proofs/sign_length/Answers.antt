@@ -10,7 +10,7 @@ use mir.Syntax.{w64}
 use Rattle.exact.specs.Whole.{lt_z-true, lt_z-false}
 use Rattle.exact.specs.Fit.{arg, num, lt-is, m64}
 use Rattle.decimals.specs.Decimal.{sign}
-use Rattle.decimals.specs.DecimalLaws.{sign_below, sign_above}
+use Rattle.decimals.proofs.DecimalLaws.{sign_below, sign_above}
 use Rattle.decimals.proofs.sign_length.Goals as goal
 use Rattle.decimals.proofs.sign_length.Goals.{Start}
 

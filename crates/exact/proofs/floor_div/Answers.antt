@@ -2,7 +2,7 @@
 use borrow.Author.Rules.{rules}
 use mathlib.Core.Path.{◌≡◌, ap, ap₂, ◌∙◌}
 use lib.IntN.{ℤ, pos}
-use lib.Signed.{lt_z, quot_z}
+use lib.Signed.{lt_z}
 use mir.Syntax.{w64}
 use Rattle.exact.specs.Fit.{Num, m64, arg, put, fit, ret, got, bits_pos, ◌⊘◌}
 use Rattle.exact.specs.Steps.{mirrored_of, floor-mirrored, mirror-size, not-zero}

@@ -1,9 +1,9 @@
 -- The proof of `nearest_above`: the remainder m of the floor q is from 0 to d, so q d is near n, and m and d − m are at most d.
 use borrow.Author.Rules.{rules}
-use mathlib.Core.Path.{◌≡◌, ap₂, ◌∙◌}
-use lib.IntN.{ℤ, pos, ◌+ℤ◌, ◌-ℤ◌, ◌*ℤ◌}
+use mathlib.Core.Path.{ap₂, ◌∙◌}
+use lib.IntN.{ℤ, pos, ◌-ℤ◌, ◌*ℤ◌}
 use mir.Syntax.{w64}
-use Rattle.exact.specs.Whole.{◌<ᶻ◌, ◌≤ᶻ◌, le_z-true, le_z-false}
+use Rattle.exact.specs.Whole.{le_z-true, le_z-false}
 use Rattle.exact.specs.Fit.{Num, m64, val, num, put, fit, within, ret, le_is, ◌⊕◌, ◌⊖◌, ◌⊗◌}
 use Rattle.exact.specs.Divide.{floor_div}
 use Rattle.exact.specs.Steps.{rest-size, lack-size, floor-times-size, floor-size, nearest-up, nearest-down}

@@ -1,11 +1,12 @@
 -- The proof of `nearest_div`: a divisor below 0 hands its sign to the numerator, which changes nothing (`nearest-neg`).
-use mathlib.Core.Path.{◌≡◌, sym, subst, ap₂, ◌∙◌}
+use mathlib.Core.Path.{sym, subst, ap₂, ◌∙◌}
 use lib.IntN.{ℤ, pos}
 use mir.Syntax.{w64}
 use Rattle.exact.specs.Whole.{◌<ᶻ◌, lt_z-true, lt_z-false}
 use Rattle.exact.specs.Fit.{arg, val, num, put, fit, sized, lt-is, got, neg}
 use Rattle.exact.specs.Divide.{nearest_div}
-use Rattle.exact.specs.Nearest.{nearest-neg, neg-pos, pos_of}
+use Rattle.exact.specs.Nearest.{neg-pos, pos_of}
+use Rattle.exact.proofs.NearestLaws.{nearest-neg}
 use Rattle.exact.proofs.nearest_div.Goals as goal
 use Rattle.exact.proofs.nearest_div.Goals.{Else-d-lt0, Start, Then-d-lt0}
 

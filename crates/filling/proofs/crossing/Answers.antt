@@ -7,7 +7,7 @@ use mir.Syntax.{w64}
 use mir.Val.{hbits, to_z, of_z}
 use Rattle.exact.specs.Fit.{Num, m64, val, put, fit, ret, sized, ◌⊕◌, ◌⊖◌, ◌⊗◌}
 use Rattle.exact.specs.Divide.{nearest_div}
-use Rattle.exact.specs.Steps.{nearest-size}
+use Rattle.exact.proofs.NearestLaws.{nearest-size}
 use Rattle.clip.specs.Reach.{reach, most_extent, most_steps}
 use Rattle.filling.specs.CrossingLaws.{crossing-nearest, crossing-level}
 use Rattle.filling.proofs.crossing.Goals as goal

@@ -10,7 +10,7 @@ use mir.Syntax.{w64}
 use Rattle.exact.specs.Whole.{lt_z-true, lt_z-false}
 use Rattle.exact.specs.Fit.{arg, num, lt-is}
 use Rattle.decimals.specs.Decimal.{decimal, sign}
-use Rattle.decimals.specs.DecimalLaws.{decimal-length, sign_below, sign_above}
+use Rattle.decimals.proofs.DecimalLaws.{decimal-length, sign_below, sign_above}
 use Rattle.redrawn.specs.RedrawnLaws.{whole_long}
 use Rattle.redrawing.proofs.number_length.Statement.{statement}
 use Rattle.redrawing.proofs.number_length.Tie as tie

@@ -1,12 +1,11 @@
 -- The proof of `cosine`: the rest is below four quarters, and the sine of a quarter more is the cosine.
-use borrow.Author.Rules.{rules}
 use mathlib.Core.Path.{◌≡◌, refl, ap, ◌∙◌}
 use Prim.Native.Nat.{ℕ, ◌+◌, ◌/◌, ◌%◌}
 use native.Mathlib.Numerals.{add-one}
 use mir.Syntax.{w64}
 use Rattle.exact.specs.Fit.{arg, got}
 use Rattle.sines.specs.Angle.{rest_of, sine_in, cosine_in, cosine_of}
-use Rattle.sines.specs.Quarters.{rest-quarters, tenths-few}
+use Rattle.sines.proofs.Quarters.{rest-quarters, tenths-few}
 use Rattle.sines.proofs.cosine.Goals as goal
 use Rattle.sines.proofs.cosine.Lts
 use Rattle.sines.proofs.cosine.Tie

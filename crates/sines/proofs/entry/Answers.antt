@@ -1,5 +1,4 @@
 -- The proof of `entry`: the lent list is the table, and no entry is above 100,000, so that each fits.
-use borrow.Author.Rules.{rules}
 use mathlib.Core.Path.{◌≡◌, ap, ◌∙◌}
 use Prim.Native.Nat.{ℕ}
 use mathlib.Core.List.{List}
@@ -12,7 +11,6 @@ use Rattle.sines.specs.Table.{sine_at}
 use Rattle.sines.specs.Rules.{entries, at_most}
 use Rattle.sines.proofs.entry.Goals as goal
 use Rattle.sines.proofs.entry.Lts
-use Rattle.sines.proofs.entry.Tie
 use Rattle.sines.proofs.entry.Reads
 
 abbrev Start : Type 0

@@ -9,7 +9,6 @@ use Rattle.exact.specs.Fit.{Num, m64, arg, num, put, fit, within, to-nat, lt-is,
 use Rattle.sines.proofs.Remainder.{rem-size, quot-size, lift, rest-above, rest_below}
 use Rattle.sines.proofs.rest.Goals as goal
 use Rattle.sines.proofs.rest.Lts
-use Rattle.sines.proofs.rest.Tie
 use Rattle.sines.proofs.rest.Reads
 
 abbrev Else-r-lt0 : Type 0

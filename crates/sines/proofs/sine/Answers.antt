@@ -1,12 +1,11 @@
 -- The proof of `sine`: the rest is below four quarters.
-use borrow.Author.Rules.{rules}
 use mathlib.Core.Path.{◌≡◌, ap, ◌∙◌}
 use Prim.Native.Nat.{ℕ, ◌/◌, ◌%◌}
 use native.Mathlib.Nat.{le_of_lt}
 use mir.Syntax.{w64}
 use Rattle.exact.specs.Fit.{arg, got}
 use Rattle.sines.specs.Angle.{rest_of, sine_in, sine_of}
-use Rattle.sines.specs.Quarters.{rest-quarters, tenths-few}
+use Rattle.sines.proofs.Quarters.{rest-quarters, tenths-few}
 use Rattle.sines.proofs.sine.Goals as goal
 use Rattle.sines.proofs.sine.Lts
 use Rattle.sines.proofs.sine.Tie

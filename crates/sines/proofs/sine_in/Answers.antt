@@ -25,25 +25,25 @@ size_back s = record { bd = at_most (900 - s.args.i) (sub-le 900 s.args.i) }
 
 pub returns-then-q-eq0 : goal.returns-then-q-eq0
 unfolding sine_in
-returns-then-q-eq0 c =  rw c.if-q-eq0.true (got w64 c.entry.type_inv ∙ c.entry.ensures)
+returns-then-q-eq0 c = rw c.if-q-eq0.true (got w64 c.entry.type_inv ∙ c.entry.ensures)
 
 pub returns-then-q-eq1 : goal.returns-then-q-eq1
 unfolding sine_in
-returns-then-q-eq1 c =  rw c.if-q-eq1.true (got w64 c.entry-then-q-eq1.type_inv ∙ c.entry-then-q-eq1.ensures)
+returns-then-q-eq1 c = rw c.if-q-eq1.true (got w64 c.entry-then-q-eq1.type_inv ∙ c.entry-then-q-eq1.ensures)
 
 pub overflow_sub-result : goal.overflow_sub-result
 overflow_sub-result c = fit w64 (neg (ret w64 c.entry-then-q-eq2.type_inv c.entry-then-q-eq2.ensures (size search))) tt
 
 pub returns-then-q-eq2 : goal.returns-then-q-eq2
 unfolding sine_in
-returns-then-q-eq2 c =  rw c.if-q-eq2.true (put w64 (neg (ret w64 c.entry-then-q-eq2.type_inv c.entry-then-q-eq2.ensures (size search))) tt).is
+returns-then-q-eq2 c = rw c.if-q-eq2.true (put w64 (neg (ret w64 c.entry-then-q-eq2.type_inv c.entry-then-q-eq2.ensures (size search))) tt).is
 
 pub overflow_sub-result-then-q-eq3 : goal.overflow_sub-result-then-q-eq3
 overflow_sub-result-then-q-eq3 c = fit w64 (neg (ret w64 c.entry-then-q-eq3.type_inv c.entry-then-q-eq3.ensures (size_back search))) tt
 
 pub returns-then-q-eq3 : goal.returns-then-q-eq3
 unfolding sine_in
-returns-then-q-eq3 c =  rw c.if-q-eq3.true (put w64 (neg (ret w64 c.entry-then-q-eq3.type_inv c.entry-then-q-eq3.ensures (size_back search))) tt).is
+returns-then-q-eq3 c = rw c.if-q-eq3.true (put w64 (neg (ret w64 c.entry-then-q-eq3.type_inv c.entry-then-q-eq3.ensures (size_back search))) tt).is
 
 pub returns : goal.returns
 unfolding sine_in

@@ -1,12 +1,11 @@
 -- The ways of `class_of`: each return is that definition under the tests and calls that led there. From the letters on its first tests fail.
-use mathlib.Core.Path.{◌≡◌, refl, sym, subst, ◌∙◌}
+use mathlib.Core.Path.{◌≡◌, refl, sym, subst}
 use mathlib.Core.Bool.{cond}
 use Prim.Native.Nat.{ℕ, ◌-◌, ◌≤◌}
 use native.Mathlib.Omega.{arith}
 use lib.Dec.{leb, ltb}
 use borrow.Author.Tests.{le-ltb, lt-leb, ne_eqb}
 use Rattle.exact.proofs.Rules.{rules}
-use Rattle.numerals.specs.declared.bytes.Class.{Class}
 use Rattle.numerals.specs.declared.bytes.Class.TheVariants.{Semicolon, Letter, Other}
 use Rattle.numerals.specs.Bytes.{class_of}
 use Rattle.numerals.proofs.bytes.class_of.Goals as goal

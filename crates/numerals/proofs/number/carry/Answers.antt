@@ -3,7 +3,7 @@ use mathlib.Core.Path.{sym}
 use borrow.Author.Tests.{ne_eqb}
 use Rattle.exact.proofs.Rules.{rules}
 use Rattle.numerals.specs.Number.{carry_of}
-use Rattle.numerals.specs.NumeralLaws.{no-carry-below}
+use Rattle.numerals.proofs.NumeralLaws.{no-carry-below}
 use Rattle.numerals.proofs.number.carry.Goals as goal
 
 pub returns-then-decimals-eq-ABOVE : goal.returns-then-decimals-eq-ABOVE

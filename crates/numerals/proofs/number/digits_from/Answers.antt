@@ -1,12 +1,10 @@
 -- What the digits from `from` on come to is what those from `at` on come to, for the number with the ones between them. A digit past the fourth decimal, one that
 -- counts, and one of a number out of range meet after the branch.
-use mathlib.Core.Path.{◌≡◌, refl, sym, ap, ◌∙◌}
-use mathlib.Core.Logic.{⊎_elim}
-use Prim.Native.Nat.{◌+◌, ◌-◌}
+use mathlib.Core.Path.{refl, sym, ap, ◌∙◌}
+use Prim.Native.Nat.{◌+◌}
 use native.Mathlib.Omega.{arith}
-use lib.ListN.{length, drop}
+use lib.ListN.{drop}
 use borrow.Author.Rules.{rules}
-use borrow.Author.Tests.{not-true, not-false}
 use Rattle.numerals.specs.Number.{so_far_of}
 use Rattle.numerals.specs.Run.{digits_from}
 use Rattle.numerals.specs.RunLaws.{digit-class, digits-end, digits-stop, digits-on, digit-past, digit-kept, digit-counts}
@@ -55,9 +53,9 @@ loop-at-preserved c =
     let more = l.invariant ∙ digits-on (so_far_of n l.filled l.decimals l.magnitude) bytes at c.loop-at-test.true (sym c.is_digit.ensures ∙ c.if-not-is_digit.false) in
     let next : Number → Scanned = λ k. digits_from k (drop (at + 1) bytes) (at + 1) in
     elim c.if-decimals-ge-PLACES.branch [
-      then-decimals-ge-PLACES w ↦ rw (w.decimals-is, w.magnitude-is, w.past-decimals.ensures) (more ∙ ap next (digit-past n l.filled l.decimals l.magnitude _ c.requires w.if-decimals-ge-PLACES.true))
-    | else-decimals-ge-PLACES+then-magnitude-le-PAST w ↦ rw (w.decimals-is, w.magnitude-is) (more ∙ ap next (digit-counts n l.filled l.decimals l.magnitude _ c.requires w.if-decimals-ge-PLACES.false w.if-magnitude-le-PAST.true))
-    | else-decimals-ge-PLACES+else-magnitude-le-PAST w ↦ rw (w.decimals-is, w.magnitude-is) (more ∙ ap next (digit-kept n l.filled l.decimals l.magnitude _ c.requires w.if-decimals-ge-PLACES.false w.if-magnitude-le-PAST.false))
+      | then-decimals-ge-PLACES w ↦ rw (w.decimals-is, w.magnitude-is, w.past-decimals.ensures) (more ∙ ap next (digit-past n l.filled l.decimals l.magnitude _ c.requires w.if-decimals-ge-PLACES.true))
+      | else-decimals-ge-PLACES+then-magnitude-le-PAST w ↦ rw (w.decimals-is, w.magnitude-is) (more ∙ ap next (digit-counts n l.filled l.decimals l.magnitude _ c.requires w.if-decimals-ge-PLACES.false w.if-magnitude-le-PAST.true))
+      | else-decimals-ge-PLACES+else-magnitude-le-PAST w ↦ rw (w.decimals-is, w.magnitude-is) (more ∙ ap next (digit-kept n l.filled l.decimals l.magnitude _ c.requires w.if-decimals-ge-PLACES.false w.if-magnitude-le-PAST.false))
     ]
 
 pub returns : goal.returns

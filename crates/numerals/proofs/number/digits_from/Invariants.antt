@@ -1,17 +1,10 @@
 -- What the digits from `from` on come to is what those from `at` on come to, for the number with the ones between them. A digit past the fourth decimal, one that
 -- counts, and one of a number out of range meet after the branch.
-use mathlib.Core.Path.{◌≡◌, refl, sym, ap, ◌∙◌}
-use mathlib.Core.Logic.{⊎_elim}
-use Prim.Native.Nat.{◌+◌, ◌-◌}
-use native.Mathlib.Omega.{arith}
+use mathlib.Core.Path.{◌≡◌}
+use Prim.Native.Nat.{◌-◌}
 use lib.ListN.{length, drop}
-use borrow.Author.Rules.{rules}
-use borrow.Author.Tests.{not-true, not-false}
 use Rattle.numerals.specs.Number.{so_far_of}
 use Rattle.numerals.specs.Run.{digits_from}
-use Rattle.numerals.specs.RunLaws.{digit-class, digits-end, digits-stop, digits-on, digit-past, digit-kept, digit-counts}
-use Rattle.numerals.specs.declared.number.Number.{Number}
-use Rattle.numerals.specs.declared.number.Scanned.{Scanned}
 use Rattle.numerals.proofs.number.digits_from.Given as goal
 
 abbrev pub invariant-loop-at : goal.invariant-loop-at

@@ -1,12 +1,8 @@
 -- What the digits from `from` on come to is what those from `at` on come to, for the magnitude of the ones between them.
-use mathlib.Core.Path.{◌≡◌, refl, sym, ◌∙◌, subst}
-use Prim.Native.Nat.{ℕ, ◌-◌, ◌≤◌, ◌<◌}
-use native.Mathlib.Omega.{arith}
+use mathlib.Core.Path.{◌≡◌}
+use Prim.Native.Nat.{◌-◌}
 use lib.ListN.{length, drop}
-use borrow.Author.Rules.{rules}
-use borrow.Author.Tests.{lt-ltb, le-ltb}
 use Rattle.numerals.specs.Run.{run_of}
-use Rattle.numerals.specs.RunLaws.{zero-digit, zero-other, run_end, run-stop, run_past, run_on}
 use Rattle.numerals.proofs.number.run_from.Given as goal
 
 abbrev pub invariant-loop-at : goal.invariant-loop-at

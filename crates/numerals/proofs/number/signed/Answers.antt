@@ -4,7 +4,6 @@ use mir.Facts.{to_z_pos}
 use native.Mathlib.Omega.{arith}
 use Rattle.numerals.proofs.Laws.{minus-sfits, minus_is}
 use Rattle.numerals.specs.Number.{signed_of}
-use borrow.Author.Rules.{rules}
 use Rattle.numerals.proofs.number.signed.Goals as goal
 
 pub overflow_sub-result : goal.overflow_sub-result

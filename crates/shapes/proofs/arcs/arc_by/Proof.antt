@@ -7,8 +7,8 @@ use mir.Syntax.{w64}
 use Rattle.exact.specs.Fit.{Num, Bd, m64, arg, val, sized}
 use Rattle.plane.specs.Bounds.{most_angle, most_sweep, CentreBounds}
 use Rattle.plane.specs.Arc.{way_fits, arc_fits}
-use Rattle.plane.specs.ArcLaws.{way-bounds}
-use Rattle.plane.specs.CircleLaws.{centre-bounds}
+use Rattle.plane.proofs.ArcLaws.{way-bounds}
+use Rattle.plane.proofs.CircleLaws.{centre-bounds}
 use Rattle.hpgl.specs.declared.Circle.{Circle}
 use Rattle.hpgl.specs.Place.{axis_x, axis_y}
 use Rattle.hpgl.specs.Rules.{arc, follow, arc_by}

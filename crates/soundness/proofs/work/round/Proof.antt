@@ -10,7 +10,7 @@ use mir.Val.{to_z, of_z}
 use Rattle.exact.specs.Whole.{◌<ᶻ◌}
 use Rattle.exact.specs.Fit.{val, sized}
 use Rattle.plane.specs.Arc.{round_fits, fits_from}
-use Rattle.plane.specs.ArcLaws.{round-fits}
+use Rattle.plane.proofs.ArcLaws.{round-fits}
 use Rattle.hpgl.specs.declared.Circle.{Circle}
 use Rattle.wellformed.specs.Sound.{round_of}
 use Rattle.soundness.proofs.work.round.Statement.{statement}

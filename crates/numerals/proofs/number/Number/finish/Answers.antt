@@ -1,6 +1,6 @@
 -- The ways of `finish_of`, in its order. A magnitude that passed the test of the range may be signed.
 use native.Mathlib.Omega.{arith}
-use Rattle.numerals.specs.NumeralLaws.{largest-le}
+use Rattle.numerals.proofs.NumeralLaws.{largest-le}
 use Rattle.exact.proofs.Rules.{rules}
 use Rattle.numerals.specs.Number.{finish_of}
 use Rattle.numerals.proofs.number.Number.finish.Goals as goal

@@ -3,7 +3,7 @@ use Prim.Native.Nat.{◌≤◌, ◌<◌, ◌^◌}
 use native.Mathlib.Omega.{arith}
 use Rattle.exact.proofs.Rules.{rules}
 use Rattle.numerals.specs.Number.{places, ten_thousandths, nearest_of}
-use Rattle.numerals.specs.NumeralLaws.{no-carry, carry-small}
+use Rattle.numerals.proofs.NumeralLaws.{no-carry, carry-small}
 use Rattle.numerals.proofs.Laws.{scaled-le}
 use Rattle.numerals.proofs.number.Number.nearest.Goals as goal
 

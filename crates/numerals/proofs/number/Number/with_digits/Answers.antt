@@ -1,7 +1,6 @@
 -- The ways of `scanned_of`, in its order.
 use mathlib.Core.Path.{sym, ◌∙◌}
 use Rattle.numerals.specs.RunLaws.{digit-class, scanned-run, scanned-one}
-use borrow.Author.Rules.{rules}
 use Rattle.numerals.proofs.number.Number.with_digits.Goals as goal
 
 pub returns-then-counts_whole : goal.returns-then-counts_whole

@@ -1,0 +1,9 @@
+pub mod Crossing
+pub mod ExactnessLaws
+pub mod Halves
+pub mod Based
+pub mod Parameter
+pub mod Nearness
+pub mod NearnessHidden
+pub mod TypeLaws
+pub mod Unclipped

@@ -1,0 +1,3 @@
+pub mod PositionLaws
+pub mod CircleLaws
+pub mod ArcLaws

@@ -1,0 +1,40 @@
+use Rattle.exact.proofs.Rules.{rules}
+use Rattle.scanning.specs.Escapes.{numbers_class}
+use Rattle.scanning.specs.Escapes.{numbers}
+use Rattle.scanning.proofs.escapes.numbers.Goals as goal
+
+pub returns-then-byte-eq-ESC : goal.returns-then-byte-eq-ESC
+unfolding numbers numbers_class
+returns-then-byte-eq-ESC c = search rules
+
+pub returns-then-byte-eq58 : goal.returns-then-byte-eq58
+unfolding numbers numbers_class
+returns-then-byte-eq58 c = search rules
+
+pub returns-in-Blank : goal.returns-in-Blank
+unfolding numbers numbers_class
+returns-in-Blank c = search (rules, c.in-Blank.is, ← c.class_of-class.ensures)
+
+pub returns-in-Semicolon : goal.returns-in-Semicolon
+unfolding numbers numbers_class
+returns-in-Semicolon c = search (rules, c.in-Semicolon.is, ← c.class_of-class.ensures)
+
+pub returns-in-Letter : goal.returns-in-Letter
+unfolding numbers numbers_class
+returns-in-Letter c = search (rules, c.in-Letter.is, ← c.class_of-class.ensures)
+
+pub returns-in-Digit : goal.returns-in-Digit
+unfolding numbers numbers_class
+returns-in-Digit c = search (rules, c.in-Digit.is, ← c.class_of-class.ensures)
+
+pub returns-in-Sign : goal.returns-in-Sign
+unfolding numbers numbers_class
+returns-in-Sign c = search (rules, c.in-Sign.is, ← c.class_of-class.ensures)
+
+pub returns-in-Point : goal.returns-in-Point
+unfolding numbers numbers_class
+returns-in-Point c = search (rules, c.in-Point.is, ← c.class_of-class.ensures)
+
+pub returns-in-Other : goal.returns-in-Other
+unfolding numbers numbers_class
+returns-in-Other c = search (rules, c.in-Other.is, ← c.class_of-class.ensures)
