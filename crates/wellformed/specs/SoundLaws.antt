@@ -115,7 +115,7 @@ pub usable-sound : {m : State} → Usable m → sound_of (saved_of m) ≡ true
 unfolding sound_of reader_sound row_at saved_of Knows
 usable-sound {m} u =
     let v = u.valid in
-    both (both (part.place_of m.reader.mode m.reader.op v.reader.mode v.reader.op) (both (part.numbers_of m.reader.numbers v.reader.numbers) (part.number-of m.reader.number v.reader.number)))
+    both (both (part.place_of m.reader.mode m.reader.op v.reader.mode v.reader.op) (both (part.numbers_sound-of m.reader.numbers v.reader.numbers) (part.number-of m.reader.number v.reader.number)))
     (both (part.settings-of m.core.settings v.core.settings)
     (both (ap (λ (s : Settings). carriage_sound s (position_row k.position k.relative) (pen_row k.pen) (polygon_row k.polygon) (position_row k.polygon.first k.polygon.empty) (position_row k.polygon.saved.position k.polygon.saved.relative) (memory_row k.memory)) (settings-back m v) ∙ part.carriage-of m.core.settings k v.core)
     (both (last.known_of m.reader.mode m.reader.op m.core.carriage.polygon v.reader.op v.known)
