@@ -10,7 +10,7 @@ use Rattle.saved.specs.SavedReader.{reader_numbers}
 use Rattle.hpgl.specs.declared.State.{State}
 use Rattle.hpgl.specs.Numbers.{most_edges}
 use Rattle.saved.specs.Saved.{state_numbers, settings_numbers, carriage_numbers, work_numbers, edges_numbers, saved_of}
-use Rattle.saved.specs.SavedLaws.{saved-length}
+use Rattle.saved.proofs.SavedLaws.{saved-length}
 use Rattle.saving.proofs.save.Goals as goal
 use Rattle.saving.proofs.save.Lts
 use Rattle.saving.proofs.save.Tie

@@ -13,7 +13,7 @@ use Rattle.hpgl.specs.declared.Drawn.TheVariants as drawn
 use Rattle.feeding.specs.DrawOff.{list_full}
 use Rattle.hpgl.specs.Machine.{waiting, take_state, take_number, draw_state, draw_answer}
 use Rattle.feeding.specs.Feed.{Feed, stop, store, drew, feed_from}
-use Rattle.feeding.specs.FeedLaws.{draw-less, at-end, at_byte, at-refused, at-full, at-draw, feed-place}
+use Rattle.feeding.proofs.FeedLaws.{draw-less, at-end, at_byte, at-refused, at-full, at-draw, feed-place}
 use Rattle.hpgl.proofs.Pins.{TakeNumber, none, one, two, three, six, seven, twenty, take-number}
 
 -- these strokes are stored, and f is what follows

@@ -13,8 +13,8 @@ use Rattle.hpgl.specs.Numbers.{busy}
 use Rattle.hpgl.proofs.Cases.{pick}
 use Rattle.hpgl.specs.Machine.{waiting, occupied, take_state, take_number, draw_state, draw_answer}
 use Rattle.feeding.specs.Feed.{Feed, stop, store, drew, draw_off, counted, feed_from}
-pub use Rattle.feeding.specs.DrawOffLaws.{draw-less, draw-idle}
-use Rattle.feeding.specs.DrawOffLaws.{off-idle, off-full, off-draw, off-all, drew-all, held_number, held-state, Kept, stored-kept, drawn-kept, stop-kept, byte-kept, refused-kept}
+pub use Rattle.feeding.proofs.DrawOffLaws.{draw-less, draw-idle}
+use Rattle.feeding.proofs.DrawOffLaws.{off-idle, off-full, off-draw, off-all, drew-all, held_number, held-state, Kept, stored-kept, drawn-kept, stop-kept, byte-kept, refused-kept}
 use Rattle.hpgl.specs.Valid.{Usable}
 use Rattle.hpgl.specs.Made.{Made}
 use Rattle.feeding.specs.Led.{Led, usable-led, made-led}

@@ -37,7 +37,7 @@ use Rattle.saved.specs.SavedReader.{mode_tag, mode_of, place_row}
 use Rattle.saved.specs.Saved.{flag_in, small_in, from_of, to_of, pen_row, polygon_row, blank_row, line_row, chords_row, edges_row, reply_row, count_row, across_row, along_row, start_row, work_row, work_across, work_along, work_start, centre_of, way_of, angle_in, circle_of, reply_of, work_of, edge_row, edges_numbers, edge_of, edges_from}
 use Rattle.wellformed.specs.Sound.{between_of, four_low, four_high, five_of, centre_low, centre_high, start_low, start_high, blank_sound, box_sound, known_sound, round_of, start_sound, ring_sound, chords_sound, blanks_sound, line_sound, outline_sound, count_sound, reply_sound, work_sound, inked_sound, edges_sound}
 use Rattle.wellformed.specs.RowTests.{both, between-true, between-of, bd-of, bd-low, bd-high, Four, four-true, four-of, five-of, zero_same, flag_same, small_is, small_same, small-most, flag-bounds, blank-same}
-use Rattle.wellformed.specs.PartLaws.{PlaceLaw, box-law, box_sound-of, unless, unless-of, mode-on, mode-off, not-both}
+use Rattle.wellformed.proofs.PartLaws.{PlaceLaw, box-law, box_sound-of, unless, unless-of, mode-on, mode-off, not-both}
 
 -- ---- what is being read in polygon mode is known there
 

@@ -15,7 +15,7 @@ use Rattle.hpgl.specs.declared.Segment.TheVariants as segment
 use Rattle.hpgl.specs.declared.Drawn.{Drawn}
 use Rattle.hpgl.specs.declared.Drawn.TheVariants as drawn
 use Rattle.hpgl.specs.Machine.{waiting, take_state, take_number, stroke_of, draw_state, draw_answer}
-use Rattle.feeding.specs.DrawOffLaws.{draw-less}
+use Rattle.feeding.proofs.DrawOffLaws.{draw-less}
 use Rattle.feeding.specs.Plot.{Mark, stroke, refusal, Plot, drew, took, draw_off, take_with, take_on, plot_from}
 use Rattle.feeding.specs.DrawOff.{untaken}
 use Rattle.hpgl.proofs.Cases.{pick}

@@ -17,8 +17,8 @@ use Rattle.hpgl.specs.declared.Drawn.TheVariants as drawn
 use Rattle.hpgl.specs.Place.{limits}
 use Rattle.hpgl.specs.Machine.{waiting, take_state, take_number, stroke_of, shown, chord_shown, edge_shown, no_edge, draw_work, draw_state, draw_answer}
 use Rattle.feeding.specs.Feed.{drew, feed_from}
-use Rattle.feeding.specs.FeedLaws.{at-end, at_byte, at-refused, at-full, at-draw}
-use Rattle.feeding.specs.PartsOfFeed.{by-waiting}
+use Rattle.feeding.proofs.FeedLaws.{at-end, at_byte, at-refused, at-full, at-draw}
+use Rattle.feeding.proofs.PartsOfFeed.{by-waiting}
 use Rattle.hpgl.proofs.Cases.{pick}
 use Rattle.hpgl.specs.Numbers.{most_pen}
 use Rattle.hpgl.specs.Valid.{Valid, Every, none, more}

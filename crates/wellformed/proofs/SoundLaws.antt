@@ -15,11 +15,11 @@ use Rattle.hpgl.proofs.ValidKept.{made-usable}
 use Rattle.saved.specs.Places.{limits_place, corners_place, scale_place, window_place, position_place, pen_place, polygon_place, first_place, saved_place, memory_place, work_place, across_place, along_place, start_place, edges_place}
 use Rattle.saved.specs.SavedReader.{numbers_row, number_row, reader_of, reader_at}
 use Rattle.saved.specs.Saved.{state_numbers, settings_of, settings_at, position_row, pen_row, polygon_row, memory_row, pen_of, pm0_of, polygon_of, carriage_of, carriage_at, work_at, store_at, saved_of, loaded_of}
-use Rattle.saved.specs.SavedLaws.{saved-back}
+use Rattle.saved.proofs.SavedLaws.{saved-back}
 use Rattle.wellformed.specs.Sound.{reader_sound, place_sound, numbers_sound, number_sound, settings_sound, carriage_sound, known_sound, work_sound, inked_sound, edges_sound, sound_of}
 use Rattle.wellformed.specs.RowTests.{both}
-use Rattle.wellformed.specs.PartLaws as part
-use Rattle.wellformed.specs.WorkLaws as last
+use Rattle.wellformed.proofs.PartLaws as part
+use Rattle.wellformed.proofs.WorkLaws as last
 
 -- the reader's three rows
 record ReaderLaw (place numbers number : Row) : Type 0 where

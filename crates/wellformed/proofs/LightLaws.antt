@@ -1,10 +1,10 @@
 -- A list that passes is light: its numbers are so small that its sum fits (crate seal). Why: each row stands between two rows of literals.
-use Rattle.std.specs.Prelude.{◌≡◌, refl, Bool, true, false, cond, not, ◌&&◌, List, ℕ, zero, suc, ◌+◌, ◌*◌, ◌-◌, ◌≤◌, ◌<◌, T, ltb, leb, ℤ, pos, nat_abs, ◌+ℤ◌, length}
+use Rattle.std.specs.Prelude.{◌≡◌, refl, Bool, true, false, cond, not, ◌&&◌, List, ℕ, zero, suc, ◌+◌, ◌*◌, ◌-◌, ◌<◌, T, ltb, leb, ℤ, pos, nat_abs, ◌+ℤ◌, length}
 use Rattle.std.proofs.Common.{sym, subst, arith, ltb-true, ltb-false, leb→le}
 use Rattle.exact.specs.Whole.{◌≤?◌, ◌≡?◌, ◌≤ᶻ◌, ord}
 use Rattle.exact.specs.Fit.{Bd, abs}
 use Rattle.rows.specs.declared.Row.{Row}
-use Rattle.rows.specs.Rows.{row, row_at, small_of, most_short}
+use Rattle.rows.specs.Rows.{row_at, small_of, most_short}
 use Rattle.seal.specs.Light.{row_count, head_count, most_at, LightRow, Light}
 use Rattle.hpgl.proofs.ValidFacts.{and_both}
 use Rattle.saved.specs.Places.{limits_place, corners_place, scale_place, window_place, position_place, pen_place, polygon_place, first_place, saved_place, memory_place, work_place, across_place, along_place, start_place, edges_place}

@@ -14,7 +14,7 @@ use Rattle.hpgl.specs.Numbers.{busy}
 use Rattle.hpgl.proofs.Cases.{pick}
 use Rattle.hpgl.specs.Machine.{waiting, occupied, take_state, take_number, draw_state, draw_answer}
 use Rattle.feeding.specs.Plot.{Plot, stroke, refusal, stop, store, drew, took, draw_off, take_with, take_on, plot_from}
-use Rattle.feeding.specs.DrawOffLaws.{off-idle, off-full, off-draw, off-all, drew-all, held_number, Kept, stored-kept, drawn-kept, stop-kept, byte-kept}
+use Rattle.feeding.proofs.DrawOffLaws.{off-idle, off-full, off-draw, off-all, drew-all, held_number, Kept, stored-kept, drawn-kept, stop-kept, byte-kept}
 use Rattle.hpgl.specs.Valid.{Usable}
 use Rattle.hpgl.specs.Made.{Made}
 use Rattle.feeding.specs.Led.{Led, usable-led, made-led}
