@@ -17,12 +17,12 @@ use Rattle.hpgl.specs.Replies.{reply_text}
 use Rattle.hpgl.proofs.Cases.{whether}
 use Rattle.feeding.specs.Plot.{plot_from, numbers_of}
 use Rattle.feeding.specs.Plot.{Plot as Marked}
-use Rattle.feeding.specs.WhatMarksTell.{plot-told}
+use Rattle.feeding.proofs.WhatMarksTell.{plot-told}
 use Rattle.hpgl.specs.Valid.{Usable}
 use Rattle.hpgl.proofs.ValidKept.{usable-fresh, usable-fetch}
 use Rattle.hpgl.proofs.ReplyLaws.{reply-short}
 use Rattle.hpgl.proofs.FetchLaws.{fetch-some}
-use Rattle.feeding.specs.PlotLaws.{plot-place, plot-usable}
+use Rattle.feeding.proofs.PlotLaws.{plot-place, plot-usable}
 use Rattle.machine.specs.declared.Machine.{Machine}
 use Rattle.machine.specs.declared.Started.{Started}
 use Rattle.machine.specs.Calls.{started_of, fetched_from}

@@ -23,10 +23,10 @@ use Rattle.hpgl.specs.Machine.{waiting, replied, replying, occupied, take_state,
 use Rattle.hpgl.proofs.WhatTakeDoes.{free-is}
 use Rattle.hpgl.proofs.FetchLaws.{fetch-none, fetch-again, fetch-idle}
 use Rattle.feeding.specs.DrawOff.{list_full, untaken}
-use Rattle.feeding.specs.DrawOffLaws.{draw-less, held_number, free-taken, none-taken}
+use Rattle.feeding.proofs.DrawOffLaws.{draw-less, held_number, free-taken, none-taken}
 use Rattle.feeding.specs.Plot.{Mark, stroke, refusal, Plot, stop, drew, took, draw_off, take_with, take_on, plot_from, numbers_of}
 use Rattle.hpgl.specs.Valid.{Every, more}
-use Rattle.feeding.specs.WhatMarksTell.{Told}
+use Rattle.feeding.proofs.WhatMarksTell.{Told}
 use Rattle.textlines.specs.Text.{stroke_text, refusal_text, mark_at, marks_below}
 use Rattle.textlines.specs.TextLaws.{mark-refusal, mark-stroke, stroke-some, refusal-some}
 use Rattle.printed.specs.Printed.{stroke_line, drawn_line, byte_line, drawn_lines, taken_line, reply_line, printed}

@@ -6,7 +6,7 @@ use native.Mathlib.Omega.{arith}
 use lib.Dec.{eqb}
 use lib.ListN.{length}
 use Rattle.feeding.specs.Plot.{Plot, laid_marks}
-use Rattle.feeding.specs.PlotLaws.{plot-stored}
+use Rattle.feeding.proofs.PlotLaws.{plot-stored}
 use Rattle.hpgl.specs.Machine.{fetch_text}
 use Rattle.machine.specs.declared.Gathered.{Gathered}
 use Rattle.machine.specs.declared.Fetched.{Fetched}
