@@ -4,7 +4,7 @@ use Rattle.std.proofs.lemmas.List.{length-replicate}
 use Rattle.hpgl.specs.declared.Stroke.{Stroke}
 use Rattle.hpgl.specs.Valid.{Usable}
 use Rattle.feeding.specs.Feed.{Feed, feed_from}
-use Rattle.feeding.specs.PartsOfFeed.{store_all}
+use Rattle.feeding.proofs.PartsOfFeed.{store_all}
 use Rattle.machine.specs.declared.Machine.{Machine}
 use Rattle.batches.specs.declared.Fed.{Fed}
 use Rattle.batches.specs.declared.Batch.{Batch}

@@ -13,7 +13,7 @@ use Rattle.hpgl.specs.declared.Stroke.{Stroke}
 use Rattle.feeding.specs.Feed.{numbers_of, laid_numbers}
 use Rattle.hpgl.specs.Numbers.{most_pen}
 use Rattle.hpgl.specs.Valid.{Every, more}
-use Rattle.feeding.specs.StrokePens.{Penned}
+use Rattle.feeding.proofs.StrokePens.{Penned}
 
 -- what stands where there is no stroke
 abbrev pub no_stroke : Stroke

@@ -2,9 +2,3 @@ pub mod DrawOff
 pub mod Feed
 pub mod Plot
 pub mod Led
-pub mod DrawOffLaws
-pub mod FeedLaws
-pub mod PlotLaws
-pub mod PartsOfFeed
-pub mod StrokePens
-pub mod WhatMarksTell

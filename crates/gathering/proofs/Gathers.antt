@@ -34,7 +34,7 @@ use Rattle.hpgl.specs.Rules.{done}
 use Rattle.hpgl.specs.Numbers.{busy}
 use Rattle.hpgl.specs.Machine.{waiting, replied, replying, occupied, take_state, take_number, work_after, draw_state, draw_answer}
 use Rattle.feeding.specs.Plot.{Mark, stroke, refusal, Plot, stop, store, drew, numbers_of, laid_marks}
-use Rattle.feeding.specs.FeedLaws.{draw-less}
+use Rattle.feeding.proofs.FeedLaws.{draw-less}
 use Rattle.hpgl.specs.Valid.{most_chords, ValidWork, Valid}
 use Rattle.hpgl.proofs.Cases.{never}
 use Rattle.hpgl.proofs.ValidKept.{valid-draw}

@@ -14,10 +14,10 @@ use Rattle.hpgl.specs.Numbers.{busy}
 use Rattle.hpgl.proofs.Cases.{never}
 use Rattle.hpgl.specs.Machine.{waiting, replied, replying, occupied, take_state, take_number, draw_state, draw_answer}
 use Rattle.feeding.specs.Feed as F
-use Rattle.feeding.specs.FeedLaws as feed
-use Rattle.feeding.specs.DrawOffLaws.{free-taken}
+use Rattle.feeding.proofs.FeedLaws as feed
+use Rattle.feeding.proofs.DrawOffLaws.{free-taken}
 use Rattle.feeding.specs.Plot.{refusal, stop, store, drew}
-use Rattle.feeding.specs.PlotLaws as plot
+use Rattle.feeding.proofs.PlotLaws as plot
 use Rattle.gathering.specs.Gather.{marked, gather_from}
 
 -- ---- what waits: segments, a reply, or neither

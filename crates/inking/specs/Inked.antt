@@ -8,7 +8,7 @@ use Rattle.hpgl.specs.Machine.{waiting}
 use Rattle.hpgl.specs.Valid.{Knows, ValidCore, Valid, Usable}
 use Rattle.saved.specs.Places.{pen_place}
 use Rattle.saved.specs.Saved.{saved_of, loaded_of, pen_row}
-use Rattle.saved.specs.SavedLaws.{saved-back}
+use Rattle.saved.proofs.SavedLaws.{saved-back}
 use Rattle.machine.specs.Loadable.{Loadable, saved-loadable}
 
 unfoldable pub inked_state : State → State

@@ -4,7 +4,7 @@ use Rattle.std.proofs.Common.{sym, subst}
 use Rattle.hpgl.specs.declared.State.{State}
 use Rattle.hpgl.specs.Valid.{Usable}
 use Rattle.saved.specs.Saved.{state_numbers, saved_of, loaded_of}
-use Rattle.saved.specs.SavedLaws.{saved-back, saved-length}
+use Rattle.saved.proofs.SavedLaws.{saved-back, saved-length}
 
 pub record Loadable (zs : List ℤ) : Type 0 where
   pub long : length zs ≡ state_numbers

@@ -7,10 +7,10 @@ use Rattle.hpgl.specs.declared.State.{State}
 use Rattle.hpgl.specs.Machine.{waiting, occupied, take_state, take_number}
 use Rattle.feeding.specs.DrawOff.{list_full}
 use Rattle.feeding.specs.Feed.{Feed, counted, feed_from}
-use Rattle.feeding.specs.FeedLaws.{at-end, at_byte, at-refused, at-full, counted_next, feed-usable, feed-made}
-use Rattle.feeding.specs.DrawOffLaws.{free-taken}
+use Rattle.feeding.proofs.FeedLaws.{at-end, at_byte, at-refused, at-full, counted_next, feed-usable, feed-made}
+use Rattle.feeding.proofs.DrawOffLaws.{free-taken}
 use Rattle.gathering.specs.GatherLaws.{free-idle}
-use Rattle.feeding.specs.PartsOfFeed.{take-not-full}
+use Rattle.feeding.proofs.PartsOfFeed.{take-not-full}
 use Rattle.hpgl.specs.Made.{Made}
 use Rattle.hpgl.specs.Valid.{Usable}
 use Rattle.machine.specs.declared.Ran.{Ran}

@@ -17,12 +17,12 @@ use Rattle.hpgl.specs.Replies.{reply_text}
 use Rattle.hpgl.proofs.Cases.{whether}
 use Rattle.feeding.specs.Plot.{plot_from, numbers_of}
 use Rattle.feeding.specs.Plot.{Plot as Marked}
-use Rattle.feeding.specs.WhatMarksTell.{plot-told}
+use Rattle.feeding.proofs.WhatMarksTell.{plot-told}
 use Rattle.hpgl.specs.Valid.{Usable}
 use Rattle.hpgl.proofs.ValidKept.{usable-fresh, usable-fetch}
 use Rattle.hpgl.proofs.ReplyLaws.{reply-short}
 use Rattle.hpgl.proofs.FetchLaws.{fetch-some}
-use Rattle.feeding.specs.PlotLaws.{plot-place, plot-usable}
+use Rattle.feeding.proofs.PlotLaws.{plot-place, plot-usable}
 use Rattle.machine.specs.declared.Machine.{Machine}
 use Rattle.machine.specs.declared.Started.{Started}
 use Rattle.machine.specs.Calls.{started_of, fetched_from}
@@ -32,7 +32,7 @@ use Rattle.plotting.specs.declared.Plot.{Plot}
 use Rattle.hpgl.specs.Numbers.{most_reply}
 use Rattle.printed.specs.Printed.{printed}
 use Rattle.plotting.specs.Plotted.{begun_of, emptied_of, moved_of, due, Ready, Plotted}
-use Rattle.printed.specs.PlotPrinted.{mark_lines, fetched-end, reply-prints, plot-prints, Ended, plot-ended, numbers-lines, lines-some}
+use Rattle.printed.proofs.PlotPrinted.{mark_lines, fetched-end, reply-prints, plot-prints, Ended, plot-ended, numbers-lines, lines-some}
 
 pub plotted-nothing : {p : Plot} {block : List ℕ} (text : List ℕ) → Ready p block → p.length ≤ length text → Plotted p p block text text
 plotted-nothing text h l = record { text = []; prints = λ later. refl; puts = puts-nothing text l; ready = h; earlier = refl }

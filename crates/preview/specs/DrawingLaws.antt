@@ -3,7 +3,7 @@ use Rattle.std.specs.Prelude.{List, ◌≡◌, ℕ, ◌-◌, ◌≤◌, length, 
 use Rattle.std.proofs.Common.{arith, length-drop, length-take-le}
 use Rattle.hpgl.specs.Valid.{Usable}
 use Rattle.hpgl.proofs.ValidKept.{usable-fetch}
-use Rattle.feeding.specs.FeedLaws.{feed-usable, feed-place}
+use Rattle.feeding.proofs.FeedLaws.{feed-usable, feed-place}
 use Rattle.noting.specs.Astray.{part_end}
 use Rattle.noting.specs.AstrayLaws.{part-within}
 use Rattle.tracing.specs.declared.Hand.{Hand}

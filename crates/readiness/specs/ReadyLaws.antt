@@ -11,18 +11,18 @@ use Rattle.seal.specs.Light.{Light}
 use Rattle.hpgl.specs.declared.State.{State}
 use Rattle.hpgl.specs.Machine.{fresh_state, take_state, draw_state, fetch_state}
 use Rattle.feeding.specs.Feed.{feed_of}
-use Rattle.feeding.specs.FeedLaws.{feed-usable}
+use Rattle.feeding.proofs.FeedLaws.{feed-usable}
 use Rattle.feeding.specs.Plot.{plot_from}
-use Rattle.feeding.specs.PlotLaws.{plot-usable}
+use Rattle.feeding.proofs.PlotLaws.{plot-usable}
 use Rattle.hpgl.specs.Made.{Made}
 use Rattle.hpgl.specs.Valid.{Usable}
 use Rattle.hpgl.proofs.ValidFacts.{and_both}
 use Rattle.hpgl.proofs.ValidKept.{usable-fresh, usable-take, usable-draw, usable-fetch, made-usable}
 use Rattle.saved.specs.Saved.{state_numbers, saved_of, loaded_of}
-use Rattle.saved.specs.SavedLaws.{saved-back, saved-length}
+use Rattle.saved.proofs.SavedLaws.{saved-back, saved-length}
 use Rattle.wellformed.specs.Sound.{sound_of}
-use Rattle.wellformed.specs.SoundLaws.{Passed, sound-passed, usable-sound}
-use Rattle.wellformed.specs.LightLaws.{sound-light}
+use Rattle.wellformed.proofs.SoundLaws.{Passed, sound-passed, usable-sound}
+use Rattle.wellformed.proofs.LightLaws.{sound-light}
 use Rattle.machine.specs.Loadable.{Loadable}
 use Rattle.readiness.specs.Ready.{no_machine, too_short, list_numbers, list_of, machine_in, machine_stands, ready_of}
 

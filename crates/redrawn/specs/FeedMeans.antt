@@ -23,8 +23,8 @@ use Rattle.hpgl.specs.Rules as rules
 use Rattle.hpgl.specs.Replies.{remembered, remembering}
 use Rattle.hpgl.specs.Machine.{waiting, replied, replying, occupied, stored, queued, reader_after, applied, acted, take_state, take_number, shown, work_after, draw_work, draw_state, draw_answer}
 use Rattle.feeding.specs.Feed.{Feed, feed_from, store}
-use Rattle.feeding.specs.FeedLaws.{at_byte, at-stroke}
-use Rattle.feeding.specs.PartsOfFeed.{store_all}
+use Rattle.feeding.proofs.FeedLaws.{at_byte, at-stroke}
+use Rattle.feeding.proofs.PartsOfFeed.{store_all}
 
 -- carried out, with this core and this action
 abbrev pub does : Core → Action → Acted

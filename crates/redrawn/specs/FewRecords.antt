@@ -10,8 +10,8 @@ use Rattle.hpgl.specs.Machine.{hard_limits, fresh_state}
 use Rattle.hpgl.specs.Valid.{Every}
 use Rattle.feeding.specs.DrawOff.{list_full}
 use Rattle.feeding.specs.Feed.{Feed, feed_from, feed_of}
-use Rattle.feeding.specs.FeedLaws.{feed-stored}
-use Rattle.feeding.specs.PartsOfFeed.{store_all, feed-room}
+use Rattle.feeding.proofs.FeedLaws.{feed-stored}
+use Rattle.feeding.proofs.PartsOfFeed.{store_all, feed-room}
 use Rattle.redrawn.specs.Redrawn.{text_of}
 use Rattle.redrawn.specs.Causes.{Fit}
 use Rattle.redrawn.specs.RoundTrip.{EndsIn}

@@ -21,8 +21,8 @@ use Rattle.hpgl.specs.Rules.{origin, fresh_settings, fresh_carriage, fresh_core}
 use Rattle.hpgl.specs.Machine.{waiting, hard_limits, fresh_state}
 use Rattle.hpgl.specs.Valid.{Every, none, more}
 use Rattle.feeding.specs.Feed.{Feed, stop, feed_from, feed_of}
-use Rattle.feeding.specs.FeedLaws.{at-end}
-use Rattle.feeding.specs.PartsOfFeed.{store_all}
+use Rattle.feeding.proofs.FeedLaws.{at-end}
+use Rattle.feeding.proofs.PartsOfFeed.{store_all}
 use Rattle.redrawn.specs.Redrawn.{number_of, written_of, output_of, all_writable, start_text, pen_text, line_text, change_text, stroke_text, strokes_text, text_of}
 use Rattle.redrawn.specs.RedrawnLaws.{Writable, writable-is, writable-first, text-from}
 use Rattle.redrawn.specs.Numerals.{kept}

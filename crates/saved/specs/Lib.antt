@@ -1,4 +1,3 @@
 pub mod Places
 pub mod SavedReader
 pub mod Saved
-pub mod SavedLaws

@@ -1,5 +1,7 @@
 // The machine's state written out as numbers, and read back. A caller in another language keeps it between two calls as 129 rows of five.
 // The crate saved says which number stands where (Saved.antt), and proves that what is written is read back (SavedLaws.antt).
+#![tactic(auto)]
+
 ghost use Rattle.std.specs.Prelude.{◌≡◌, length};
 ghost use Rattle.hpgl.specs.Numbers.{most_edges};
 ghost use Rattle.saved.specs.Saved.{state_numbers, saved_of, loaded_of};

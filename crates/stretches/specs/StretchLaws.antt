@@ -23,9 +23,9 @@ use Rattle.hpgl.specs.Rules.{done, refuse, noted, act_on}
 use Rattle.hpgl.specs.Machine.{waiting, replied, replying, occupied, queued, reader_after, applied, acted, take_state, take_number}
 use Rattle.hpgl.proofs.Pins.{pinned}
 use Rattle.hpgl.specs.Valid.{Every, none, more}
-use Rattle.feeding.specs.DrawOffLaws.{free-taken}
+use Rattle.feeding.proofs.DrawOffLaws.{free-taken}
 use Rattle.feeding.specs.Plot.{Plot, took, plot_from}
-use Rattle.feeding.specs.PlotLaws.{at-end, at-stuck, at_byte}
+use Rattle.feeding.proofs.PlotLaws.{at-end, at-stuck, at_byte}
 use Rattle.stretches.specs.Stretch.{is_letter, NoLetter, Outside, Unknown, Refuses}
 
 -- ---- the reader

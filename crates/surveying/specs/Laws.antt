@@ -28,10 +28,10 @@ use Rattle.hpgl.proofs.ReplyLaws.{reply-short}
 use Rattle.hpgl.specs.Segment.{chord_segment, edge_segment, work_segment, segment_of}
 use Rattle.hpgl.specs.Valid.{Every, none, more, Usable}
 use Rattle.feeding.specs.DrawOff.{untaken}
-use Rattle.feeding.specs.DrawOffLaws.{draw-less, held_number, held-state, free-taken}
+use Rattle.feeding.proofs.DrawOffLaws.{draw-less, held_number, held-state, free-taken}
 use Rattle.feeding.specs.Feed.{counted}
 use Rattle.feeding.specs.Plot.{Plot, took, plot_from, numbers_of, laid_marks}
-use Rattle.feeding.specs.PlotLaws.{at-end, at-stuck, at_byte, took-none, took-refused, plot-place, plot-stored, plot-usable}
+use Rattle.feeding.proofs.PlotLaws.{at-end, at-stuck, at_byte, took-none, took-refused, plot-place, plot-stored, plot-usable}
 use Rattle.stretches.specs.Stretch.{is_letter, NoLetter, Outside}
 use Rattle.gathering.specs.GatherLaws.{free-idle, idle-free, reply-held}
 use Rattle.stretches.specs.StretchLaws.{outside-free, take-outside, take-unknown, refused-outside, stretch-refuses}

@@ -13,10 +13,10 @@ use Rattle.hpgl.proofs.FetchLaws.{fetch-none}
 use Rattle.hpgl.specs.Segment.{segment_of}
 use Rattle.hpgl.specs.Valid.{Every, more}
 use Rattle.feeding.specs.DrawOff.{untaken}
-use Rattle.feeding.specs.DrawOffLaws.{draw-less, free-taken}
+use Rattle.feeding.proofs.DrawOffLaws.{draw-less, free-taken}
 use Rattle.feeding.specs.Feed.{counted}
 use Rattle.feeding.specs.Plot.{Plot, took, plot_from}
-use Rattle.feeding.specs.PlotLaws.{at-end, at-stuck, at_byte, took-none, took-refused}
+use Rattle.feeding.proofs.PlotLaws.{at-end, at-stuck, at_byte, took-none, took-refused}
 use Rattle.gathering.specs.GatherLaws.{free-idle}
 use Rattle.stretches.specs.Stretch.{NoLetter, Outside}
 use Rattle.stretches.specs.StretchLaws.{outside-free, take-outside, take-unknown}

@@ -1,5 +1,5 @@
 -- What the tests of a row say, both ways; and a number that passed its test is written as it was read.
-use Rattle.std.specs.Prelude.{◌≡◌, refl, Bool, true, false, ◌&&◌, ℕ, zero, suc, ◌≤◌, ◌<◌, ℤ, pos, negsuc, neg_ℤ, nat_abs}
+use Rattle.std.specs.Prelude.{◌≡◌, refl, Bool, true, false, ◌&&◌, ℕ, zero, suc, ◌≤◌, ℤ, pos, negsuc, neg_ℤ, nat_abs}
 use Rattle.std.proofs.Common.{ap, ◌∙◌, arith, le-leb}
 use Rattle.exact.specs.Whole.{◌<?◌, ◌≤?◌, ◌≤ᶻ◌, ord, up_neg, dn-neg, ≤?-true, le-≤?, le-<?}
 use Rattle.exact.specs.Fit.{Bd, abs}

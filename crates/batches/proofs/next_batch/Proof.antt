@@ -13,9 +13,9 @@ use lib.Seq.{drop-drop, length-take-le, length_front}
 use Rattle.hpgl.specs.declared.Stroke.{Stroke}
 use Rattle.feeding.specs.DrawOff.{list_full}
 use Rattle.feeding.specs.Feed.{Feed, feed_from, laid_numbers}
-use Rattle.feeding.specs.PartsOfFeed.{store_all, Roomier, feed-room}
-use Rattle.feeding.specs.StrokePens.{feed-pens}
-use Rattle.feeding.specs.FeedLaws.{feed-place, feed-stored, feed-usable}
+use Rattle.feeding.proofs.PartsOfFeed.{store_all, Roomier, feed-room}
+use Rattle.feeding.proofs.StrokePens.{feed-pens}
+use Rattle.feeding.proofs.FeedLaws.{feed-place, feed-stored, feed-usable}
 use Rattle.hpgl.specs.Valid.{Usable}
 use Rattle.machine.specs.declared.Gathered.{Gathered}
 use Rattle.machine.specs.Gather.{gathered_of}

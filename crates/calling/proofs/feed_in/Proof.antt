@@ -7,7 +7,7 @@ use lib.ListN.{length}
 use Rattle.rows.specs.Rows.{over}
 use Rattle.hpgl.specs.declared.State.{State}
 use Rattle.feeding.specs.Feed.{Feed, feed_of, laid_numbers}
-use Rattle.feeding.specs.FeedLaws.{feed-usable}
+use Rattle.feeding.proofs.FeedLaws.{feed-usable}
 use Rattle.hpgl.specs.Valid.{Usable}
 use Rattle.machine.specs.declared.Gathered.{Gathered}
 use Rattle.machine.specs.Gather.{gathered_of}

@@ -15,7 +15,7 @@ use Rattle.hpgl.proofs.FetchLaws.{unfetched, fetched}
 use Rattle.replies.specs.Fetch.{Fetches, number_for}
 use Rattle.saved.specs.Places.{work_place}
 use Rattle.saved.specs.Saved.{work_numbers, saved_of, loaded_of}
-use Rattle.saved.specs.SavedLaws.{saved-work}
+use Rattle.saved.proofs.SavedLaws.{saved-work}
 use Rattle.calling.proofs.fetch_in.Statement.{statement}
 use Rattle.calling.proofs.fetch_in.Tie as tie
 

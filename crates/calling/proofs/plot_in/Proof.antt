@@ -7,7 +7,7 @@ use lib.ListN.{length}
 use Rattle.rows.specs.Rows.{over}
 use Rattle.hpgl.specs.declared.State.{State}
 use Rattle.feeding.specs.Plot.{Plot, plot_from, laid_marks}
-use Rattle.feeding.specs.PlotLaws.{plot-usable}
+use Rattle.feeding.proofs.PlotLaws.{plot-usable}
 use Rattle.hpgl.specs.Valid.{Usable}
 use Rattle.machine.specs.declared.Gathered.{Gathered}
 use Rattle.machine.specs.Gather.{plotted_of}

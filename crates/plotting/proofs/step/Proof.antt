@@ -6,7 +6,7 @@ use native.Mathlib.Omega.{arith}
 use lib.Dec.{eqb}
 use lib.ListN.{length}
 use Rattle.feeding.specs.Plot.{Plot, laid_marks}
-use Rattle.feeding.specs.PlotLaws.{plot-stored}
+use Rattle.feeding.proofs.PlotLaws.{plot-stored}
 use Rattle.hpgl.specs.Machine.{fetch_text}
 use Rattle.machine.specs.declared.Gathered.{Gathered}
 use Rattle.machine.specs.declared.Fetched.{Fetched}
@@ -15,7 +15,7 @@ use Rattle.machine.specs.Calls.{fetched_from}
 use Rattle.textlines.specs.Text.{marks_below}
 use Rattle.decimals.specs.Puts.{Puts, puts-same, puts-length, puts_then}
 use Rattle.plotting.specs.Plotted.{moved_of, most_marks}
-use Rattle.printed.specs.PlotPrinted.{mark_lines}
+use Rattle.printed.proofs.PlotPrinted.{mark_lines}
 use Rattle.plotting.specs.PlottedLaws.{marked, puts-at, usable-got, marks-lines, steps}
 use Rattle.hpgl.specs.Numbers.{most_reply}
 use borrow.Author.Rules.{rules}

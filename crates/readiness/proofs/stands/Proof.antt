@@ -11,7 +11,7 @@ use lib.ListN.{drop, length-drop}
 use Rattle.rows.specs.Rows.{row_at}
 use Rattle.seal.specs.Seal.{header_sound}
 use Rattle.wellformed.specs.Sound.{sound_of}
-use Rattle.wellformed.specs.LightLaws.{sound-light}
+use Rattle.wellformed.proofs.LightLaws.{sound-light}
 use Rattle.readiness.specs.Ready.{machine_stands}
 use Rattle.readiness.proofs.stands.Statement.{statement}
 use Rattle.readiness.proofs.stands.Tie as tie

@@ -9,7 +9,7 @@ use Rattle.rows.specs.Rows.{row_at}
 use Rattle.hpgl.specs.Valid.{ValidSettings}
 use Rattle.saved.specs.Places.{limits_place, corners_place, scale_place, window_place, position_place, pen_place, polygon_place, first_place, saved_place, memory_place, work_place, across_place, along_place, start_place}
 use Rattle.saved.specs.Saved.{settings_at}
-use Rattle.wellformed.specs.PartLaws.{settings-law}
+use Rattle.wellformed.proofs.PartLaws.{settings-law}
 use Rattle.wellformed.specs.Sound.{reader_sound, settings_sound, carriage_sound, known_sound, work_sound, inked_sound, sound_of}
 use Rattle.soundness.proofs.sound.Statement.{statement}
 use Rattle.soundness.proofs.sound.Tie as tie

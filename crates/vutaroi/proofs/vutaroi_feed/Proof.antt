@@ -12,7 +12,7 @@ use Rattle.rows.specs.Rows.{over}
 use Rattle.seal.specs.Seal.{sealed_of}
 use Rattle.seal.specs.Light.{Light}
 use Rattle.feeding.specs.Feed.{feed_of, laid_numbers}
-use Rattle.feeding.specs.FeedLaws.{feed-usable}
+use Rattle.feeding.proofs.FeedLaws.{feed-usable}
 use Rattle.saved.specs.Saved.{saved_of, loaded_of}
 use Rattle.machine.specs.Loadable.{Loadable}
 use Rattle.readiness.specs.Ready.{list_of, machine_in, ready_of}

@@ -2,7 +2,7 @@
 use Rattle.std.proofs.Common.{◌≡◌, ℕ, List, drop, rules}
 use Rattle.hpgl.specs.declared.State.{State}
 use Rattle.feeding.specs.Feed.{feed_from}
-use Rattle.feeding.specs.FeedLaws.{feed-usable}
+use Rattle.feeding.proofs.FeedLaws.{feed-usable}
 use Rattle.hpgl.specs.Valid.{Usable}
 use Rattle.machine.specs.declared.Gathered.{Gathered}
 use Rattle.machine.specs.Gather.{gathered_of}

@@ -14,7 +14,7 @@ use lib.ListN.{length, take, drop, set, get_or, length-set, take-append-drop}
 use lib.Seq.{take-suc-set, drop-set-lt, drop-drop, append_snoc, length-take-le, slice, slice_empty, slice-cons}
 use Rattle.hpgl.specs.declared.Stroke.{Stroke}
 use Rattle.feeding.specs.Feed.{Feed, feed_of, feed_from, laid}
-use Rattle.feeding.specs.PartsOfFeed.{store_all}
+use Rattle.feeding.proofs.PartsOfFeed.{store_all}
 use Rattle.hpgl.specs.Valid.{Usable}
 use Rattle.machine.specs.declared.Machine.{Machine}
 use Rattle.batches.specs.declared.Batch.{Batch}

@@ -7,7 +7,7 @@ use lib.ListN.{length, take, drop}
 use Rattle.hpgl.specs.Machine.{look_at}
 use Rattle.hpgl.specs.Valid.{Usable}
 use Rattle.feeding.specs.Feed.{feed_of}
-use Rattle.feeding.specs.FeedLaws.{feed-stored, feed-usable}
+use Rattle.feeding.proofs.FeedLaws.{feed-stored, feed-usable}
 use Rattle.feed.specs.declared.Listed.{Listed}
 use Rattle.feed.specs.Fed.{listed_of}
 use Rattle.noting.specs.AstrayLaws.{part-within}

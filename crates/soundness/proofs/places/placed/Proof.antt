@@ -6,7 +6,7 @@ use Rattle.plane.specs.declared.position.Axis.{Axis}
 use Rattle.plane.specs.Bounds.{AxisBounds}
 use Rattle.hpgl.specs.Place.{axis_x, axis_y, in_range}
 use Rattle.hpgl.proofs.ValidFacts.{axis-bounds-x, axis-bounds-y}
-use Rattle.wellformed.specs.PartLaws.{locatable-true}
+use Rattle.wellformed.proofs.PartLaws.{locatable-true}
 use Rattle.wellformed.specs.Sound.{locatable_of, placed_of}
 use Rattle.soundness.proofs.places.placed.Statement.{statement}
 use Rattle.soundness.proofs.places.placed.Tie as tie

@@ -10,7 +10,7 @@ use Rattle.rows.specs.Rows.{small_of, most_short}
 use Rattle.exact.specs.Whole.{◌≤?◌}
 use native.Mathlib.Omega.{arith}
 use Rattle.wellformed.specs.RowTests.{between-true, bd-nat}
-use Rattle.wellformed.specs.WorkLaws.{ring-true}
+use Rattle.wellformed.proofs.WorkLaws.{ring-true}
 use Rattle.wellformed.specs.Sound.{between_of, five_of, round_of, ring_sound, chords_sound}
 use Rattle.soundness.proofs.work.chords_sound.Statement.{statement}
 use Rattle.soundness.proofs.work.chords_sound.Tie as tie

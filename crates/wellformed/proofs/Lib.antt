@@ -1,0 +1,4 @@
+pub mod LightLaws
+pub mod PartLaws
+pub mod WorkLaws
+pub mod SoundLaws
