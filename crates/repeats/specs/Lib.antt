@@ -1,4 +1,3 @@
 pub mod Repeats
 pub mod Laws
 pub mod Said
-pub mod SaidLaws

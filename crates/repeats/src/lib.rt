@@ -1,4 +1,6 @@
 // Lines that are painted twice: the last 4096 lines are kept, and each next one is looked for among them.
+#![tactic(auto)]
+
 ghost use Rattle.std.specs.Prelude.{◌≡◌, ◌<◌, ◌≤◌, length};
 ghost use Rattle.repeats.specs.Repeats as S;
 

@@ -7,7 +7,7 @@ use mir.Syntax.{w64}
 use mir.Val.{hbits}
 use Rattle.exact.specs.Fit.{Num, m64, val, put, fit, sized, ret, ◌⊕◌, ◌⊖◌, ◌⊗◌}
 use Rattle.exact.specs.Divide.{nearest_div}
-use Rattle.exact.specs.Steps.{nearest-size}
+use Rattle.exact.proofs.NearestLaws.{nearest-size}
 use Rattle.plane.specs.Arc.{way_of}
 use Rattle.plane.specs.Bounds.{most_product}
 use Rattle.plane.proofs.PositionLaws.{offset-size}

@@ -7,7 +7,8 @@ use mir.Syntax.{w64}
 use mir.Val.{hbits}
 use Rattle.exact.specs.Fit.{Num, m64, val, num, put, fit, sized, ret, ◌⊕◌, ◌⊗◌}
 use Rattle.exact.specs.Divide.{nearest_div}
-use Rattle.exact.specs.Steps.{nearest-size, not-zero}
+use Rattle.exact.specs.Steps.{not-zero}
+use Rattle.exact.proofs.NearestLaws.{nearest-size}
 use Rattle.plane.specs.Circle.{from_centre}
 use Rattle.plane.proofs.CircleLaws.{wide-some}
 use Rattle.placing.proofs.circle.vertex.Goals as goal

@@ -8,7 +8,7 @@ use mir.Syntax.{w64}
 use mir.Val.{SFits, hbits}
 use Rattle.exact.specs.Fit.{Num, m64, arg, val, put, fit, within, ret, sized, ◌⊕◌, ◌⊗◌}
 use Rattle.exact.specs.Divide.{nearest_div}
-use Rattle.exact.specs.Steps.{nearest-size}
+use Rattle.exact.proofs.NearestLaws.{nearest-size}
 use Rattle.plane.specs.Position.{location_of}
 use Rattle.plane.specs.Bounds.{most_product}
 use Rattle.placing.proofs.position.location.Goals as goal

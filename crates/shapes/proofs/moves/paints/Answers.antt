@@ -1,0 +1,10 @@
+-- The proof of `paints`: by its test.
+use mathlib.Core.Path.{refl}
+use borrow.Author.Tests.{eq-eqb, ne_eqb}
+use Rattle.shapes.proofs.moves.paints.Goals as goal
+
+pub returns-then-p-eq0 : goal.returns-then-p-eq0
+returns-then-p-eq0 c = simp (eq-eqb _ _ c.if-p-eq0.true) refl
+
+pub returns : goal.returns
+returns c = simp (ne_eqb _ _ c.if-p-eq0.false) refl
