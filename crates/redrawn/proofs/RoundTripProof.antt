@@ -19,18 +19,20 @@ use Rattle.hpgl.specs.declared.Stroke.{Stroke}
 use Rattle.hpgl.specs.Place.{rest_at, page_point}
 use Rattle.hpgl.specs.Rules.{origin, fresh_settings, fresh_carriage, fresh_core}
 use Rattle.hpgl.specs.Machine.{waiting, hard_limits, fresh_state}
-use Rattle.hpgl.specs.Valid.{Every, none, more}
+use Rattle.hpgl.specs.Valid.{Every, more}
 use Rattle.feeding.specs.Feed.{Feed, stop, feed_from, feed_of}
 use Rattle.feeding.proofs.FeedLaws.{at-end}
 use Rattle.feeding.proofs.PartsOfFeed.{store_all}
 use Rattle.redrawn.specs.Redrawn.{number_of, written_of, output_of, all_writable, start_text, pen_text, line_text, change_text, stroke_text, strokes_text, text_of}
-use Rattle.redrawn.specs.RedrawnLaws.{Writable, writable-is, writable-first, text-from}
+use Rattle.redrawn.specs.RedrawnLaws.{Writable, writable-is, writable-first}
+use Rattle.redrawn.proofs.FirstStroke.{text-from}
 use Rattle.redrawn.specs.Numerals.{kept}
 use Rattle.redrawn.specs.Reading.{Always, always-none, always-then, reads-start, reads-pen, reads_up, reads-down, pair}
 use Rattle.redrawn.specs.FeedMeans as carries
 use Rattle.redrawn.specs.FeedMeans.{Carries, carries-then, feed-means}
 use Rattle.redrawn.specs.Drafting.{drafting, to, named_in, ended-in, named-sp, ended-sp, named-pu, named-pd, moved, lined, seen}
-use Rattle.redrawn.specs.Causes.{all-fit-test, taken-0}
+use Rattle.redrawn.specs.Causes.{all-fit-test}
+use Rattle.redrawn.proofs.Refused.{taken-0}
 use Rattle.redrawn.specs.RoundTrip.{EndsIn, ReadsBack, RoundTrip, WrittenBack}
 
 -- ---- the events of the text, and that they draw the strokes

@@ -15,7 +15,7 @@ use Rattle.feeding.proofs.PartsOfFeed.{store_all, feed-room}
 use Rattle.redrawn.specs.Redrawn.{text_of}
 use Rattle.redrawn.specs.Causes.{Fit}
 use Rattle.redrawn.specs.RoundTrip.{EndsIn}
-use Rattle.redrawn.specs.RoundTripProof.{round_trip}
+use Rattle.redrawn.proofs.RoundTripProof.{round_trip}
 
 -- of any bytes of which feed with q records more stores the strokes ss, more than r
 module _ (m : State) (bs : List ℕ) (r q : ℕ) (ss : List Stroke) (l : r < length ss) (all : (feed_from m bs 0 (r + q)).strokes ≡ ss) where
