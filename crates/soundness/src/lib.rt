@@ -1,5 +1,7 @@
 // Whether a list of numbers is a machine: each row is tested, so that a program may hand in any list.
 // The crate wellformed says what is tested (Sound.antt), and that just the lists pass that save writes of a machine (SoundLaws.antt).
+#![tactic(auto)]
+
 ghost use Rattle.std.specs.Prelude.{◌≡◌, length};
 ghost use Rattle.hpgl.specs.Valid.{ValidSettings};
 ghost use Rattle.saved.specs.Places.{limits_place, corners_place, scale_place, window_place, position_place, pen_place, polygon_place, first_place, saved_place, memory_place, work_place, across_place, along_place, start_place, edges_place};
