@@ -1,6 +1,6 @@
 -- Words beside names, byte by byte.
-use Rattle.std.specs.Prelude.{Bool, true, false, cond, List, [], ◌∷◌, ◌≡◌, refl, ℕ, suc, ◌+◌, ◌<◌, eqb, length, get_or, drop}
-use Rattle.std.proofs.Common.{ap, arith, add-one, eq-eqb, ne_eqb}
+use Rattle.std.specs.Prelude.{Bool, true, false, cond, List, [], ◌∷◌, ◌≡◌, refl, ℕ, ◌+◌, ◌<◌, eqb, length, get_or, drop}
+use Rattle.std.proofs.Common.{arith, add-one, eq-eqb, ne_eqb}
 use Rattle.std.proofs.Math.Seq.{drop-cons, drop-length}
 use Rattle.arguments.specs.Names.{same}
 

@@ -1,6 +1,6 @@
 -- What a program is asked for by its arguments, word by word: limits, as four numbers or by the name of a sheet, a scale, a file, help or the version; or
 -- which word is wrong, and why.
-use Rattle.std.specs.Prelude.{Bool, true, false, not, cond, List, [], ◌∷◌, ℕ, ◌+◌, eqb, ℤ, pos, neg_ℤ, nat_abs}
+use Rattle.std.specs.Prelude.{true, false, cond, List, [], ◌∷◌, ℕ, ◌+◌, eqb, ℤ, pos, neg_ℤ, nat_abs}
 use Prim.Native.Char.{code}
 use Rattle.exact.specs.Whole.{◌<?◌}
 use Rattle.exact.specs.Int16.{int16}

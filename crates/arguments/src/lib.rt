@@ -1,5 +1,7 @@
 // What a program is asked for by its arguments, word by word. specs/Request.antt says what each word asks for, and which are wrong; specs/Names.antt has the
 // sheets that have a name.
+#![tactic(auto)]
+
 ghost use Rattle.std.specs.Prelude.{◌≡◌};
 ghost use Rattle.arguments.specs.Names as N;
 ghost use Rattle.arguments.specs.Request as S;

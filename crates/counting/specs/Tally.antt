@@ -1,5 +1,5 @@
 -- What is counted of a drawing, segment by segment.
-use Rattle.std.specs.Prelude.{Bool, true, false, cond, List, ℕ, ◌+◌, ◌*◌, ltb, pos, set, get_or, replicate}
+use Rattle.std.specs.Prelude.{Bool, true, false, cond, List, ℕ, ltb, pos, set, get_or, replicate}
 use Rattle.exact.specs.Whole.{◌≡?◌}
 use Rattle.clip.specs.declared.Point.{Point}
 use Rattle.clip.specs.declared.Rect.{Rect}

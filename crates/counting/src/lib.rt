@@ -1,4 +1,6 @@
 // What survey counts: segments and lengths, names of what is refused, refusals in groups, and whether a drawing is fit to paint.
+#![tactic(auto)]
+
 pub mod names;
 pub mod refusals;
 pub mod tally;

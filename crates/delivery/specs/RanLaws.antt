@@ -18,7 +18,7 @@ use Rattle.delivery.specs.declared.files.Finished.{Finished}
 use Rattle.delivery.specs.declared.files.End.{End}
 use Rattle.delivery.specs.declared.files.End.TheVariants.{Refused, Undelivered}
 use Rattle.printed.specs.Printed.{printed}
-use Rattle.printed.specs.PlotPrinted.{idle-end}
+use Rattle.printed.proofs.PlotPrinted.{idle-end}
 use Rattle.plotting.specs.Plotted.{due, begun_of, emptied_of, Ready, Plotted}
 use Rattle.delivery.specs.Tally.{read_of, handed_of, ended_of}
 use Rattle.delivery.specs.Ran.{Reached, Next, Begins, Leaves, Ran, Unbegun, Within}

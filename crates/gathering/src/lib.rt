@@ -1,4 +1,6 @@
 // Feed and plot of document 01's machine into a list of plain numbers: its state is taken apart once, and a part is touched by the events that change it alone.
+#![tactic(auto)]
+
 ghost use Rattle.std.specs.Prelude.{◌≡◌, true, List, ℕ, ◌/◌, ◌*◌, ◌+◌, ◌^◌, ◌<◌, ◌≤◌, length, drop};
 ghost use Rattle.sines.specs.Table as T;
 ghost use Rattle.hpgl.specs.declared.Edge.{Edge};

@@ -1,5 +1,7 @@
 // What preview notes of a drawing: its strokes and their lengths by pen with the dots among them, and its refusals in groups, as survey has them;
 // and whether the carriage is astray. specs/Inks.antt and specs/Refusals.antt have the definitions.
+#![tactic(auto)]
+
 ghost use Rattle.std.specs.Prelude.{◌≡◌, ◌≤◌, take};
 ghost use Rattle.counting.specs.Tally.{for_pen};
 ghost use Rattle.noting.specs.Inks.{no_inks, dot_count, inked_of, inks_of};

@@ -32,7 +32,7 @@ use Rattle.plotting.specs.declared.Plot.{Plot}
 use Rattle.hpgl.specs.Numbers.{most_reply}
 use Rattle.printed.specs.Printed.{printed}
 use Rattle.plotting.specs.Plotted.{begun_of, emptied_of, moved_of, due, Ready, Plotted}
-use Rattle.printed.specs.PlotPrinted.{mark_lines, fetched-end, reply-prints, plot-prints, Ended, plot-ended, numbers-lines, lines-some}
+use Rattle.printed.proofs.PlotPrinted.{mark_lines, fetched-end, reply-prints, plot-prints, Ended, plot-ended, numbers-lines, lines-some}
 
 pub plotted-nothing : {p : Plot} {block : List ℕ} (text : List ℕ) → Ready p block → p.length ≤ length text → Plotted p p block text text
 plotted-nothing text h l = record { text = []; prints = λ later. refl; puts = puts-nothing text l; ready = h; earlier = refl }

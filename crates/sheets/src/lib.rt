@@ -1,5 +1,7 @@
 // The page: the sheet with its hard limits as a frame and a grid in metres, and room above it for what is said of the drawing. All lengths are plotter units; a
 // browser shows the whole page, however wide its window is.
+#![tactic(auto)]
+
 ghost use Rattle.std.specs.Prelude.{◌≡◌, ◌-◌, max};
 ghost use Rattle.sheets.specs.Sheet.{sheet_of, step_of, cell_of, grid_of};
 

@@ -1,5 +1,7 @@
 // Strokes as parts of a picture: those that join as one path, whole or dashed, dots as discs, a ring where the first one starts, and a cross where the pen stood
 // when a byte was refused. All lengths are plotter units.
+#![tactic(auto)]
+
 ghost use Rattle.std.specs.Prelude.{◌≤◌};
 
 use clip::Point;

@@ -15,7 +15,7 @@ use Rattle.machine.specs.Calls.{fetched_from}
 use Rattle.textlines.specs.Text.{marks_below}
 use Rattle.decimals.specs.Puts.{Puts, puts-same, puts-length, puts_then}
 use Rattle.plotting.specs.Plotted.{moved_of, most_marks}
-use Rattle.printed.specs.PlotPrinted.{mark_lines}
+use Rattle.printed.proofs.PlotPrinted.{mark_lines}
 use Rattle.plotting.specs.PlottedLaws.{marked, puts-at, usable-got, marks-lines, steps}
 use Rattle.hpgl.specs.Numbers.{most_reply}
 use borrow.Author.Rules.{rules}

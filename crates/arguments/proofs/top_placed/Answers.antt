@@ -1,0 +1,24 @@
+-- The definition, case by case.
+use borrow.Author.Rules.{rules}
+use mathlib.Core.Path.{◌∙◌}
+use Rattle.exact.proofs.Rules.{rules64}
+use Rattle.arguments.specs.Request.{top_of}
+use Rattle.exact.specs.Fit.{arg, lt64-t}
+use mir.Syntax.{w64}
+use mir.Val.{SFits}
+use Rattle.exact.specs.Fit.{arg, lt64-t}
+use Rattle.arguments.specs.Request.{bounded_of}
+use Rattle.arguments.proofs.top_placed.Goals as goal
+
+pub returns-then-limits-z : goal.returns-then-limits-z
+unfolding top_of
+returns-then-limits-z c =
+    let left : SFits w64 c.args.r.limits.left = search rules in
+    let bottom : SFits w64 c.args.r.limits.bottom = search rules in
+    let right : SFits w64 c.args.r.limits.right = search rules in
+    rw (lt64-t c.args.r.limits.bottom c.args.z bottom c.ranges.z c.if-limits-z.true)
+    (c.bounded.ensures ∙ (λ i. bounded_of c.args.r c.args.at (record { left = (arg w64 left).is i; bottom = (arg w64 bottom).is i; right = (arg w64 right).is i; top = (arg w64 c.ranges.z).is i }) 4))
+
+pub returns : goal.returns
+unfolding top_of
+returns c = search rules64

@@ -1,0 +1,14 @@
+-- The proof of `put`: by its arms.
+use borrow.Author.Rules.{rules}
+use mathlib.Core.Path.{refl, subst}
+use Prim.Native.Nat.{◌*◌, ◌≤◌}
+use native.Mathlib.Omega.{arith}
+use lib.ListN.{length}
+use Rattle.hpgl.specs.declared.Drawn.{Drawn}
+use Rattle.gathering.specs.Gather.{count_after, put_of}
+use Rattle.gathering.proofs.put.Goals as goal
+
+pub put_record-requires : goal.put_record-requires
+unfolding count_after
+put_record-requires c =
+    omega (arith, subst (λ (x : Drawn). count_after x c.args.count * 5 ≤ length c.args.numbers.now) c.in-Stroke.is c.requires)
