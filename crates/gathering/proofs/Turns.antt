@@ -156,22 +156,17 @@ pair-refused c n f = go (in_range (location c.settings (aimed c n))) c.carriage.
     go true false fits i j x y f = absurd (f refl)
     go false mode fits i j x y f = refl
 
--- ---- an action that leaves the store, by its tag
+-- ---- an action that leaves the store
 
 abbrev pub Unjoined : Action → Type 0
-Unjoined a = OneOf (0 ∷ 1 ∷ 2 ∷ 4 ∷ 5 ∷ 6 ∷ []) (tag_of the_type a)
-
-no_join : (e : Edge) → Unjoined (Join e) → ⊥
-no_join e h =
-    ⊎_elim (λ e. omega (arith, e))
-    (⊎_elim (λ e. omega (arith, e)) (⊎_elim (λ e. omega (arith, e)) (⊎_elim (λ e. omega (arith, e)) (⊎_elim (λ e. omega (arith, e)) (λ e. omega (arith, e)))))) h
+Unjoined a = (e : Edge) → a ≡ Join e → ⊥
 
 pub unstored : (es : List Edge) (k : ℕ) (a : Action) → heavy_of a ≡ false → Unjoined a → es ≡ stored es k a
 unfolding stored heavy_of
 unstored es k Keep h j = refl
 unstored es k (Line a b) h j = refl
 unstored es k (Chords o) h j = refl
-unstored es k (Join e) h j = absurd (no_join e j)
+unstored es k (Join e) h j = absurd (j e refl)
 unstored es k Outline h j = refl
 unstored es k (Rectangle p q b) h j = never h refl
 unstored es k (Answer r) h j = refl

@@ -17,4 +17,20 @@ chords-requires c =
 pub returns-in-Chords : goal.returns-in-Chords
 unfolding waiting
 returns-in-Chords c =
-    let a = c.args in record { work_bound = subst (λ (w : Work). waiting c.chords.result.work < waiting w) (sym c.in-Chords.is) c.chords.ensures.work_bound; drew = subst (λ (w : Work). (d : Batching a.numbers.now a.frame a.pen w a.before) → Drew d c.chords.last.1.1.1.1.1.1.0 c.chords.result.work c.chords.result.count) (sym c.in-Chords.is) c.chords.ensures.drew }
+    let a = c.args in record { work_bound = subst (λ (w : Work). waiting c.chords.result.work < waiting w) (sym c.in-Chords.is) c.chords.ensures.work_bound; drew = subst (λ (w : Work). (d : Batching a.numbers.now a.frame a.pen w a.before) → Drew d c.chords.new.numbers c.chords.result.work c.chords.result.count) (sym c.in-Chords.is) c.chords.ensures.drew }
+
+pub returns-in-Nothing : goal.returns-in-Nothing
+unfolding batched_of
+returns-in-Nothing c = never (ap batched_of c.in-Nothing.is) c.requires.3
+
+pub returns-in-Line : goal.returns-in-Line
+unfolding batched_of
+returns-in-Line c = never (ap batched_of c.in-Line.is) c.requires.3
+
+pub returns-in-Edges : goal.returns-in-Edges
+unfolding batched_of
+returns-in-Edges c = never (ap batched_of c.in-Edges.is) c.requires.3
+
+pub returns-in-Answer : goal.returns-in-Answer
+unfolding batched_of
+returns-in-Answer c = never (ap batched_of c.in-Answer.is) c.requires.3

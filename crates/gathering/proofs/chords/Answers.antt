@@ -78,8 +78,8 @@ free e d =
     omega (arith, e.if-count-room.false, (far l d).room, n)
 
 -- the ends of the segment that is drawn
-drawn-chord : (v : After-vertex-end) → let l = turn v.before in segment.Line l.loop-left.corner v.vertex-end.result ≡ chord (entry l).args.frame.rows (entry l).args.circle l.loop-left.next
-drawn-chord v = let l = turn v.before in λ j. segment.Line (l.loop-left.invariant.1 j) (v.vertex-end.ensures j)
+drawn-chord : (v : After-vertex-end) → let l = turn v.before.before in segment.Line l.loop-left.corner v.vertex-end.result ≡ chord (entry l).args.frame.rows (entry l).args.circle l.loop-left.next
+drawn-chord v = let l = turn v.before.before in λ j. segment.Line (l.loop-left.invariant.1 j) (v.vertex-end.ensures j)
 
 pub vertex-corner-requires : goal.vertex-corner-requires
 vertex-corner-requires c = let s = c.before.before.before in (rows-small s, fewer (known s).far.valid.work.0 _ 0 (omega arith) (omega arith), s.requires.2)
@@ -106,7 +106,8 @@ pub returns-then-count-room : goal.returns-then-count-room
 returns-then-count-room c =
     let l : Loop = search in
     let apart : l.loop-left.left ≡ (entry l).args.many → ⊥ = λ e. omega (arith, l.loop-left.invariant.4 e, c.if-count-room.true, (entry l).requires.1) in
-    left-off l c.chords_left.ensures (omega (arith, apart, l.loop-left.invariant.3))
+    let p = left-off l c.chords_left.ensures (omega (arith, apart, l.loop-left.invariant.3)) in
+    record { work_bound = p.0; drew = p.1 }
 
 pub vertex-end-requires : goal.vertex-end-requires
 vertex-end-requires c =
@@ -125,8 +126,14 @@ drawn_of-drawn-requires c =
     let i = l.loop-left.next in
     let v = subst (λ (w : Work). Valid (whole d.reader d.core d.store w)) (chords-some s.args.circle i l.loop-left.left (some e)) (far l d).valid in (
       subst SmallRect (sym (limited d)) (limits-small d.far.valid.core.settings),
-      subst SmallSegment (sym (drawn-chord c.before ∙ chord-waits d.reader d.core d.store (turned d) s.args.circle i l.loop-left.left (some e))) (segment-small v),
+      subst SmallSegment (sym (drawn-chord c.before.before ∙ chord-waits d.reader d.core d.store (turned d) s.args.circle i l.loop-left.left (some e))) (segment-small v),
     )
+
+pub put-count-requires : goal.put-count-requires
+put-count-requires c =
+    let e : Turn = search in
+    let d = known (entry (turn e)) in
+    put-fits _ _ _ (far-fits (far (turn e) d) (free e d))
 
 pub loop-left-preserved : goal.loop-left-preserved
 loop-left-preserved c =
@@ -139,7 +146,7 @@ loop-left-preserved c =
     let n = l.loop-left.left in (
       λ d.
           far-chord d.reader d.core d.store (turned d) (limited d) d.held o i n (some e) (far l d) (free e d)
-          (x.drawn_of-drawn.ensures ∙ ap (drawn_of s.args.frame.limits s.args.pen) (drawn-chord x.before)) c.put-count.ensures.numbers_after c.put-count.ensures.value,
+          (x.drawn_of-drawn.ensures ∙ ap (drawn_of s.args.frame.limits s.args.pen) (drawn-chord x.before.before)) c.put-count.ensures.numbers_after c.put-count.ensures.value,
       x.vertex-end.ensures,
       omega (arith, l.loop-left.invariant.2, some e),
       omega (arith, l.loop-left.invariant.3),
@@ -149,4 +156,5 @@ loop-left-preserved c =
 pub returns : goal.returns
 returns c =
     let l : Loop = search in
-    left-off l c.chords_left-2.ensures (omega (arith, c.loop-left-test.false, batched-chords (known (entry l))))
+    let p = left-off l c.chords_left-2.ensures (omega (arith, c.loop-left-test.false, batched-chords (known (entry l)))) in
+    record { work_bound = p.0; drew = p.1 }

@@ -26,7 +26,7 @@ use Rattle.reader.specs.Step.{passed_over}
 use Rattle.hpgl.specs.declared.Polygon.{Polygon}
 use Rattle.hpgl.specs.declared.Carriage.{Carriage}
 use Rattle.hpgl.specs.declared.Core.{Core}
-use Rattle.hpgl.specs.declared.Action.TheVariants.{Keep}
+use Rattle.hpgl.specs.declared.Action.TheVariants.{Keep, Join}
 use Rattle.hpgl.specs.declared.Acted.{Acted}
 use Rattle.hpgl.specs.declared.Edge.{Edge}
 use Rattle.hpgl.specs.declared.Store.{Store}
@@ -57,33 +57,15 @@ use Rattle.rulekit.specs.Locating.{frame-rows, hand-locatable}
 use Rattle.gathering.specs.Gather.{whole, gather_from, record_of}
 use Rattle.gathering.specs.Far.{Far, Reached, Batching}
 use Rattle.gathering.specs.GatherLaws.{idle-free}
-use Rattle.gathering.proofs.Turns.{leaves, reader-on, acting, none-acts, refused-acts, ended-acts, settled-acts, pair-acts, pair-refused, named-acts, unknown-acts, unstored}
+use Rattle.gathering.proofs.Turns.{Unjoined, leaves, reader-on, acting, none-acts, refused-acts, ended-acts, settled-acts, pair-acts, pair-refused, named-acts, unknown-acts, unstored}
 use Rattle.gathering.proofs.Gathers.{waits-most, waits-less, byte-remains, none-remains, far-start, far-free, far-silent, put-fits, far-fits, far-halted, far-end, far-draw, far-next, ends}
 use Rattle.gathering.proofs.Moving.{letters-position, doing, next-turned, next_fits, next-full, next-kept, next_small, next_drawn, next-point, next-outline, refusal-some, next-refusal, next-refused}
 use Rattle.gathering.proofs.Chording.{alone_waits}
 use Rattle.gathering.proofs.gather.Goals as goal
+use Rattle.gathering.proofs.gather.Goals.{in-Named+else-number-eq0, in-Pair+then-polygon+else-number-eq0-2, in-Pair+else-polygon+else-number-eq0-3, in-Refused}
 use Rattle.gathering.proofs.gather.Lts
 use Rattle.gathering.proofs.gather.Tie
 use Rattle.gathering.proofs.gather.Reads
--- A test has no name in the language, only a number, so no line goes by one: a place is that of a call, and what a test says is found by its own words (`search`). What is asked, called or read
--- more than once is numbered in the order of the text. Those numbers stand here and in the two blocks that follow, and nowhere else.
-use Rattle.gathering.proofs.gather.Tie.{Need-returns as Halt-returns}
-use Rattle.gathering.proofs.gather.Tie.{Need-loop-again-2 as Segment-on}
-use Rattle.gathering.proofs.gather.Tie.{Need-loop-again-4 as Name-on}
-use Rattle.gathering.proofs.gather.Tie.{Need-queued-requires as Line-alone}
-use Rattle.gathering.proofs.gather.Tie.{Need-returns-2 as Full-returns}
-use Rattle.gathering.proofs.gather.Tie.{Need-drawn-of-requires-2 as Line-drawable}
-use Rattle.gathering.proofs.gather.Tie.{Need-put-requires-2 as Line-fits}
-use Rattle.gathering.proofs.gather.Tie.{Need-loop-again-7 as Line-on}
-use Rattle.gathering.proofs.gather.Tie.{Need-loop-again-8 as Pairs-on}
-use Rattle.gathering.proofs.gather.Tie.{Need-located-in-requires as Start-located}
-use Rattle.gathering.proofs.gather.Tie.{Need-located-in-requires-2 as Rule-located}
-use Rattle.gathering.proofs.gather.Tie.{Need-loop-again-10 as Refusal-on}
-use Rattle.gathering.proofs.gather.Tie.{Need-returns-3 as Refusal-returns}
-use Rattle.gathering.proofs.gather.Tie.{Need-loop-again-11 as Join-on}
-use Rattle.gathering.proofs.gather.Tie.{Need-loop-again-14 as Declined-on}
-use Rattle.gathering.proofs.gather.Tie.{Need-returns-4 as Declined-returns}
-use Rattle.gathering.proofs.gather.Tie.{Need-returns-5 as End-returns}
 
 abbrev After-batched : Type 0
 After-batched = Lts.After-batched Tie.the-claims Reads.Pre Reads.Post goal.the-invariant-loop-sines goal.the-decreases-loop-sines Tie.handed_clauses
@@ -209,10 +191,7 @@ abbrev At-loop-sines : Type 0
 At-loop-sines = Lts.At-loop Tie.the-claims Reads.Pre Reads.Post goal.the-invariant-loop-sines goal.the-decreases-loop-sines Tie.handed_clauses
 
 abbrev In-Ended-2 : Type 0
-In-Ended-2 = Lts.After-event3 Tie.the-claims Reads.Pre Reads.Post goal.the-invariant-loop-sines goal.the-decreases-loop-sines Tie.handed_clauses
-
-abbrev In-Join-2 : Type 0
-In-Join-2 = Lts.After-action Tie.the-claims Reads.Pre Reads.Post goal.the-invariant-loop-sines goal.the-decreases-loop-sines Tie.handed_clauses
+In-Ended-2 = Lts.After-takes_pairs Tie.the-claims Reads.Pre Reads.Post goal.the-invariant-loop-sines goal.the-decreases-loop-sines Tie.handed_clauses
 
 abbrev Joined-event : Type 0
 Joined-event = Lts.At-match-branch Tie.the-claims Reads.Pre Reads.Post goal.the-invariant-loop-sines goal.the-decreases-loop-sines Tie.handed_clauses
@@ -347,7 +326,7 @@ moved-core o = let l = (loop (moving o)).loop-sines in core_of l.settings (moved
 
 -- ---- what is called or read again, by name, each with what it tells of the locals
 
-told-ended : (e : Instructed) → let q : Read = search in q.next-q.result.event ≡ event.Ended e.event-in-Ended-1.given.0.0 e.event-in-Ended-1.given.0.1.0
+told-ended : (e : Instructed) → let q : Read = search in q.next-q.result.event ≡ event.Ended e.in-Ended.op e.in-Ended.n
 told-ended e = e.in-Ended.is
 
 -- the cores that are put together: for an end, and for a rule
@@ -385,7 +364,7 @@ action-queued : (k : Action-queued) → let r : Ruled = search in
 action-queued k = k.queued-work-in-Ended.ensures
 
 -- a line that is drawn
-line-is : (d : Line-drawn) → let o : Moved = search in let r = (moved o).shift-t.result in d.drawn_of-drawn-then-number-eq0-3.result ≡ drawn_of (loop (moving o)).loop-sines.frame.limits r.hand.pen.number r.segment-s
+line-is : (d : Line-drawn) → let o : Moved = search in let r = (moved o).shift-t.result in d.drawn_of-drawn-then-number-eq0-3.result ≡ drawn_of (loop (moving o)).loop-sines.frame.limits r.hand.pen.number r.segment
 line-is d = d.drawn_of-drawn-then-number-eq0-3.ensures
 
 -- the second tail of a refusal
@@ -691,21 +670,19 @@ refused : (p : Passed) → let r : Ruled = search in (did r).number ≡ 0 → �
 refused p e = omega (arith, e)
 
 -- an edge that is joined finds its place
-joins-edge : (a : In-Join-2) → let r : Ruled = search in (loop (read r)).loop-sines.polygon.edges < most_edges
-joins-edge a =
-    let r : Ruled = search in
-    (subst (ValidAction (loop (read r)).loop-sines.polygon.edges) a.in-Join.is (act-valid (ended r)).action).1
+joins-edge : (r : Ruled) {e : Edge} → (did r).action ≡ Join e → (loop (read r)).loop-sines.polygon.edges < most_edges
+joins-edge r joins = (subst (ValidAction (loop (read r)).loop-sines.polygon.edges) joins (act-valid (ended r)).action).1
 
 carried : (k : After-carried-c) → let r : Ruled = search in Left (read r) (core-now r) k.carried-c.result.store k.carried-c.result.work
 carried k = let r : Ruled = search in taken r (omega arith) k.carried-c.ensures.0 (k.carried-c.ensures.1 _ _)
 
 -- other actions leave the store
 unmoved : (h : After-heavy) {w : Work} → h.heavy.result ≡ false → let r : Ruled = search in
-    ((turn : ℕ) (es : List Edge) → w ≡ queued turn es (did r).core.carriage.polygon.edges (did r).action) → Left (read r) (core-now r) (loop (read r)).loop-sines.store w
-unmoved h e f =
+    Unjoined (did r).action → ((turn : ℕ) (es : List Edge) → w ≡ queued turn es (did r).core.carriage.polygon.edges (did r).action) → Left (read r) (core-now r) (loop (read r)).loop-sines.store w
+unmoved h e alone f =
     let r : Ruled = search in
     let l = (loop (read r)).loop-sines in
-    taken r (omega arith) (unstored l.store.edges l.polygon.edges (did r).action (sym h.heavy.ensures ∙ e) search) (f _ _)
+    taken r (omega arith) (unstored l.store.edges l.polygon.edges (did r).action (sym h.heavy.ensures ∙ e) alone) (f _ _)
 
 -- EP
 outlined : (o : After-outline-work) → let q : Read = search in Left q (held q) (loop q).loop-sines.store o.outline-work.result
@@ -724,23 +701,20 @@ declines : (j : Met) → Declines j
 declines j =
     let q = met j in
     let l = (loop q).loop-sines in
-    ⊎_elim
-    (λ (arm, event, known, name, left, same).
-    by j same left.left (unknown-acts l.settings l.hand l.polygon _ name.ensures left.left ∙ ap (act_on (held q)) (sym event.given.1)))
-    (⊎_elim
-    (λ (arm, event, known, mode, point, left, same).
-    by j same left.left (point-refused q point.result left.left (pair-does q event.given.1 (point.ensures.0 l.settings l.polygon l.invariant.1 mode.taken refl))))
-    (⊎_elim
-    (λ (arm, event, known, mode, shift, left, same).
-    by j same left.left (shift-refused q event.given.1 left.left (shift.ensures.0 l.settings l.polygon l.invariant.1 mode.left)))
-    (λ (arm, event, known, same).
-    by j same (refusal-some (reached q) event.given.1) (refused-acts l.settings l.hand l.polygon _ ∙ ap (act_on (held q)) (sym event.given.1)))))
-    j.match-event.came
+    elim j.match-event.branch [
+      in-Named+else-number-eq0 w ↦
+        by j w.number-is w.if-number-eq0.false (unknown-acts l.settings l.hand l.polygon _ w.name_number-number.ensures w.if-number-eq0.false ∙ ap (act_on (held q)) (sym w.in-Named.is))
+      | in-Pair+then-polygon+else-number-eq0-2 w ↦
+        by j w.number-is w.if-number-eq0-2.false (point-refused q w.point-t.result w.if-number-eq0-2.false (pair-does q w.in-Pair.is (w.point-t.ensures.result_value l.settings l.polygon l.invariant.1 w.if-polygon.true refl)))
+      | in-Pair+else-polygon+else-number-eq0-3 w ↦
+        by j w.number-is w.if-number-eq0-3.false (shift-refused q w.in-Pair.is w.if-number-eq0-3.false (w.shift-t.ensures.result_value l.settings l.polygon l.invariant.1 w.if-polygon.false))
+      | in-Refused w ↦
+        by j w.number-is (refusal-some (reached q) w.in-Refused.is) (refused-acts l.settings l.hand l.polygon _ ∙ ap (act_on (held q)) (sym w.in-Refused.is)) ]
 
 -- ---- the needs
 
-start-located : Start-located
-start-located c κs =
+pub located_in-here-requires : goal.located_in-here-requires
+located_in-here-requires c =
     let s : Start = search in
     let f : After-frame_of-frame = search in
     hand-locatable {h = hand_of s.args.m.core.carriage} {g = s.args.m.core.carriage.polygon}
@@ -752,8 +726,8 @@ loop-sines-init c =
     let s = (start h).args in
     rw h.hand_of-hand.ensures (far-start s.on s.m s.bytes.now s.numbers.now s.from (start h).requires, c.frame_of-frame.ensures, c.located_in-here.ensures)
 
-halt-returns : Halt-returns
-halt-returns c =
+pub returns-then-halt-gt0 : goal.returns-then-halt-gt0
+returns-then-halt-gt0 c =
     let l : Loop = search in
     let o : After-remains = search in
     let t : After-halted-halt = search in
@@ -765,14 +739,14 @@ batch-b-requires c =
     let l = waits w in
     (batching w, omega (arith, free-drawn w, ap (λ (n : ℕ). n / 5) (far l).long), (laid (handed l)).table-sines.ensures, sym w.batched.ensures ∙ search)
 
-segment-on : Segment-on
-segment-on c =
+pub loop-sines-preserved-then-waiting-gt0 : goal.loop-sines-preserved-then-waiting-gt0
+loop-sines-preserved-then-waiting-gt0 c =
     let w : Waits = search in
     let l = waits w in
     goes_on l (far-draw (far l) (waits-some w) (free-drawn w) (drew search) (search) (search) c.work_after-work.ensures)
 
-name-on : Name-on
-name-on c =
+pub loop-sines-preserved-then-number-eq0 : goal.loop-sines-preserved-then-number-eq0
+loop-sines-preserved-then-number-eq0 c =
     let q : Read = search in
     let n : After-name_number-number = search in
     let l = loop q in
@@ -784,14 +758,14 @@ name-on c =
       l.loop-sines.invariant.2 ∙ ap (location_in l.loop-sines.frame) (sym same),
     )
 
-line-alone : Line-alone
-line-alone c κs =
+pub queued-work-requires : goal.queued-work-requires
+queued-work-requires c =
     let o : Moved = search in
     let q = moving o in
     rw c.line_of.ensures (action-alone (loop q).loop-sines.polygon.edges (line_of (moved o).shift-t.result.segment) (acts-valid q (shift-acts o)).action)
 
-full-returns : Full-returns
-full-returns c =
+pub returns-then-overflows : goal.returns-then-overflows
+returns-then-overflows c =
     let o : Moved = search in
     let n : After-line_of = search in
     let k : Line-queued = search in
@@ -800,30 +774,30 @@ full-returns c =
     let w = k.queued-work.ensures _ _ ∙ ap (leaves l.store.edges l.polygon.edges (moved-core o)) n.line_of.ensures in
     ends (search) (full-core search) (next-full (reached q) (moved-core o) (moved o).shift-t.result.segment (sym o.overflows.ensures ∙ search) (shift-acts o) (free-taken q) w)
 
-line-drawable : Line-drawable
-line-drawable c κs =
+pub drawn_of-drawn-requires-then-number-eq0-3 : goal.drawn_of-drawn-requires-then-number-eq0-3
+drawn_of-drawn-requires-then-number-eq0-3 c =
     let o : Moved = search in
     let q = moving o in
     (limits-fit (loop q), next_small (reached q) (moved-core o) (moved o).shift-t.result.segment (shift-acts o))
 
-line-fits : Line-fits
-line-fits c κs =
+pub put-count-requires-then-number-eq0-3 : goal.put-count-requires-then-number-eq0-3
+put-count-requires-then-number-eq0-3 c =
     let o : Moved = search in
     let d : Line-drawn = search in
     next_fits (reached (moving o)) (moved o).shift-t.result.segment (sym o.overflows.ensures ∙ search) _ _ (line-is d)
 
-line_on : Line-on
-line_on c =
+pub loop-sines-preserved-then-number-eq0-3 : goal.loop-sines-preserved-then-number-eq0-3
+loop-sines-preserved-then-number-eq0-3 c =
     let o : Moved = search in
     let d : Line-drawn = search in
     let q = moving o in
     let l = loop q in
     let r = (moved o).shift-t.result in
-    let drawn = line-is d ∙ ap (λ (b : Rect). drawn_of b r.hand.pen.number r.segment-s) (limited l) in
-    (again l (next_drawn (reached q) (moved-core o) (free-taken q) r.segment-s (sym o.overflows.ensures ∙ search) (shift-acts o) drawn (search) (search)), l.loop-sines.invariant.1, (moved o).shift-t.ensures.here_value)
+    let drawn = line-is d ∙ ap (λ (b : Rect). drawn_of b r.hand.pen.number r.segment) (limited l) in
+    (again l (next_drawn (reached q) (moved-core o) (free-taken q) r.segment (sym o.overflows.ensures ∙ search) (shift-acts o) drawn (search) (search)), l.loop-sines.invariant.1, (moved o).shift-t.ensures.here_value)
 
-pairs-on : Pairs-on
-pairs-on c =
+pub loop-sines-preserved-then-takes_pairs : goal.loop-sines-preserved-then-takes_pairs
+loop-sines-preserved-then-takes_pairs c =
     let q : Read = search in
     let k : After-takes_pairs = search in
     goes_on (loop q) (quiet q (told-ended search) (ended-acts _ _ _ _ _ (sym k.takes_pairs.ensures ∙ search)))
@@ -834,15 +808,15 @@ end_rule-t-requires c =
     let e : Instructed = search in
     rw (rule-core c.before) ((far (loop q)).valid.core, (subst (ValidEvent (held q)) (told-ended e) (event-valid q)).0.numbers)
 
-rule-located : Rule-located
-rule-located c κs =
+pub located_in-here-requires-in-Ended : goal.located_in-here-requires-in-Ended
+located_in-here-requires-in-Ended c =
     let a : Ended = search in
     let f : Rule-frame = search in
     let k = a.end_rule-t.result.core in
     hand-locatable {h = hand_of k.carriage} {g = k.carriage.polygon} (record { settings = k.settings; frame = frame_is f; core = (act-valid a).core })
 
-refusal-on : Refusal-on
-refusal-on c =
+pub loop-sines-preserved-then-on : goal.loop-sines-preserved-then-on
+loop-sines-preserved-then-on c =
     let r : Ruled = search in
     let p : Passed = search in
     let n : Refusal-noted = search in
@@ -855,23 +829,22 @@ refusal-on c =
       located-now r ∙ ap (location_in f.frame_of-frame-in-Ended.result) (sym (refusal-place n)),
     )
 
-refusal-returns : Refusal-returns
-refusal-returns c =
+pub returns-then-t-gt0 : goal.returns-then-t-gt0
+returns-then-t-gt0 c =
     let r : Ruled = search in
     let p : Passed = search in
     ends (search) (refusal-core search) (next-refused (reached (read r)) (acts (ended r)) (refused p) p.passed_over-reader.ensures refl (search))
 
-join-on : Join-on
+pub loop-sines-preserved-in-Join : goal.loop-sines-preserved-in-Join
 unfolding stored queued
-join-on c =
+loop-sines-preserved-in-Join c =
     let r : Ruled = search in
-    let a : In-Join-2 = search in
     let l = (loop (read r)).loop-sines in
-    let joins = sym a.in-Join.is in
+    let joins = sym c.in-Join.is in
     (again (loop (read r)) (taken r (omega arith) (ap (stored l.store.edges l.polygon.edges) joins) (ap (leaves l.store.edges l.polygon.edges (did r).core) joins)), search, located-now r)
 
-declined-on : Declined-on
-declined-on c =
+pub loop-sines-preserved : goal.loop-sines-preserved
+loop-sines-preserved c =
     let j : Met = search in
     let q = met j in
     let l = loop q in
@@ -882,14 +855,131 @@ declined-on c =
       l.loop-sines.invariant.2 ∙ ap (location_in l.loop-sines.frame) (sym (declined-place n)),
     )
 
-declined-returns : Declined-returns
-declined-returns c =
+pub returns-in-loop-sines : goal.returns-in-loop-sines
+returns-in-loop-sines c =
     let j : Met = search in
     ends (search) (declined-core search) (next-refused (reached (met j)) (declines j).does (declines j).some (declined-is (search)) refl (search))
 
-end_returns : End-returns
-end_returns c =
+pub returns : goal.returns
+returns c =
     let l : Loop = search in
     let e : After-remains = search in
     let n = none-remains l.loop-sines.work _ _ (sym e.remains.ensures ∙ search) in
     ends (search) (end-core search) (far-end (far l) n.0 n.1)
+
+pub loop-sines-preserved-then-batched : goal.loop-sines-preserved-then-batched
+loop-sines-preserved-then-batched c = let w : Waits = search in goes_on (waits w) (c.batch-b.ensures.drew (batching w))
+
+pub offset_bounds-store-edge_place : goal.offset_bounds-store-edge_place
+offset_bounds-store-edge_place c = record { fits = omega (arith, edge-within search) }
+
+pub bounds-store-edge_place : goal.bounds-store-edge_place
+bounds-store-edge_place c = omega (arith, edge-within search)
+
+pub segment-s-requires : goal.segment-s-requires
+segment-s-requires c = let w : Waits = search in (frame-rows (parts (waits w)), edge-small (far (waits w)).valid.edges _)
+
+pub drawn_of-drawn-requires : goal.drawn_of-drawn-requires
+drawn_of-drawn-requires c =
+    let w : Waits = search in
+    let g : After-segment-s = search in
+    (limits-fit (waits w), subst SmallSegment (sym (waited g)) (segment-small (far (waits w)).valid))
+
+pub put-count-requires : goal.put-count-requires
+put-count-requires c = let w : Waits = search in put-fits _ _ _ (far-fits (far (waits w)) (free-drawn w))
+
+pub loop-sines-smaller-then-waiting-gt0 : goal.loop-sines-smaller-then-waiting-gt0
+loop-sines-smaller-then-waiting-gt0 c = let w : Waits = search in omega (arith, waits-less (here (waits w)) _ (waits-some w) c.work_after-work.ensures)
+
+pub loop-sines-smaller-in-Nothing : goal.loop-sines-smaller-in-Nothing
+loop-sines-smaller-in-Nothing c = let q : Read = search in none-less q
+
+pub loop-sines-preserved-in-Nothing : goal.loop-sines-preserved-in-Nothing
+loop-sines-preserved-in-Nothing c = let q : Read = search in goes_on (loop q) (quiet q c.in-Nothing.is (none-acts _ _ _))
+
+pub loop-sines-smaller-then-number-eq0 : goal.loop-sines-smaller-then-number-eq0
+loop-sines-smaller-then-number-eq0 c = let q : Read = search in none-less q
+
+pub point-t-requires : goal.point-t-requires
+point-t-requires c = let q : Read = search in let l = loop q in (record { polygon = l.loop-sines.polygon; parts = parts l }, pair_small q c.in-Pair.is, l.loop-sines.invariant.2, (far l).valid.core.polygon.bytes)
+
+pub longer-polygon-requires : goal.longer-polygon-requires
+longer-polygon-requires c = let p : Pointed = search in longer-fits p true (search) (search)
+
+pub loop-sines-smaller-then-polygon-2 : goal.loop-sines-smaller-then-polygon-2
+loop-sines-smaller-then-polygon-2 c = let q : Read = search in none-less q
+
+pub loop-sines-preserved-then-polygon-2 : goal.loop-sines-preserved-then-polygon-2
+loop-sines-preserved-then-polygon-2 c = let p : Pointed = search in (again (loop (pointing p)) (points p true (search) (search) (search)), (loop (pointing p)).loop-sines.invariant.1, p.point-t.ensures.here_value)
+
+pub bounds-store-k : goal.bounds-store-k
+bounds-store-k c = let p : Pointed = search in omega (arith, edge-fits p (search) (search))
+
+pub longer-polygon-requires-then-number-eq0-2 : goal.longer-polygon-requires-then-number-eq0-2
+longer-polygon-requires-then-number-eq0-2 c = let p : Pointed = search in longer-fits p false (search) (search)
+
+pub loop-sines-smaller-then-number-eq0-2 : goal.loop-sines-smaller-then-number-eq0-2
+loop-sines-smaller-then-number-eq0-2 c = let q : Read = search in none-less q
+
+pub loop-sines-preserved-then-number-eq0-2 : goal.loop-sines-preserved-then-number-eq0-2
+loop-sines-preserved-then-number-eq0-2 c = let p : Pointed = search in (again (loop (pointing p)) (points p false (search) (search) (search)), (loop (pointing p)).loop-sines.invariant.1, p.point-t.ensures.here_value)
+
+pub shift-t-requires : goal.shift-t-requires
+shift-t-requires c = let q : Read = search in let l = loop q in (record { polygon = l.loop-sines.polygon; parts = parts l }, pair_small q c.in-Pair.is, l.loop-sines.invariant.2)
+
+pub loop-sines-smaller-then-number-eq0-3 : goal.loop-sines-smaller-then-number-eq0-3
+loop-sines-smaller-then-number-eq0-3 c = let q : Read = search in none-less q
+
+pub loop-sines-smaller-then-takes_pairs : goal.loop-sines-smaller-then-takes_pairs
+loop-sines-smaller-then-takes_pairs c = let q : Read = search in none-less q
+
+pub loop-sines-smaller-then-op-eq-EP : goal.loop-sines-smaller-then-op-eq-EP
+loop-sines-smaller-then-op-eq-EP c = let q : Read = search in left_less q (outlined search)
+
+pub loop-sines-preserved-then-op-eq-EP : goal.loop-sines-preserved-then-op-eq-EP
+loop-sines-preserved-then-op-eq-EP c = let q : Read = search in goes_on (loop q) (outlined search)
+
+pub frame_of-frame-requires-in-Ended : goal.frame_of-frame-requires-in-Ended
+frame_of-frame-requires-in-Ended c = let a : Ended = search in (act-valid a).core.settings
+
+pub refusal_record-requires : goal.refusal_record-requires
+refusal_record-requires c = let r : Ruled = search in place-small (read r)
+
+pub put_record-count-requires : goal.put_record-count-requires
+put_record-count-requires c = let r : Ruled = search in far-fits (far (loop (read r))) (free-taken (read r) (search))
+
+pub loop-sines-smaller-then-on : goal.loop-sines-smaller-then-on
+loop-sines-smaller-then-on c = let r : Ruled = search in none-less (read r)
+
+pub bounds-store-k-in-Join : goal.bounds-store-k-in-Join
+bounds-store-k-in-Join c = let r : Ruled = search in omega (arith, joins-edge r c.in-Join.is)
+
+pub loop-sines-smaller-in-Join : goal.loop-sines-smaller-in-Join
+loop-sines-smaller-in-Join c = let r : Ruled = search in none-less (read r)
+
+pub carried-c-requires : goal.carried-c-requires
+carried-c-requires c = let r : Ruled = search in (act-valid (ended r)).action
+
+pub loop-sines-smaller-then-heavy : goal.loop-sines-smaller-then-heavy
+loop-sines-smaller-then-heavy c = let r : Ruled = search in left_less (read r) (carried search)
+
+pub loop-sines-preserved-then-heavy : goal.loop-sines-preserved-then-heavy
+loop-sines-preserved-then-heavy c = let r : Ruled = search in (again (loop (read r)) (carried search), search, located-now r)
+
+pub queued-work-requires-in-Ended : goal.queued-work-requires-in-Ended
+queued-work-requires-in-Ended c = let r : Ruled = search in action-alone (loop (read r)).loop-sines.polygon.edges (did r).action (act-valid (ended r)).action
+
+pub loop-sines-smaller-in-Ended : goal.loop-sines-smaller-in-Ended
+loop-sines-smaller-in-Ended c = let r : Ruled = search in left_less (read r) (unmoved (search) (search) c.in_default.not-Join (action-queued search))
+
+pub loop-sines-preserved-in-Ended : goal.loop-sines-preserved-in-Ended
+loop-sines-preserved-in-Ended c = let r : Ruled = search in (again (loop (read r)) (unmoved (search) (search) c.in_default.not-Join (action-queued search)), search, located-now r)
+
+pub refusal_record-requires-then-on-2 : goal.refusal_record-requires-then-on-2
+refusal_record-requires-then-on-2 c = let j : Met = search in place-small (met j)
+
+pub put_record-count-requires-then-on-2 : goal.put_record-count-requires-then-on-2
+put_record-count-requires-then-on-2 c = let j : Met = search in far-fits (far (loop (met j))) (free-taken (met j) (search))
+
+pub loop-sines-smaller : goal.loop-sines-smaller
+loop-sines-smaller c = let j : Met = search in none-less (met j)

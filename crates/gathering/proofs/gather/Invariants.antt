@@ -62,25 +62,6 @@ use Rattle.gathering.proofs.Gathers.{waits-most, waits-less, byte-remains, none-
 use Rattle.gathering.proofs.Moving.{letters-position, doing, next-turned, next_fits, next-full, next-kept, next_small, next_drawn, next-point, next-outline, refusal-some, next-refusal, next-refused}
 use Rattle.gathering.proofs.Chording.{alone_waits}
 use Rattle.gathering.proofs.gather.Given as goal
--- A test has no name in the language, only a number, so no line goes by one: a place is that of a call, and what a test says is found by its own words (`search`). What is asked, called or read
--- more than once is numbered in the order of the text. Those numbers stand here and in the two blocks that follow, and nowhere else.
-use Rattle.gathering.proofs.gather.Tie.{Need-returns as Halt-returns}
-use Rattle.gathering.proofs.gather.Tie.{Need-loop-again-2 as Segment-on}
-use Rattle.gathering.proofs.gather.Tie.{Need-loop-again-4 as Name-on}
-use Rattle.gathering.proofs.gather.Tie.{Need-queued-requires as Line-alone}
-use Rattle.gathering.proofs.gather.Tie.{Need-returns-2 as Full-returns}
-use Rattle.gathering.proofs.gather.Tie.{Need-drawn-of-requires-2 as Line-drawable}
-use Rattle.gathering.proofs.gather.Tie.{Need-put-requires-2 as Line-fits}
-use Rattle.gathering.proofs.gather.Tie.{Need-loop-again-7 as Line-on}
-use Rattle.gathering.proofs.gather.Tie.{Need-loop-again-8 as Pairs-on}
-use Rattle.gathering.proofs.gather.Tie.{Need-located-in-requires as Start-located}
-use Rattle.gathering.proofs.gather.Tie.{Need-located-in-requires-2 as Rule-located}
-use Rattle.gathering.proofs.gather.Tie.{Need-loop-again-10 as Refusal-on}
-use Rattle.gathering.proofs.gather.Tie.{Need-returns-3 as Refusal-returns}
-use Rattle.gathering.proofs.gather.Tie.{Need-loop-again-11 as Join-on}
-use Rattle.gathering.proofs.gather.Tie.{Need-loop-again-14 as Declined-on}
-use Rattle.gathering.proofs.gather.Tie.{Need-returns-4 as Declined-returns}
-use Rattle.gathering.proofs.gather.Tie.{Need-returns-5 as End-returns}
 
 abbrev pub invariant-loop-sines : goal.invariant-loop-sines
 invariant-loop-sines l =
