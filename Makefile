@@ -1,5 +1,5 @@
 # The command, and what a program in C or Rust needs of the proved library. `make` builds the command, `make install` copies all below PREFIX.
-# The archive comes first, with its proof: rt staticlib vutaroi. LIB_DIR names another folder that holds it.
+# The archive comes first, with its proof: tools/build vutaroi. LIB_DIR names another folder that holds it.
 PREFIX = /usr/local
 DESTDIR =
 BINDIR = $(PREFIX)/bin
@@ -22,9 +22,9 @@ all: $(archive)
 	VUTAROI_LIB_DIR="$(LIB_DIR)" CARGO_TARGET_DIR="$(built)" $(CARGO) build --release --frozen --manifest-path rust/command/Cargo.toml
 
 $(archive):
-	@echo 'make: there is no $(archive); rt staticlib vutaroi proves and writes it' >&2; exit 1
+	@echo 'make: there is no $(archive); tools/build vutaroi proves and writes it' >&2; exit 1
 
-# The tests compare the command with the proved program: rt check strokes.
+# The tests compare the command with the proved program: tools/build strokes.
 test: $(archive)
 	VUTAROI_LIB_DIR="$(LIB_DIR)" CARGO_TARGET_DIR="$(built)" $(CARGO) test --frozen --manifest-path rust/command/Cargo.toml
 

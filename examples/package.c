@@ -2,7 +2,7 @@
  * which asks where the carriage is and waits gets its line. Here a stroke is painted by printing it on standard error: pen, x0, y0, x1, y1; and a
  * refused byte is told there: E, number.
  *
- *     rt staticlib vutaroi
+ *     tools/build vutaroi
  *     gcc -Wall -Wextra -O2 -Iinclude examples/package.c target/staticlib/libvutaroi.a -o package
  *     mkfifo to from && ./package < to > from
  *

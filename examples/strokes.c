@@ -1,7 +1,7 @@
 /* Prints the strokes of standard input, as the program strokes does: pen, x0, y0, x1, y1 a line, or E, number, byte counted from 1; and each
  * reply (of OA, OP, OW, OH, OE) as soon as it is made.
  *
- *     rt staticlib vutaroi
+ *     tools/build vutaroi
  *     gcc -Wall -Wextra -O2 -Iinclude examples/strokes.c target/staticlib/libvutaroi.a -o strokes
  *     ./strokes < drawing.hpgl
  *

@@ -2,7 +2,7 @@
 # The program strokes beside strokes-baseline on every load, and beside hp2xx (Debian's package) on the PD moves, where that is installed.
 # All read a file and write text, to /dev/null where they are timed, since to write a file is the system's work; hp2xx and strokes are timed both ways. The lines of
 # the first two are compared. Least processor seconds, user and system, of several runs in turns.
-# Needs target/bin/strokes (rt check strokes), target/staticlib (rt staticlib vutaroi) and cargo.
+# Needs target/bin/strokes (tools/build strokes), target/staticlib (tools/build vutaroi) and cargo.
 set -eu
 export LC_ALL=C
 here=$(dirname "$(readlink -f "$0")")

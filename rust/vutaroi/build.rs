@@ -1,5 +1,5 @@
 //! Links the proved archive, `libvutaroi.a`: that of the folder `VUTAROI_LIB_DIR`; else that which
-//! `rt staticlib vutaroi` writes; else, where this crate was installed, that which was installed with it.
+//! `tools/build vutaroi` writes; else, where this crate was installed, that which was installed with it.
 
 use std::env;
 use std::path::PathBuf;

@@ -1,5 +1,7 @@
 // What draw and look answer, and the counts of feed and plot, as numbers in lists that a program in another language lends.
 // specs/Answers.antt has the numbers, specs/AnswerLaws.antt that they tell 01's values. The crate vutaroi has the calls.
+#![tactic(auto)]
+
 ghost use Rattle.std.specs.Prelude.{◌≡◌, [], ◌∷◌, ◌≤◌, length};
 ghost use Rattle.rows.specs.Rows.{over};
 ghost use Rattle.answers.specs.Answers.{drawn_kind, drawn_numbers, stroke_row, look_row};

@@ -1,4 +1,6 @@
 // What stands above the sheet: its size and scale, the counts, the refusals in groups, and the pens with their metres.
+#![tactic(auto)]
+
 use console::sum;
 use counting::refusals::{Refusals, kind_of, name_in, number_of};
 use counting::verdict::total;

@@ -1,4 +1,4 @@
-// Drive moves: a stroke in plotter units becomes moves in millimetres. specs/Drive.antt says which, specs/Laws.antt that nothing is lost.
+// Drive moves: a stroke in plotter units becomes moves in millimetres. specs/Drive.antt says which, proofs/Laws.antt that nothing is lost.
 #![tactic(auto)]
 
 ghost use Rattle.std.specs.Prelude.{◌≡◌, true, pos, ◌*ℤ◌, ◌≤◌};

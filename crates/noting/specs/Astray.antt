@@ -1,6 +1,6 @@
 -- Astray: the carriage does not stand where the drawing has it, and what it draws starts at a place that nobody meant. So it is after a refused move, up to the next move with the
 -- pen up that is accepted.
-use Rattle.std.specs.Prelude.{Bool, true, false, not, cond, List, ℕ, ◌+◌, ◌-◌, eqb, ltb, length, drop}
+use Rattle.std.specs.Prelude.{Bool, true, false, cond, List, ℕ, ◌+◌, ◌-◌, eqb, ltb, length, drop}
 use Prim.Native.Char.{code}
 use Rattle.exact.specs.Whole.{◌≡?◌}
 use Rattle.clip.specs.declared.Point.{Point}

@@ -12,12 +12,11 @@ use Rattle.std.proofs.Math.ListN.{drop, length-append}
 use Rattle.std.proofs.Math.Seq.{take-length}
 use Rattle.exact.specs.Whole.{◌≡?◌, eq-≡?, ne-≡?}
 use Rattle.hpgl.specs.declared.State.{State}
-use Rattle.hpgl.specs.declared.Stroke.{Stroke}
 use Rattle.hpgl.specs.declared.Drawn.{Drawn}
 use Rattle.hpgl.specs.declared.Drawn.TheVariants as drawn
 use Rattle.hpgl.specs.declared.Work.{Work}
 use Rattle.hpgl.specs.declared.Work.TheVariants as work
-use Rattle.hpgl.specs.Numbers.{busy, most_reply}
+use Rattle.hpgl.specs.Numbers.{most_reply}
 use Rattle.hpgl.proofs.Cases.{never, whether}
 use Rattle.hpgl.specs.Machine.{waiting, replied, replying, occupied, take_state, take_number, draw_state, draw_answer, fetch_state, fetch_text}
 use Rattle.hpgl.proofs.WhatTakeDoes.{free-is}

@@ -1,4 +1,6 @@
 // Redraw (document 02, CR 6): a list of stroke records, as feed stores them, written as HP-GL into a lent output.
+#![tactic(auto)]
+
 ghost use Rattle.std.specs.Prelude.{◌≡◌, length};
 ghost use Rattle.redrawn.specs.Redrawn.{written_of, output_of};
 

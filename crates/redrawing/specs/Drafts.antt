@@ -13,7 +13,7 @@ use Rattle.decimals.specs.Puts.{Puts, sets-append}
 use Rattle.hpgl.specs.declared.Stroke.{Stroke}
 use Rattle.redrawn.specs.declared.Written.{Written}
 use Rattle.redrawn.specs.Redrawn.{not_writable, too_short, start_text, text_of, fits_in, number_of, written_of, output_of, writable, all_writable, stroke_text, strokes_text}
-use Rattle.redrawn.specs.RedrawnLaws.{text-from, text-long}
+use Rattle.redrawn.proofs.FirstStroke.{text-from, text-long}
 use Rattle.redrawing.specs.declared.Draft.{Draft}
 use Rattle.redrawing.specs.RedrawingLaws.{not_written, no_room, all-written, puts-front}
 

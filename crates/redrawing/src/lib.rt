@@ -1,5 +1,7 @@
 // Strokes back into HP-GL (document 02, CR 6): a list of strokes written as text into a lent output. The crate redrawn says which text, which numbers and what is left of the
 // output, and proves that a fresh machine reads the strokes back.
+#![tactic(auto)]
+
 ghost use Rattle.std.specs.Prelude.{true, ◌≡◌, ◌+◌, ◌*◌, ◌^◌, ◌≤◌, ◌<◌, nat_abs, length};
 ghost use Rattle.decimals.specs.Decimal.{decimal};
 ghost use Rattle.decimals.specs.Puts.{Puts};

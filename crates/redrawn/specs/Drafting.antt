@@ -1,11 +1,11 @@
 -- What the instructions of the text do to the core: of a machine after IN, which has its fresh settings, is in absolute mode and outside polygon mode.
 -- Why: PU and PD go to the number that is written, since nothing is scaled or turned; and a line between two points in the hard limits is clipped nowhere.
-use Rattle.std.specs.Prelude.{Bool, not, ◌≡◌, ℕ, ◌+◌, ◌≤◌, ℤ, ◌+ℤ◌, ◌-ℤ◌, ◌*ℤ◌}
+use Rattle.std.specs.Prelude.{Bool, not, ◌≡◌, ℕ, ◌≤◌, ℤ, ◌+ℤ◌, ◌-ℤ◌, ◌*ℤ◌}
 use Rattle.std.proofs.Math.Bool.{true, false}
 use Rattle.std.proofs.Math.Path.{refl, ap}
 use Rattle.std.proofs.Common.{◌∙◌, arith, ne_eqb}
 use Rattle.std.proofs.Math.IntN.{pos}
-use Rattle.exact.specs.Whole.{is, Z, ord, ◌≤?◌, le-≤?}
+use Rattle.exact.specs.Whole.{is, Z, ord, le-≤?}
 use Rattle.exact.specs.Fit.{bd-le}
 use Rattle.exact.specs.Divide.{nearest_div}
 use Rattle.exact.specs.Int16.{int16, int16-size}
@@ -13,7 +13,6 @@ use Rattle.clip.specs.declared.Point.{Point}
 use Rattle.clip.specs.declared.Rect.{Rect}
 use Rattle.clip.specs.Clip.{clip, inside}
 use Rattle.clip.proofs.Unclipped.{unclipped}
-use Rattle.clip.specs.declared.Clipped.TheVariants as clipped
 use Rattle.mnemonics.specs.Table.{IN, SP, PU, PD}
 use Rattle.reader.specs.declared.Event.TheVariants.{Named, Pair, Ended}
 use Rattle.reader.specs.Reader.{none_of, stored_of}

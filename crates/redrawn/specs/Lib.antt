@@ -6,8 +6,6 @@ pub mod Numerals
 pub mod Reading
 pub mod FeedMeans
 pub mod Drafting
-pub mod RoundTripProof
-pub mod FewRecords
 pub mod Shortest
 pub mod NumbersBack
 pub mod Figures

@@ -1,12 +1,12 @@
 -- A whole number's decimal text, as the reader takes it: a sign, digits and no point. It reads as that number.
-use Rattle.std.specs.Prelude.{Bool, true, false, cond, List, [], ◌∷◌, ◌++◌, ◌≡◌, refl, ℕ, zero, suc, ◌+◌, ◌*◌, ◌/◌, ◌%◌, ◌≤◌, ◌<◌, T, ltb, ℤ, pos, negsuc, neg_ℤ, ◌+ℤ◌, ◌*ℤ◌}
+use Rattle.std.specs.Prelude.{Bool, true, false, cond, List, [], ◌∷◌, ◌++◌, ◌≡◌, refl, ℕ, zero, suc, ◌+◌, ◌*◌, ◌/◌, ◌%◌, ◌≤◌, T, ltb, ℤ, pos, negsuc, neg_ℤ, ◌+ℤ◌, ◌*ℤ◌}
 use Rattle.std.proofs.Common.{append-nil, sym, ap, ◌∙◌, arith, ltb-true, lt-ltb}
 use Prim.Native.Char.{code}
 use Rattle.exact.specs.Whole.{◌≤ᶻ◌, ◌<ᶻ◌, is, Z, ord, le-le_z}
 use Rattle.exact.specs.Divide.{nearest_div}
 use Rattle.exact.specs.Int16.{int16, int16-iff, least16, most16}
 use Rattle.exact.specs.Nearest.{nearest-only}
-use Rattle.decimals.specs.Decimal.{digit, digits_within, decimal, natural, sign, whole}
+use Rattle.decimals.specs.Decimal.{digit, digits_within, decimal, natural, whole}
 use Rattle.numerals.specs.declared.number.Value.TheVariants.{Good, Bad}
 use Rattle.numerals.specs.Numeral.{bare, minus, none, Numeral, text, digits_text, Digits, decimals, worth, worth_from, signed, some, in_range, nearest, value_of}
 use Rattle.reader.specs.Written.{Literal}

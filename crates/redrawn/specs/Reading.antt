@@ -1,5 +1,5 @@
 -- What the reader tells of the text: for each stroke SP where it is written, and then PU and PD, each with one pair.
-use Rattle.std.specs.Prelude.{true, ◌≡◌, ℕ, ◌+◌, ◌<◌, ℤ, pos}
+use Rattle.std.specs.Prelude.{true, ◌≡◌, ℕ, ℤ, pos}
 use mathlib.Core.List.{List, [], ◌∷◌, ◌++◌, append_assoc}
 use Rattle.std.proofs.Math.Path.{refl, ap}
 use Rattle.std.proofs.Common.{sym, ◌∙◌, subst, lit<}

@@ -1,11 +1,11 @@
--- Laws of the text: which strokes can be written, how long a number's text is, and the first stroke as one after no pen.
-use Rattle.std.specs.Prelude.{Bool, true, false, ◌&&◌, List, [], ◌∷◌, ◌++◌, ◌≡◌, refl, ℕ, ◌+◌, ◌≤◌, leb, ℤ, nat_abs, length}
-use Rattle.std.proofs.Common.{true≢false, sym, ap, ◌∙◌, arith, leb-true, ne_eqb, length-append}
+-- Laws of the text: which strokes can be written, and how long a number's text is.
+use Rattle.std.specs.Prelude.{Bool, true, false, ◌&&◌, List, [], ◌∷◌, ◌≡◌, refl, ℕ, ◌+◌, ◌≤◌, leb, ℤ, nat_abs, length}
+use Rattle.std.proofs.Common.{true≢false, sym, arith, leb-true, length-append}
 use Rattle.exact.specs.Int16.{int16}
 use Rattle.decimals.specs.Decimal.{decimal, natural, sign, whole}
 use Rattle.hpgl.specs.declared.Stroke.{Stroke}
 use Rattle.hpgl.specs.Numbers.{most_pen}
-use Rattle.redrawn.specs.Redrawn.{is_pen, writable, all_writable, change_text, stroke_text, strokes_text, all_text, start_text, text_of}
+use Rattle.redrawn.specs.Redrawn.{is_pen, writable, all_writable}
 
 -- ---- what can be written
 
@@ -49,15 +49,3 @@ natural-long n byte = length-append (decimal n) (byte ∷ [])
 pub whole_long : (z : ℤ) (byte : ℕ) → length (whole z byte) ≡ length (sign z) + length (decimal (nat_abs z)) + 1
 unfolding whole
 whole_long z byte = omega (arith, length-append (sign z) (natural (nat_abs z) byte), natural-long (nat_abs z) byte)
-
--- ---- the first stroke has no pen before it
-
-pub text-from : (ss : List Stroke) → all_writable ss ≡ true → text_of ss ≡ start_text ++ strokes_text 0 ss
-unfolding text_of all_text strokes_text stroke_text change_text
-text-from [] h = refl
-text-from (s ∷ ss) h =
-    let w = writable-is s (writable-first s ss h).0 in
-    rw (ne_eqb s.pen 0 (λ e. omega (arith, w.least))) refl
-
-pub text-long : (ss : List Stroke) → all_writable ss ≡ true → length (text_of ss) ≡ 3 + length (strokes_text 0 ss)
-text-long ss h = ap length (text-from ss h) ∙ length-append start_text (strokes_text 0 ss)

@@ -23,10 +23,10 @@ fn root() -> PathBuf {
     Path::new(env!("CARGO_MANIFEST_DIR")).join("../..")
 }
 
-/// The proved program strokes, which `rt check strokes` makes.
+/// The proved program strokes, which `tools/build strokes` makes.
 fn proved() -> Command {
     let program = root().join("target/bin/strokes");
-    assert!(program.exists(), "{} is missing: rt check strokes makes it", program.display());
+    assert!(program.exists(), "{} is missing: tools/build strokes makes it", program.display());
     Command::new(program)
 }
 

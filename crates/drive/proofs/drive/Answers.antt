@@ -1,4 +1,4 @@
--- The proof of `drive`: its tests are those of the definition, in the same order, and every place is exact (specs/Laws.antt).
+-- The proof of `drive`: its tests are those of the definition, in the same order, and every place is exact (proofs/Laws.antt).
 use mathlib.Core.Path.{◌≡◌, refl, sym, ap, ap₂, ◌∙◌}
 use mathlib.Core.Bool.{true}
 use Prim.Native.Nat.{ℕ}

@@ -1,4 +1,4 @@
--- The proof of `millimetres`: the number that the cast reads from its bits is the number, and no product loses anything (specs/Floats.antt).
+-- The proof of `millimetres`: the number that the cast reads from its bits is the number, and no product loses anything (proofs/Floats.antt).
 use mathlib.Core.Path.{ap₂, ◌∙◌}
 use lib.IntN.{ℤ}
 use lib.Ieee.{binary32, mul, of_int, Float}

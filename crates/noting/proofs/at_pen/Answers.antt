@@ -1,5 +1,4 @@
 -- By its test.
-use borrow.Author.Rules.{rules}
 use borrow.Author.Tests.{lt-ltb, le-ltb}
 use Rattle.counting.specs.Tally.{for_pen}
 use Rattle.noting.proofs.at_pen.Goals as goal

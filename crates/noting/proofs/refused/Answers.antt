@@ -1,5 +1,4 @@
 -- By the test.
-use borrow.Author.Rules.{rules}
 use mathlib.Core.Path.{refl, sym, ◌∙◌}
 use Rattle.noting.specs.Refusals.{refused_of}
 use Rattle.noting.proofs.refused.Goals as goal

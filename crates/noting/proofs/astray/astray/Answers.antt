@@ -1,5 +1,4 @@
 -- By its tests.
-use borrow.Author.Rules.{rules}
 use mathlib.Core.Path.{refl, sym, ◌∙◌}
 use Rattle.noting.specs.Astray.{astray_of}
 use Rattle.noting.proofs.astray.astray.Goals as goal

@@ -1,5 +1,4 @@
 -- By its tests.
-use borrow.Author.Rules.{rules}
 use borrow.Author.Tests.{eq-eqb, ne_eqb}
 use mathlib.Core.Path.{refl, sym, ◌∙◌}
 use Rattle.noting.specs.Astray.{changes_of}
@@ -7,7 +6,7 @@ use Rattle.noting.proofs.astray.changes.Goals as goal
 
 pub returns-then-kind-eq0 : goal.returns-then-kind-eq0
 unfolding changes_of
-returns-then-kind-eq0 c =  rw (eq-eqb c.args.kind 0 c.if-kind-eq0.true) refl
+returns-then-kind-eq0 c = rw (eq-eqb c.args.kind 0 c.if-kind-eq0.true) refl
 
 pub returns-then-kind-eq98 : goal.returns-then-kind-eq98
 unfolding changes_of

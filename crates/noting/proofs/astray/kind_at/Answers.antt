@@ -1,5 +1,4 @@
 -- By the test.
-use borrow.Author.Rules.{rules}
 use mathlib.Core.Path.{refl, sym, ◌∙◌}
 use Rattle.noting.specs.Astray.{kind_at}
 use Rattle.noting.proofs.astray.kind_at.Goals as goal
@@ -11,4 +10,4 @@ returns-then-is_refusal c =
 
 pub returns : goal.returns
 unfolding kind_at
-returns c =  rw (sym c.is_refusal.ensures ∙ c.if-is_refusal.false) refl
+returns c = rw (sym c.is_refusal.ensures ∙ c.if-is_refusal.false) refl

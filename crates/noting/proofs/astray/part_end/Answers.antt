@@ -1,7 +1,6 @@
 -- By its tests.
-use borrow.Author.Rules.{rules}
 use borrow.Author.Tests.{lt-ltb, le-ltb}
-use mathlib.Core.Path.{refl, sym, ◌∙◌}
+use mathlib.Core.Path.{refl}
 use lib.ListN.{length}
 use Rattle.noting.specs.Astray.{part_end}
 use Rattle.noting.proofs.astray.part_end.Goals as goal

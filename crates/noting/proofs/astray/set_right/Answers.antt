@@ -1,5 +1,4 @@
 -- By its tests.
-use borrow.Author.Rules.{rules}
 use mathlib.Core.Path.{refl, sym, ◌∙◌}
 use Rattle.noting.specs.Astray.{set_right}
 use Rattle.noting.proofs.astray.set_right.Goals as goal

@@ -1,0 +1,4 @@
+pub mod RoundTripProof
+pub mod FewRecords
+pub mod Refused
+pub mod FirstStroke
