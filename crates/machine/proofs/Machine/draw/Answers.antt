@@ -1,5 +1,4 @@
 -- The proof of `draw`: the edge that is read is the one that waits first.
-use borrow.Author.Rules.{rules}
 use mathlib.Core.Path.{sym, ap, ◌∙◌}
 use Prim.Native.Nat.{ℕ}
 use native.Mathlib.Omega.{arith}
@@ -26,17 +25,20 @@ draw_first-drawn-requires c =
     (v.core.settings, edge-small v.edges _, v.work, c.table-sines.ensures)
 
 pub work_after-rest-requires : goal.work_after-rest-requires
-work_after-rest-requires c =  c.requires.valid.work
+work_after-rest-requires c = c.requires.valid.work
 
 pub returns : goal.returns
 unfolding worked_of M.draw_state segment_of
 returns c =
     let m = c.args.self.state in
     let first = ap (λ (k : ℕ). first_segment m.core.settings (get_or m.store.edges k M.no_edge) m.work) c.edge_place.ensures ∙ first-segment m m.work in
-    let e = c.draw_first-drawn.ensures ∙ ap (drawn_of (limits m.core.settings) m.core.carriage.pen.number) first ∙ sym (segment-drawn m) in record { value = (λ i. record {
+    let e = c.draw_first-drawn.ensures ∙ ap (drawn_of (limits m.core.settings) m.core.carriage.pen.number) first ∙ sym (segment-drawn m) in record {
+      value = (λ i. record {
         machine = record { state = record { reader = m.reader; core = m.core; store = m.store; work = c.work_after-rest.ensures i } };
         drawn = e i;
-      }); drawn_value = ap drawn_values e ∙ draw-values m }
+      });
+      drawn_value = ap drawn_values e ∙ draw-values m;
+    }
 
 pub offset_bounds-store-edge_place : goal.offset_bounds-store-edge_place
 offset_bounds-store-edge_place c =

@@ -1,5 +1,4 @@
 -- The proof of `fetch`: the reply is gone exactly where bytes were written (FetchLaws.antt).
-use borrow.Author.Rules.{rules}
 use mathlib.Core.Path.{◌≡◌, sym, ◌∙◌}
 use lib.ListN.{length}
 use Rattle.hpgl.specs.Machine.{replying, fetch_number, fetch_text, fetch_out}
@@ -18,7 +17,7 @@ abbrev Start : Type 0
 Start = Lts.Start Tie.the-claims Reads.Pre Reads.Post Tie.handed_clauses
 
 pub fetch-w-requires : goal.fetch-w-requires
-fetch-w-requires c =  c.requires.valid.work
+fetch-w-requires c = c.requires.valid.work
 
 abbrev start : After-fetch-w → Start
 start f = search

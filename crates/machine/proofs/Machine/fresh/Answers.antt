@@ -1,5 +1,4 @@
 -- The proof of `fresh`: the four numbers are read back as they came.
-use borrow.Author.Rules.{rules}
 use mathlib.Core.Path.{◌≡◌, sym, ap, ◌∙◌}
 use mir.Syntax.{w64}
 use Rattle.exact.specs.Fit.{m64, arg}

@@ -1,5 +1,4 @@
 -- The proof of `gather`: a feed told as a plot is the feed (GatherLaws.antt).
-use borrow.Author.Rules.{rules}
 use mathlib.Core.Path.{ap, ◌∙◌}
 use Prim.Native.Nat.{◌/◌}
 use lib.ListN.{length, drop}
@@ -10,7 +9,7 @@ use Rattle.machine.specs.GatherLaws.{marked-answer, marked-laid}
 use Rattle.machine.proofs.Machine.gather.Goals as goal
 
 pub gather-requires : goal.gather-requires
-gather-requires c =  c.requires.valid
+gather-requires c = c.requires.valid
 
 pub returns : goal.returns
 unfolding gather_from

@@ -4,7 +4,7 @@ use Rattle.hpgl.specs.Valid.{Usable}
 use Rattle.machine.proofs.Machine.load.Goals as goal
 
 pub load-requires : goal.load-requires
-load-requires c =  c.requires.long
+load-requires c = c.requires.long
 
 pub returns : goal.returns
 returns c =

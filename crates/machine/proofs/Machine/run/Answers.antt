@@ -1,5 +1,4 @@
 -- The proof of `run`: a feed with no room for a stroke (RunLaws.antt).
-use borrow.Author.Rules.{rules}
 use borrow.Author.Tests.{eq-eqb, ne_eqb}
 use mathlib.Core.Path.{◌≡◌, sym, ap, ◌∙◌}
 use mathlib.Core.Bool.{cond}
@@ -33,7 +32,7 @@ unfolding gather_from
 answer g = ap ran g.gather-g.ensures.0 ∙ sym (run-feeds (start g).args.self.state _ (start g).args.from)
 
 pub gather-g-requires : goal.gather-g-requires
-gather-g-requires c =  c.requires.valid
+gather-g-requires c = c.requires.valid
 
 pub returns-then-g-eq-LIST_FULL : goal.returns-then-g-eq-LIST_FULL
 returns-then-g-eq-LIST_FULL c =

@@ -1,5 +1,4 @@
 -- The proof of `segment`: the edge that is read is the one that waits first.
-use borrow.Author.Rules.{rules}
 use mathlib.Core.Path.{ap, ◌∙◌}
 use Prim.Native.Nat.{ℕ}
 use native.Mathlib.Omega.{arith}

@@ -1,7 +1,6 @@
 -- The proof of `take`: a run of one byte (RunLaws.antt).
-use borrow.Author.Rules.{rules}
 use borrow.Author.Tests.{ne_eqb}
-use mathlib.Core.Path.{◌≡◌, refl, sym, ap, ◌∙◌}
+use mathlib.Core.Path.{refl, sym, ap, ◌∙◌}
 use Rattle.hpgl.specs.Machine as M
 use Rattle.machine.specs.declared.Ran.{Ran}
 use Rattle.machine.specs.declared.Taken.{Taken}
