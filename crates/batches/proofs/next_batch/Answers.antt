@@ -1,5 +1,4 @@
 -- The proof of `next_batch`: feed with r + q records is feed with r, those of a batch, and then with the q that are left (`feed-room`).
-use borrow.Author.Rules.{rules}
 use mathlib.Core.Path.{◌≡◌, refl, sym, ap, ◌∙◌, subst}
 use mathlib.Core.Bool.{Bool, true, false, cond, ◌&&◌, false≢true}
 use mathlib.Core.List.{List, ◌++◌, append-nil}

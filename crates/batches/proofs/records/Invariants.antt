@@ -1,16 +1,8 @@
 -- The proof of `records`: strokes 0 to i - 1 stand at their places.
-use borrow.Author.Rules.{rules}
-use mathlib.Core.Path.{◌≡◌, refl, sym, ap, ◌∙◌, subst}
-use mathlib.Core.List.{List, [], ◌∷◌, ◌++◌}
-use Prim.Native.Nat.{ℕ, ◌+◌, ◌-◌, ◌≤◌, ◌<◌}
-use native.Mathlib.Numerals.{add-one}
-use native.Mathlib.Omega.{arith}
-use lib.IntN.{ℤ}
-use lib.ListN.{length, take, set, length-set}
-use lib.Seq.{take-suc-set}
-use Rattle.hpgl.specs.declared.Stroke.{Stroke}
-use Rattle.batches.specs.Batches.{blanks-long}
-use Rattle.batches.specs.Records.{stroke_at, strokes_of}
+use mathlib.Core.Path.{◌≡◌}
+use Prim.Native.Nat.{◌-◌, ◌≤◌}
+use lib.ListN.{length, take}
+use Rattle.batches.specs.Records.{strokes_of}
 use Rattle.batches.proofs.records.Given as goal
 
 abbrev pub invariant-loop-i : goal.invariant-loop-i

@@ -9,7 +9,6 @@ use lib.Signed.{mag}
 use mir.Val.{hbits, to_z, of_z}
 use Rattle.exact.specs.Fit.{got}
 use Rattle.batches.specs.Records.{number_at, stroke_at}
-use borrow.Author.Rules.{rules}
 use Rattle.batches.proofs.stroke_at.Goals as goal
 
 -- what is read of a list of numbers
