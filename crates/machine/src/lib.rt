@@ -1,4 +1,6 @@
 // The machine of document 01. The crate hpgl says what each call does; here it is done.
+#![tactic(auto)]
+
 ghost use Rattle.std.specs.Prelude.{◌≡◌, ◌/◌, length, drop};
 ghost use Rattle.hpgl.specs.Machine as M;
 ghost use Rattle.hpgl.specs.Values.{drawn_values};

@@ -1,5 +1,4 @@
 -- The proof of `batch`: by the kind of work.
-use borrow.Author.Rules.{rules}
 use mathlib.Core.Path.{sym, ap, subst}
 use Prim.Native.Nat.{◌<◌}
 use Rattle.hpgl.specs.declared.Work.{Work}

@@ -1,7 +1,6 @@
 -- The proof of `carried`: by the two calls.
-use borrow.Author.Rules.{rules}
 use Rattle.queue.specs.Alone.{action-alone}
 use Rattle.gathering.proofs.carried.Goals as goal
 
 pub queued-requires : goal.queued-requires
-queued-requires c =  action-alone c.args.edges c.args.a c.requires
+queued-requires c = action-alone c.args.edges c.args.a c.requires

@@ -1,7 +1,6 @@
 -- The proof of `chords`. The invariant: for every feed or plot that was so far at the start, how far it is now, with the chords from `next` on waiting.
-use borrow.Author.Rules.{rules}
 use mathlib.Core.Path.{◌≡◌, refl, sym, ap, subst, ◌∙◌}
-use Prim.Native.Nat.{ℕ, ◌+◌, ◌/◌, ◌≤◌, ◌<◌}
+use Prim.Native.Nat.{ℕ, ◌+◌, ◌/◌, ◌<◌}
 use native.Mathlib.Omega.{arith}
 use lib.ListN.{length}
 use Rattle.clip.specs.Reach.{SmallRect}
@@ -15,7 +14,6 @@ use Rattle.hpgl.specs.Segment.{drawn_of, SmallSegment}
 use Rattle.hpgl.proofs.SegmentLaws.{segment-small}
 use Rattle.hpgl.specs.Valid.{Valid}
 use Rattle.hpgl.proofs.ValidFacts.{limits-small, fewer}
-use Rattle.queue.specs.Corners.{vertex_at}
 use Rattle.gathering.specs.Gather.{whole, chords_left}
 use Rattle.gathering.specs.Far.{Batching, Drew}
 use Rattle.gathering.proofs.Gathers.{far-fits, put-fits}

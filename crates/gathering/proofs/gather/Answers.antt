@@ -2,11 +2,9 @@
 -- frame is that of the settings, and `here` the location of the hand. A turn draws, or does what one event asks (Moving.antt), and ends. What is left where the
 -- ways meet is a refusal that changed nothing (`declines`), of which its number alone is told there.
 -- The measure: what waits, and for each byte left one more than can wait after it, which is at most the 720 chords of a circle.
-use borrow.Author.Rules.{rules}
 use mathlib.Core.Path.{◌≡◌, refl, sym, ap, subst, ◌∙◌}
 use mathlib.Core.Bool.{Bool, true, false, cond}
 use mathlib.Core.List.{List}
-use mathlib.Core.Logic.{⊎_elim}
 use Prim.Native.Nat.{ℕ, ◌+◌, ◌*◌, ◌-◌, ◌/◌, ◌^◌, ◌≤◌, ◌<◌}
 use native.Mathlib.Omega.{arith}
 use borrow.Author.Tests.{ne_eqb}
@@ -15,7 +13,6 @@ use lib.ListN.{length, get_or, set, drop}
 use Rattle.clip.specs.Reach.{SmallRect}
 use Rattle.clip.specs.declared.Rect.{Rect}
 use Rattle.turns.specs.Turn.{rows_of}
-use Rattle.sines.specs.Rules.{entries}
 use Rattle.reader.specs.declared.Coordinates.{Coordinates}
 use Rattle.reader.specs.declared.Event.{Event}
 use Rattle.reader.specs.declared.Event.TheVariants as event
@@ -32,7 +29,6 @@ use Rattle.hpgl.specs.declared.Edge.{Edge}
 use Rattle.hpgl.specs.declared.Store.{Store}
 use Rattle.hpgl.specs.declared.Work.{Work}
 use Rattle.hpgl.specs.declared.Work.TheVariants.{Nothing}
-use Rattle.hpgl.specs.declared.Segment.TheVariants as segment
 use Rattle.hpgl.specs.declared.State.{State}
 use Rattle.hpgl.specs.Numbers.{most_edges, polygon_bytes}
 use Rattle.feeding.specs.Plot.{Plot, refusal}
@@ -702,14 +698,15 @@ declines j =
     let q = met j in
     let l = (loop q).loop-sines in
     elim j.match-event.branch [
-      in-Named+else-number-eq0 w ↦
-        by j w.number-is w.if-number-eq0.false (unknown-acts l.settings l.hand l.polygon _ w.name_number-number.ensures w.if-number-eq0.false ∙ ap (act_on (held q)) (sym w.in-Named.is))
+      | in-Named+else-number-eq0 w ↦
+          by j w.number-is w.if-number-eq0.false (unknown-acts l.settings l.hand l.polygon _ w.name_number-number.ensures w.if-number-eq0.false ∙ ap (act_on (held q)) (sym w.in-Named.is))
       | in-Pair+then-polygon+else-number-eq0-2 w ↦
-        by j w.number-is w.if-number-eq0-2.false (point-refused q w.point-t.result w.if-number-eq0-2.false (pair-does q w.in-Pair.is (w.point-t.ensures.result_value l.settings l.polygon l.invariant.1 w.if-polygon.true refl)))
+          by j w.number-is w.if-number-eq0-2.false (point-refused q w.point-t.result w.if-number-eq0-2.false (pair-does q w.in-Pair.is (w.point-t.ensures.result_value l.settings l.polygon l.invariant.1 w.if-polygon.true refl)))
       | in-Pair+else-polygon+else-number-eq0-3 w ↦
-        by j w.number-is w.if-number-eq0-3.false (shift-refused q w.in-Pair.is w.if-number-eq0-3.false (w.shift-t.ensures.result_value l.settings l.polygon l.invariant.1 w.if-polygon.false))
+          by j w.number-is w.if-number-eq0-3.false (shift-refused q w.in-Pair.is w.if-number-eq0-3.false (w.shift-t.ensures.result_value l.settings l.polygon l.invariant.1 w.if-polygon.false))
       | in-Refused w ↦
-        by j w.number-is (refusal-some (reached q) w.in-Refused.is) (refused-acts l.settings l.hand l.polygon _ ∙ ap (act_on (held q)) (sym w.in-Refused.is)) ]
+          by j w.number-is (refusal-some (reached q) w.in-Refused.is) (refused-acts l.settings l.hand l.polygon _ ∙ ap (act_on (held q)) (sym w.in-Refused.is))
+    ]
 
 -- ---- the needs
 

@@ -1,5 +1,4 @@
 -- The proof of `halted`: by its arms.
-use borrow.Author.Rules.{rules}
 use borrow.Author.Tests.{ne_eqb}
 use mathlib.Core.Path.{refl, ◌∙◌}
 use Rattle.hpgl.specs.Machine as M
@@ -28,4 +27,4 @@ returns-in-Edges c = c.full-in-Edges.ensures ∙ rw c.in-Edges.is refl
 
 pub returns-else-r-ne0 : goal.returns-else-r-ne0
 unfolding halted_of M.replying M.replied M.waiting
-returns-else-r-ne0 c =  c.full-in-Answer.ensures ∙ rw (c.in-Answer.is, c.if-r-ne0.false) refl
+returns-else-r-ne0 c = c.full-in-Answer.ensures ∙ rw (c.in-Answer.is, c.if-r-ne0.false) refl

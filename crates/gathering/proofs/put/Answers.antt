@@ -1,5 +1,4 @@
 -- The proof of `put`: by its arms.
-use borrow.Author.Rules.{rules}
 use mathlib.Core.Path.{refl, subst}
 use Prim.Native.Nat.{◌*◌, ◌≤◌}
 use native.Mathlib.Omega.{arith}

@@ -4,7 +4,7 @@ use mathlib.Core.Path.{◌≡◌, refl}
 use Prim.Native.Nat.{◌+◌, ◌*◌, ◌<◌}
 use native.Mathlib.Omega.{arith}
 use lib.IntN.{pos}
-use lib.ListN.{set, length-set}
+use lib.ListN.{set}
 use mir.Val.{to_z}
 use mir.Syntax.{w64}
 use Rattle.exact.specs.Fit.{arg, of-nat}

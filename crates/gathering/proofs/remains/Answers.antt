@@ -1,5 +1,4 @@
 -- The proof of `remains`: by its test.
-use borrow.Author.Rules.{rules}
 use borrow.Author.Tests.{lt-ltb, le-ltb}
 use mathlib.Core.Path.{refl, ap}
 use lib.Dec.{ltb}
