@@ -14,11 +14,6 @@ use Rattle.queue.specs.Corners.{first_segment, first-segment}
 use Rattle.machine.specs.Calls.{worked_of}
 use Rattle.machine.proofs.Machine.draw.Goals as goal
 
-pub offset_bounds-store-edge_place : goal.offset_bounds-store-edge_place
-offset_bounds-store-edge_place c =
-    let h = place-within c.args.self.state.work c.requires.valid.work in
-    record { fits = omega (arith, h, c.edge_place.ensures) }
-
 pub bounds-store-edge_place : goal.bounds-store-edge_place
 bounds-store-edge_place c =
     let h = place-within c.args.self.state.work c.requires.valid.work in
@@ -44,3 +39,8 @@ returns c =
       });
       drawn_value = ap drawn_values e ∙ draw-values m;
     }
+
+pub offset_bounds-store-edge_place : goal.offset_bounds-store-edge_place
+offset_bounds-store-edge_place c =
+    let h = place-within c.args.self.state.work c.requires.valid.work in
+    record { fits = omega (arith, h, c.edge_place.ensures) }

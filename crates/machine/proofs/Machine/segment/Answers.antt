@@ -10,11 +10,6 @@ use Rattle.queue.specs.First.{place-within}
 use Rattle.queue.specs.Corners.{first_segment, first-segment}
 use Rattle.machine.proofs.Machine.segment.Goals as goal
 
-pub offset_bounds-store-edge_place : goal.offset_bounds-store-edge_place
-offset_bounds-store-edge_place c =
-    let h = place-within c.args.self.state.work c.requires.valid.work in
-    record { fits = omega (arith, h, c.edge_place.ensures) }
-
 pub bounds-store-edge_place : goal.bounds-store-edge_place
 bounds-store-edge_place c =
     let h = place-within c.args.self.state.work c.requires.valid.work in
@@ -30,3 +25,8 @@ unfolding segment_of
 returns c =
     let m = c.args.self.state in
     c.first_segment.ensures ∙ ap (λ (k : ℕ). first_segment m.core.settings (get_or m.store.edges k no_edge) m.work) c.edge_place.ensures ∙ first-segment m m.work
+
+pub offset_bounds-store-edge_place : goal.offset_bounds-store-edge_place
+offset_bounds-store-edge_place c =
+    let h = place-within c.args.self.state.work c.requires.valid.work in
+    record { fits = omega (arith, h, c.edge_place.ensures) }
