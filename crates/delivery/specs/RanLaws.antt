@@ -1,5 +1,5 @@
 -- Laws of a run: from block to block, and within a block from bufferful to bufferful.
-use Rattle.std.specs.Prelude.{◌≡◌, ℕ, ◌+◌, ◌%◌, ◌^◌, Bool, true, false, List, [], ◌++◌, length, take, drop, ◌≢◌, refl}
+use Rattle.std.specs.Prelude.{◌≡◌, ℕ, ◌+◌, ◌%◌, ◌^◌, Bool, true, false, List, [], ◌++◌, length, take, drop, ◌≢◌}
 use Rattle.std.proofs.lemmas.Bool.{false≢true}
 use Rattle.std.proofs.Common.{append-nil, append_assoc, sym, ◌∙◌, subst, add-zero, zero-add, arith, length-append}
 use Rattle.std.proofs.Math.Path.{ap}

@@ -1,6 +1,8 @@
 // Stored drawings: the lines of each are compared with those stored beside it, byte by byte.
 //
 // The file list has a line of six words for each: the drawing, the file of its lines, and the hard limits left, bottom, right, top.
+#![tactic(auto)]
+
 ghost use Rattle.std.specs.Prelude.{◌≡◌, ◌+◌, ◌≤◌, length, drop};
 ghost use Rattle.drawings.specs.Part.{index_of, Within};
 
