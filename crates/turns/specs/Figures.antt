@@ -1,7 +1,6 @@
 -- The checked figure of 01 that is about turns, and what a turned window is, by computation from the definitions.
-use Rattle.std.specs.Prelude.{◌≡◌, refl, ℕ, ℤ, pos, negsuc}
+use Rattle.std.specs.Prelude.{◌≡◌, refl, ℕ, pos, negsuc}
 use Rattle.exact.specs.Whole.{◌<?◌}
-use Rattle.clip.specs.declared.Point.{Point}
 use Rattle.clip.specs.declared.Rect.{Rect}
 use Rattle.turns.specs.Turn.{turns, turn_of, turned_of, lesser_of, greater_of, ordered_of, turned_box_of}
 

@@ -1,6 +1,5 @@
 -- The proof of `begins_name`: a capital by its bit, and no other byte.
 use native.Mathlib.Omega.{arith}
-use borrow.Author.Rules.{rules}
 use Rattle.mnemonics.specs.Table.{cell_of, begins_from, begins_name}
 use Rattle.mnemonics.proofs.Letters.{capital, no-capital}
 use Rattle.mnemonics.proofs.begins_name.Goals as goal

@@ -1,9 +1,8 @@
 -- No name begins with another letter. The loop's invariant: what the search of the whole table gives is what the search from `op` on gives.
 use mathlib.Core.Path.{◌≡◌, refl, sym, ◌∙◌}
-use Prim.Native.Nat.{suc, ◌+◌, ◌≤◌, ◌-◌}
+use Prim.Native.Nat.{suc, ◌+◌, ◌-◌}
 use native.Mathlib.Omega.{arith}
 use borrow.Author.Rules.{rules}
-use borrow.Author.Tests.{not-true}
 use Rattle.mnemonics.specs.Table.{rows, named_of, find_from, find_of}
 use Rattle.mnemonics.proofs.Laws.{find-here, find-later, none-begins}
 use Rattle.mnemonics.proofs.find.Goals as goal

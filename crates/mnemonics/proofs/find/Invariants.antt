@@ -1,11 +1,7 @@
 -- No name begins with another letter. The loop's invariant: what the search of the whole table gives is what the search from `op` on gives.
-use mathlib.Core.Path.{◌≡◌, refl, sym, ◌∙◌}
-use Prim.Native.Nat.{suc, ◌+◌, ◌≤◌, ◌-◌}
-use native.Mathlib.Omega.{arith}
-use borrow.Author.Rules.{rules}
-use borrow.Author.Tests.{not-true}
-use Rattle.mnemonics.specs.Table.{rows, named_of, find_from, find_of}
-use Rattle.mnemonics.proofs.Laws.{find-here, find-later, none-begins}
+use mathlib.Core.Path.{◌≡◌}
+use Prim.Native.Nat.{◌≤◌, ◌-◌}
+use Rattle.mnemonics.specs.Table.{rows, find_from, find_of}
 use Rattle.mnemonics.proofs.find.Given as goal
 
 abbrev pub invariant-loop-op : goal.invariant-loop-op

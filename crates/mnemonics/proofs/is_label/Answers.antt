@@ -1,5 +1,4 @@
 -- The proof of `is_label`: two letters are compared as one number.
-use borrow.Author.Rules.{rules}
 use mathlib.Core.Path.{◌∙◌}
 use lib.Dec.{eqb}
 use Rattle.mnemonics.specs.Table.{is_label}

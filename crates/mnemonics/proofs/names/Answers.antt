@@ -1,5 +1,4 @@
 -- The proof of `names`: two letters are compared as one number.
-use borrow.Author.Rules.{rules}
 use mathlib.Core.Path.{◌∙◌}
 use lib.Dec.{eqb}
 use lib.ListN.{get_or}

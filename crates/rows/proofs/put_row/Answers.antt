@@ -1,6 +1,5 @@
 -- The proof of `put_row`: each number is within the list, and fits an i64.
 use borrow.Author.Rules.{rules}
-use mathlib.Core.Path.{◌≡◌}
 use Prim.Native.Nat.{◌+◌}
 use native.Mathlib.Omega.{arith}
 use lib.ListN.{set, length-set}
@@ -10,16 +9,16 @@ use Rattle.rows.specs.Rows.{with_row}
 use Rattle.rows.proofs.put_row.Goals as goal
 
 pub bounds-numbers-at-2 : goal.bounds-numbers-at-2
-bounds-numbers-at-2 c =  simp (length-set) (omega (arith, c.requires))
+bounds-numbers-at-2 c = simp (length-set) (omega (arith, c.requires))
 
 pub bounds-numbers-at-3 : goal.bounds-numbers-at-3
-bounds-numbers-at-3 c =  simp (length-set) (omega (arith, c.requires))
+bounds-numbers-at-3 c = simp (length-set) (omega (arith, c.requires))
 
 pub bounds-numbers-at-4 : goal.bounds-numbers-at-4
-bounds-numbers-at-4 c =  simp (length-set) (omega (arith, c.requires))
+bounds-numbers-at-4 c = simp (length-set) (omega (arith, c.requires))
 
 pub bounds-numbers-at-5 : goal.bounds-numbers-at-5
-bounds-numbers-at-5 c =  simp (length-set) (omega (arith, c.requires))
+bounds-numbers-at-5 c = simp (length-set) (omega (arith, c.requires))
 
 pub returns : goal.returns
 unfolding with_row

@@ -1,5 +1,4 @@
 -- The proof of `row_at`: each number is within the list, and fits an i64.
-use borrow.Author.Rules.{rules}
 use mathlib.Core.Path.{◌≡◌}
 use mathlib.Core.List.{List}
 use Prim.Native.Nat.{ℕ, ◌+◌, ◌<◌, ◌^◌}

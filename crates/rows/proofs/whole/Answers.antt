@@ -1,6 +1,4 @@
 -- The proof of `whole`: 32 bits fit an i64.
-use borrow.Author.Rules.{rules}
-use Prim.Native.Nat.{◌<◌}
 use native.Mathlib.Omega.{arith}
 use mir.Syntax.{w64}
 use Rattle.exact.specs.Fit.{of-nat}

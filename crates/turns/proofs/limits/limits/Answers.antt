@@ -1,5 +1,4 @@
 -- The proof of `limits`: with the window and without it.
-use borrow.Author.Rules.{rules}
 use mathlib.Core.Path.{refl, ap, ◌∙◌}
 use Rattle.turns.specs.Limits.{intersection_of, limits_of}
 use Rattle.turns.proofs.limits.limits.Goals as goal

@@ -1,5 +1,4 @@
 -- The proof of `degrees_of`: the constant is the column of the definition's table.
-use borrow.Author.Rules.{rules}
 use mir.Syntax.{w64}
 use Rattle.exact.specs.Fit.{val}
 use Rattle.turns.specs.Turn.{turns, degrees_of}
@@ -8,4 +7,4 @@ use Rattle.turns.proofs.turn.degrees_of.Goals as goal
 
 pub returns : goal.returns
 unfolding degrees_of turns
-returns c =  (val w64 (degrees-size c.args.turn c.requires) tt).is
+returns c = (val w64 (degrees-size c.args.turn c.requires) tt).is

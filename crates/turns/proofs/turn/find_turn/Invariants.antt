@@ -1,15 +1,7 @@
 -- The loop's invariant: what the search of the whole table gives is what the search from `turn` on gives.
-use mathlib.Core.Path.{◌≡◌, refl, sym, ap, ◌∙◌}
-use mathlib.Core.Bool.{true, false}
-use Prim.Native.Nat.{ℕ, suc, ◌+◌, ◌≤◌, ◌-◌}
-use native.Mathlib.Omega.{arith}
-use borrow.Author.Rules.{rules}
-use lib.IntN.{ℤ}
-use mir.Syntax.{w64}
-use mir.Val.{SFits, of_z, to_z}
-use Rattle.exact.specs.Fit.{arg, eq64-t, eq64-f}
-use Rattle.exact.specs.Whole.{◌≡?◌}
-use Rattle.turns.specs.Turn.{turn_count, degrees_of, turn_from, find_turn}
+use mathlib.Core.Path.{◌≡◌}
+use Prim.Native.Nat.{◌≤◌, ◌-◌}
+use Rattle.turns.specs.Turn.{turn_count, turn_from, find_turn}
 use Rattle.turns.proofs.turn.find_turn.Given as goal
 
 abbrev pub invariant-loop-turn : goal.invariant-loop-turn

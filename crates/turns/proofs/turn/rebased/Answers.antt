@@ -1,5 +1,4 @@
 -- The proof of `rebased`: the turn keeps the bound that the way back asks.
-use borrow.Author.Rules.{rules}
 use mathlib.Core.Path.{sym, subst, ap, ◌∙◌}
 use Rattle.clip.specs.Reach.{SmallPoint}
 use Rattle.clip.specs.declared.Point.{Point}

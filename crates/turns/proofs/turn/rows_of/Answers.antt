@@ -1,6 +1,6 @@
 -- The proof of `rows_of`: number by number.
 use Rattle.turns.specs.Turn.{rows_of}
-use Rattle.turns.proofs.Rows.{low, high, table}
+use Rattle.turns.proofs.Rows.{table}
 use Rattle.turns.proofs.turn.rows_of.Goals as goal
 
 pub returns : goal.returns

@@ -1,5 +1,4 @@
 -- The proof of `table_of`: the constant is the definition's list of tables.
-use borrow.Author.Rules.{rules}
 use mathlib.Core.Path.{refl}
 use Rattle.turns.specs.Turn.{turns}
 use Rattle.turns.proofs.turn.table_of.Goals as goal

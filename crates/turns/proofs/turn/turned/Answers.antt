@@ -1,6 +1,6 @@
 -- The proof of `turned`: a row times the point, twice.
 use Rattle.turns.specs.Turn.{turned_of}
-use Rattle.turns.proofs.Rows.{low, high, Table, table, along-asks, along-is}
+use Rattle.turns.proofs.Rows.{Table, table, along-asks, along-is}
 use Rattle.turns.proofs.turn.turned.Goals as goal
 use Rattle.turns.proofs.turn.turned.Lts
 use Rattle.turns.proofs.turn.turned.Tie

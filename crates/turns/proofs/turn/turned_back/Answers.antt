@@ -1,6 +1,6 @@
 -- The proof of `turned_back`: a column times the point, twice.
 use Rattle.turns.specs.Turn.{turned_back_of}
-use Rattle.turns.proofs.Rows.{low, high, Table, table, along-asks, along-is}
+use Rattle.turns.proofs.Rows.{Table, table, along-asks, along-is}
 use Rattle.turns.proofs.turn.turned_back.Goals as goal
 use Rattle.turns.proofs.turn.turned_back.Lts
 use Rattle.turns.proofs.turn.turned_back.Tie

@@ -1,5 +1,4 @@
 -- The proof of `turned_box`: two corners, each read from the box.
-use borrow.Author.Rules.{rules}
 use mathlib.Core.Path.{ap₂, ◌∙◌}
 use mir.Syntax.{w64}
 use Rattle.exact.specs.Fit.{val}

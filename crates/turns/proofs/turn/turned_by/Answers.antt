@@ -1,5 +1,4 @@
 -- The proof of `turned_by`: a row times the point, twice.
-use borrow.Author.Rules.{rules}
 use mir.Syntax.{w64}
 use Rattle.exact.specs.Fit.{val}
 use Rattle.turns.specs.Turn.{turned_by}
