@@ -1,5 +1,7 @@
 // Each call on a machine that is kept as numbers, those that `save` writes: it is loaded, called and saved again, but for fetch.
 // The crate vutaroi has the calls for programs in C and Rust, with the header before these numbers.
+#![tactic(auto)]
+
 ghost use Rattle.std.specs.Prelude.{◌≡◌, [], ◌∷◌, ◌≤◌, ◌/◌, length};
 ghost use Rattle.rows.specs.Rows.{over};
 ghost use Rattle.hpgl.specs.Machine.{rect, fresh_state, fresh_number, take_state, take_number, draw_state, draw_answer, look_at, fetch_state, fetch_number, fetch_text, fetch_out};

@@ -20,7 +20,7 @@ pub fetch-w-requires : goal.fetch-w-requires
 fetch-w-requires c = c.requires.valid.work
 
 abbrev start : After-fetch-w → Start
-start f = search
+start f = f.before.before.before.before
 
 -- how many bytes were written
 counts : (f : After-fetch-w) → let s = (start f).args in f.fetch-w.result.length ≡ length (fetch_text s.self.state (length s.out.now))

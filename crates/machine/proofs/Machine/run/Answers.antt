@@ -22,7 +22,7 @@ abbrev Start : Type 0
 Start = Lts.Start Tie.the-claims Reads.Pre Reads.Post
 
 abbrev start : After-gather-g → Start
-start g = search
+start g = g.before.before.before.before
 
 abbrev ran : Stopped → Ran
 ran g = ran_of g.state g.at (cond (eqb g.number list_full) 0 g.number)

@@ -69,7 +69,7 @@ returns-then-r-eq4 c =
 -- where it is none of the four
 module _ (t : Else-r-eq4) where
   abbrev S : Start
-  S = search
+  S = t.before.before.before.before.before.before.before.before.before.before.before.before
 
   none : work_sound S.args.r S.args.across S.args.along S.args.start ≡ blank_sound S.args.r && blanks_sound S.args.across S.args.along S.args.start
   unfolding work_sound
