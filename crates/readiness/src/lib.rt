@@ -1,5 +1,7 @@
 // Whether a call may go on with the lists that it was handed: one that is too short is answered with 41, then one that is no machine with 40.
 // specs/Ready.antt says which lists are a machine, specs/ReadyLaws.antt that each list which the calls leave is one.
+#![tactic(auto)]
+
 ghost use Rattle.std.specs.Prelude.{◌≡◌, length};
 ghost use Rattle.readiness.specs.Ready.{list_numbers, machine_stands, ready_of};
 
