@@ -1,4 +1,6 @@
 // Feed (document 01, "The calls"): bytes in, strokes out into a lent list of records.
+#![tactic(auto)]
+
 ghost use Rattle.std.specs.Prelude.{◌≡◌, length};
 ghost use Rattle.feeding.specs.Feed.{feed_of, laid};
 ghost use Rattle.feed.specs.Fed.{fed_of, listed_of};
