@@ -1,4 +1,6 @@
 // The calls of a line of the program vectors: a machine goes through a sequence of bytes and marks, and the outcomes are printed.
+#![tactic(auto)]
+
 ghost use Rattle.hpgl.specs.Valid.{Usable};
 
 use crate::feeds::feed_codes;

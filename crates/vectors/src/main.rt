@@ -1,5 +1,7 @@
 // Runs byte sequences over the machine. Each line of standard input names the calls to make, and its outcome is printed in one line.
 // The head of the stored `stdin` says how a line is written, docs/VECTORS.md where the outcomes in the stored `stdout` come from.
+#![tactic(auto)]
+
 ghost use Rattle.hpgl.specs.Valid.{Usable};
 
 use clip::Rect;
