@@ -20,9 +20,8 @@ use Rattle.hpgl.specs.declared.State.{State}
 use Rattle.hpgl.specs.declared.Work.{Work}
 use Rattle.hpgl.specs.declared.Work.TheVariants as work
 use Rattle.hpgl.specs.declared.Segment.TheVariants as segment
-use Rattle.hpgl.specs.Change.{with_work}
 use Rattle.hpgl.proofs.Cases.{never}
-use Rattle.hpgl.specs.Machine.{no_edge, waiting, replied, replying, occupied, take_state, take_number, draw_state, draw_answer, fetch_state, fetch_text}
+use Rattle.hpgl.specs.Machine.{no_edge, waiting, replied, replying, occupied, take_state, take_number, draw_state, draw_answer, fetch_state}
 use Rattle.hpgl.proofs.FetchLaws.{fetch-none, fetch-whole}
 use Rattle.hpgl.proofs.ReplyLaws.{reply-short}
 use Rattle.hpgl.specs.Segment.{chord_segment, edge_segment, work_segment, segment_of}

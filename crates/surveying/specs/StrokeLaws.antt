@@ -1,7 +1,7 @@
 -- What the loops of survey leave of the strokes: a run and a plot take bytes one by one, and bytes without letters outside an instruction draw nothing.
 use Rattle.std.specs.Prelude.{Bool, true, false, cond, ◌⊎◌, ◌≡◌, eqb, ℤ, length, take}
 use mathlib.Core.List.{List, [], ◌∷◌, ◌++◌}
-use Rattle.std.proofs.Common.{inl, inr, ◌∙◌, arith, eq-eqb, eqb-true, take-append-drop, drop_of_length-le, drop-drop}
+use Rattle.std.proofs.Common.{inl, inr, ◌∙◌, arith, eq-eqb, take-append-drop, drop_of_length-le, drop-drop}
 use Rattle.std.proofs.Math.Path.{refl, sym, ap}
 use Prim.Native.Nat.{ℕ, zero, suc, ◌+◌, ◌≤◌, ◌<◌}
 use Rattle.std.proofs.Math.ListN.{drop}
@@ -12,7 +12,6 @@ use Rattle.hpgl.specs.Machine.{waiting, occupied, take_state, take_number, draw_
 use Rattle.hpgl.proofs.FetchLaws.{fetch-none}
 use Rattle.hpgl.specs.Segment.{segment_of}
 use Rattle.hpgl.specs.Valid.{Every, more}
-use Rattle.feeding.specs.DrawOff.{untaken}
 use Rattle.feeding.proofs.DrawOffLaws.{draw-less, free-taken}
 use Rattle.feeding.specs.Feed.{counted}
 use Rattle.feeding.specs.Plot.{Plot, took, plot_from}
@@ -32,7 +31,7 @@ use Rattle.repeats.specs.Laws.{painted-append, painted-none}
 use Rattle.counting.specs.declared.tally.Tally.{Tally}
 use Rattle.surveying.specs.declared.Drawing.{Drawing}
 use Rattle.surveying.specs.declared.Watched.{Watched}
-use Rattle.surveying.specs.Drawing.{waits_of, drawn_off, reply_bytes, fetched_off, judged_of, refusals_after, went_on, bytes_from, block_of, enter, piece_done, stretch}
+use Rattle.surveying.specs.Drawing.{waits_of, drawn_off, reply_bytes, fetched_off, went_on, bytes_from, block_of, enter, piece_done, stretch}
 use Rattle.surveying.specs.Laws.{Plain, plain-class, work-waits, silent, run-stays, one_on, Far, bytes, letters, whole}
 use Rattle.surveying.specs.Strokes.{rows_of, drawn_state, strokes_off, strokes_at, settled, state_after, strokes_from}
 

@@ -1,6 +1,8 @@
 // A drawing from its first byte to its last: the machine runs up to a refusal or to what waits; each segment is counted as it is drawn, and each reply as it is fetched.
 // A machine is large, and to hand it over and back takes as long as to read dozens of bytes: those without letters, of which nothing but refusals can
 // come, are taken a stretch at a time.
+#![tactic(auto)]
+
 ghost use Rattle.std.specs.Prelude.{false, ◌≡◌, ◌*◌, ◌≤◌, length, take};
 ghost use Rattle.hpgl.specs.Machine.{waiting, occupied};
 ghost use Rattle.hpgl.specs.Valid.{Usable};

@@ -1,0 +1,21 @@
+-- Each turn does a piece, and what is left comes to the same.
+use mathlib.Core.Path.{◌≡◌}
+use mathlib.Core.Bool.{false}
+use Prim.Native.Nat.{◌+◌, ◌≤◌}
+use lib.ListN.{length, drop}
+use Rattle.hpgl.specs.Machine.{occupied}
+use Rattle.hpgl.specs.Valid.{Usable}
+use Rattle.surveying.specs.Drawing.{watched_from}
+use Rattle.repeats.specs.Repeats.{painted_all}
+use Rattle.surveying.specs.Strokes.{strokes_from}
+use Rattle.surveying.proofs.pieces.Given as goal
+
+abbrev pub invariant-loop-turns : goal.invariant-loop-turns
+invariant-loop-turns l =
+    (watched_from (length l.block) l.initial.far l.block ≡ watched_from l.turns l.far (drop l.at l.block)) × Usable l.far.drawing.machine.state × (occupied l.far.drawing.machine.state.work ≡ false)
+    × (length l.lines ≡ length l.initial.lines)
+    × (length l.block ≤ l.at + l.turns)
+    × (painted_all l.initial.lines (strokes_from l.initial.far.drawing.machine.state l.block) ≡ painted_all l.lines (strokes_from l.far.drawing.machine.state (drop l.at l.block)))
+
+abbrev pub decreases-loop-turns : goal.decreases-loop-turns
+decreases-loop-turns l = l.turns
