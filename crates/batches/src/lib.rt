@@ -1,4 +1,6 @@
 // Feed by batches: what gather stores as numbers, as records, up to 64 of them at a time, and whether feed goes on after them.
+#![tactic(auto)]
+
 ghost use Rattle.std.specs.Prelude.{◌≡◌, ◌&&◌, ◌+◌, ◌*◌, ◌≤◌, ◌<◌, eqb, ltb, length, take};
 ghost use Rattle.hpgl.specs.Valid.{Usable};
 ghost use Rattle.feeding.specs.DrawOff.{list_full};

@@ -5,7 +5,7 @@ use Rattle.hpgl.specs.declared.Core.{Core}
 use Rattle.hpgl.specs.declared.State.{State}
 use Rattle.hpgl.specs.Effects.{pen_number}
 use Rattle.hpgl.specs.Machine.{waiting}
-use Rattle.hpgl.specs.Valid.{Knows, ValidCore, Valid, Usable}
+use Rattle.hpgl.specs.Valid.{Knows, ValidCore, Usable}
 use Rattle.saved.specs.Places.{pen_place}
 use Rattle.saved.specs.Saved.{saved_of, loaded_of, pen_row}
 use Rattle.saved.proofs.SavedLaws.{saved-back}

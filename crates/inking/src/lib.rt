@@ -1,4 +1,6 @@
 // A machine with a pen in hand: what it draws where the machine itself draws nothing is what pen 0 loses.
+#![tactic(auto)]
+
 ghost use Rattle.std.specs.Prelude.{◌≡◌, length};
 ghost use Rattle.hpgl.specs.Machine.{waiting};
 ghost use Rattle.hpgl.specs.Valid.{Usable};

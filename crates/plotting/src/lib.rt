@@ -1,5 +1,7 @@
 // What the program strokes prints: bytes in blocks, and their lines into a lent buffer, each reply among them as soon as it is made. The crate printed
 // has the lines, specs/Plotted.antt what a part of the printing does.
+#![tactic(auto)]
+
 ghost use Rattle.std.specs.Prelude.{true, ◌≡◌, ◌+◌, ◌*◌, ◌^◌, ◌≤◌, ◌<◌, length};
 ghost use Rattle.hpgl.specs.Numbers.{most_reply};
 ghost use Rattle.hpgl.specs.Machine.{fetch_text};

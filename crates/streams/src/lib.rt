@@ -9,7 +9,7 @@ ghost use Rattle.io.specs.Counts.{IsPrefixLen};
 
 use std::fs;
 use std::fs::File;
-use std::io::{Error, ErrorKind, Print, Read, Result, Stderr, Stdin, Write};
+use std::io::{Error, ErrorKind, Read, Result, Stderr, Stdin, Write};
 
 const TRIES: u64 = 0x800000000000;
 
@@ -182,12 +182,32 @@ pub fn write_all<W: Write>(file: &mut Stream<W>, text: &[u8]) -> bool
     true
 }
 
+// The words of an error, without the number that std writes after them, as in `Input/output error (os error 5)`: how many bytes they have, which stand
+// at the start of the buffer.
+fn words_of(error: i32, buffer: &mut [u8; 256]) -> usize
+    ensures { result ≤ 256 }
+{
+    let mut rest: &mut [u8] = buffer;
+    let _ = write!(rest, "{}", Error::from_raw_os_error(error));
+    let left = rest.len();
+    let mut end = 256usize.saturating_sub(left);
+    for at in 0..256 {
+        if buffer[at] == b'(' && 0 < at && at <= end {
+            end = at - 1;
+        }
+    }
+    end
+}
+
 // Says on standard error what failed, by its name, and why, by the number of the error. Where that cannot be said, nobody is left to hear it.
 pub fn tell(to: Stderr, name: &[u8], error: i32) {
+    let mut words = [0u8; 256];
+    let n = words_of(error, &mut words);
     let mut file = Stream::new(to);
     write_all(&mut file, name);
     write_all(&mut file, b": ");
-    let _ = to.println(Error::from_raw_os_error(error));
+    write_all(&mut file, &words[..n]);
+    write_all(&mut file, b"\n");
 }
 
 #[cfg(test)]

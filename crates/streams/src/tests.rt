@@ -1,7 +1,7 @@
 // A reader and a writer that fail now and then: what passes by is tried again, and what does not is told with its error, and nothing is lost or doubled.
 ghost use Rattle.std.specs.Prelude.{IfOk, ◌≤◌};
 
-use super::{Stream, read, read_full, write_all};
+use super::{Stream, read, read_full, words_of, write_all};
 use std::io;
 use std::io::{Error, Read, Write};
 
@@ -107,4 +107,11 @@ fn a_write_fails(rt: HostRuntime) {
     });
     assert!(rt; !write_all(&mut file, &[1, 2, 3, 4]));
     assert_eq!(rt; (file.inner.moved, file.error), (1, BROKEN));
+}
+
+#[test]
+fn tells_the_words_alone(rt: HostRuntime) {
+    let mut words = [0u8; 256];
+    let n = words_of(BROKEN, &mut words);
+    assert_eq!(rt; &words[..n], &b"Input/output error"[..]);
 }

@@ -1,5 +1,4 @@
 -- The proof of `next_batch`: feed with r + q records is feed with r, those of a batch, and then with the q that are left (`feed-room`).
-use borrow.Author.Rules.{rules}
 use mathlib.Core.Path.{◌≡◌, refl, sym, ap, ◌∙◌, subst}
 use mathlib.Core.Bool.{Bool, true, false, cond, ◌&&◌, false≢true}
 use mathlib.Core.List.{List, ◌++◌, append-nil}
@@ -23,8 +22,16 @@ use Rattle.batches.specs.declared.Fed.{Fed}
 use Rattle.batches.specs.declared.Batch.{Batch}
 use Rattle.batches.specs.Batches.{goes_on, ended, rest, Batched}
 use Rattle.batches.specs.Records.{strokes_of, PenAt, PensBefore, laid-long, records-back, pens-back}
-use Rattle.batches.proofs.next_batch.Statement.{statement}
-use Rattle.batches.proofs.next_batch.Tie as tie
+use Rattle.batches.proofs.next_batch.Goals as goal
+use Rattle.batches.proofs.next_batch.Lts
+use Rattle.batches.proofs.next_batch.Tie
+use Rattle.batches.proofs.next_batch.Reads
+
+abbrev After-gather-g : Type 0
+After-gather-g = Lts.After-gather Tie.the-claims Reads.Pre Reads.Post Tie.handed_clauses
+
+abbrev Start : Type 0
+Start = Lts.Start Tie.the-claims Reads.Pre Reads.Post Tie.handed_clauses
 
 -- ---- a batch of `most` records
 
@@ -113,8 +120,8 @@ fifth : (most k : ℕ) → k ≡ most * 5 → k / 5 ≡ most
 fifth most k e = omega (arith, e)
 
 -- what is known once the numbers are gathered
-module _ (g : tie.After-gather) where
-  abbrev s : tie.Start
+module _ (g : After-gather-g) where
+  abbrev s : Start
   s = g.before.before.before.before.before.before.before
 
   abbrev f : Fed
@@ -124,26 +131,26 @@ module _ (g : tie.After-gather) where
   bytes = s.args.bytes.now
 
   abbrev most : ℕ
-  most = g.before.before.before.batch-room.result
+  most = g.batch_room-most.result
 
   -- at most 64, at most those that are free, and if fewer than 64 then all of those
   abbrev sized : (most ≤ 64) × ((most ≤ s.args.room - f.stored) × (most < 64 → most ≡ s.args.room - f.stored))
-  sized = g.before.before.before.batch-room.ensures
+  sized = g.batch_room-most.ensures
 
   abbrev zeros : List ℤ
-  zeros = g.before.before.zeros.result
+  zeros = g.zeros-numbers.result
 
   -- feed, with the batch's records
   abbrev did : Feed
   did = part f bytes s.args.room most
 
   lent-long : length (take (most * 5) zeros) ≡ most * 5
-  lent-long = part-long most zeros sized.0 g.before.before.zeros.ensures
+  lent-long = part-long most zeros sized.0 g.zeros-numbers.ensures
 
-  gathered : g.gather.result ≡ gathered_of did
-  gathered = g.gather.ensures.0 ∙ ap (λ (k : ℕ). gathered_of (feed_from f.machine.state (drop f.taken bytes) f.taken k)) (fifth most _ lent-long)
+  gathered : g.gather-g.result ≡ gathered_of did
+  gathered = g.gather-g.ensures.value ∙ ap (λ (k : ℕ). gathered_of (feed_from f.machine.state (drop f.taken bytes) f.taken k)) (fifth most _ lent-long)
 
-  counted : g.gather.result.stored ≡ length did.strokes
+  counted : g.gather-g.result.stored ≡ length did.strokes
   counted = ap (λ (r : Gathered). r.stored) gathered
 
   few : length did.strokes ≤ most
@@ -154,96 +161,58 @@ module _ (g : tie.After-gather) where
   laid = laid_numbers did.strokes (take (most * 5) zeros)
 
   abbrev numbers : List ℤ
-  numbers = g.gather.last.1.1.1.0 ++ drop (most * 5) zeros
+  numbers = g.gather-g.new.numbers ++ drop (most * 5) zeros
 
   numbers-are : numbers ≡ laid ++ drop (most * 5) zeros
   numbers-are =
       ap (λ (l : List ℤ). l ++ drop (most * 5) zeros)
-      (g.gather.ensures.1 ∙ ap (λ (k : ℕ). laid_numbers (feed_from f.machine.state (drop f.taken bytes) f.taken k).strokes (take (most * 5) zeros)) (fifth most _ lent-long))
+      (g.gather-g.ensures.numbers_after ∙ ap (λ (k : ℕ). laid_numbers (feed_from f.machine.state (drop f.taken bytes) f.taken k).strokes (take (most * 5) zeros)) (fifth most _ lent-long))
 
   numbers-long : length numbers ≡ 320
   numbers-long =
       ap length numbers-are ∙ length_front zeros laid (most * 5) (laid-long did.strokes (take (most * 5) zeros) (omega (arith, lent-long, few)))
-      ∙ g.before.before.zeros.ensures
+      ∙ g.zeros-numbers.ensures
 
-  penned : PensBefore numbers g.gather.result.stored
+  penned : PensBefore numbers g.gather-g.result.stored
   penned i h =
       subst (λ (l : List ℤ). PenAt l i) (sym numbers-are)
       (pens-back did.strokes (take (most * 5) zeros) (drop (most * 5) zeros)
-      (feed-pens f.machine.state (drop f.taken bytes) f.taken most s.pre.0.valid) i (omega (arith, h, counted)))
+      (feed-pens f.machine.state (drop f.taken bytes) f.taken most s.requires.0.valid) i (omega (arith, h, counted)))
 
   -- the records are the strokes
-  listed : (list : List Stroke) → take g.gather.result.stored list ≡ strokes_of numbers g.gather.result.stored → take (length did.strokes) list ≡ did.strokes
+  listed : (list : List Stroke) → take g.gather-g.result.stored list ≡ strokes_of numbers g.gather-g.result.stored → take (length did.strokes) list ≡ did.strokes
   listed list e =
-      ap (λ (k : ℕ). take k list) (sym counted) ∙ e ∙ ap (λ (l : List ℤ). strokes_of l g.gather.result.stored) numbers-are
+      ap (λ (k : ℕ). take k list) (sym counted) ∙ e ∙ ap (λ (l : List ℤ). strokes_of l g.gather-g.result.stored) numbers-are
       ∙ ap (strokes_of (laid ++ drop (most * 5) zeros)) counted ∙ records-back did.strokes (take (most * 5) zeros) (drop (most * 5) zeros)
 
   abbrev goes : Gathered → Bool
   goes r = eqb r.number list_full && ltb (f.stored + r.stored) s.args.room
 
   -- the batch that is answered
-  answer : (more : Bool) (list : List Stroke) → more ≡ goes g.gather.result → take g.gather.result.stored list ≡ strokes_of numbers g.gather.result.stored →
-      Batched bytes s.args.room f (batchOf f bytes s.args.room most g.gather.result more list)
+  answer : (more : Bool) (list : List Stroke) → more ≡ goes g.gather-g.result → take g.gather-g.result.stored list ≡ strokes_of numbers g.gather-g.result.stored →
+      Batched bytes s.args.room f (batchOf f bytes s.args.room most g.gather-g.result more list)
   answer more list e h =
       subst (Batched bytes s.args.room f)
-      (ap (λ (r : Gathered). batchOf f bytes s.args.room most r (goes r) list) (sym gathered) ∙ ap (λ (z : Bool). batchOf f bytes s.args.room most g.gather.result z list) (sym e))
-      (batched f bytes s.args.room most s.pre.1 sized.1.0 sized.1.1 list (listed list h) sized.0 s.pre.0)
+      (ap (λ (r : Gathered). batchOf f bytes s.args.room most r (goes r) list) (sym gathered) ∙ ap (λ (z : Bool). batchOf f bytes s.args.room most g.gather-g.result z list) (sym e))
+      (batched f bytes s.args.room most s.requires.1 sized.1.0 sized.1.1 list (listed list h) sized.0 s.requires.0)
 
-sub-batch-room : tie.Need-overflow-sub-batch-room
-sub-batch-room c = search rules
+pub slice_bounds-gather-end : goal.slice_bounds-gather-end
+slice_bounds-gather-end c = sym (part-long _ _ c.batch_room-most.ensures.0 c.zeros-numbers.ensures)
 
-batch-room-requires : tie.Need-batch-room-requires
-batch-room-requires c κs = search rules
+pub slice_bounds-records-end : goal.slice_bounds-records-end
+slice_bounds-records-end c = sym (numbers-long c.before.before.before)
 
-zeros-requires : tie.Need-zeros-requires
-zeros-requires c κs = search rules
-
-mul-numbers : tie.Need-overflow-mul-numbers
-mul-numbers c = search rules
-
-array-borrow-prefix-numbers : tie.Need-array-borrow-prefix-numbers
-array-borrow-prefix-numbers c = search rules
-
-slice-aggregate-gather : tie.Need-slice-aggregate-gather
-slice-aggregate-gather c = sym (part-long _ _ c.before.before.batch-room.ensures.0 c.before.zeros.ensures)
-
-gather-requires : tie.Need-gather-requires
-gather-requires c κs = search rules
-
-slice-aggregate-records : tie.Need-slice-aggregate-records
-slice-aggregate-records c = sym (numbers-long c.before.before)
-
-records-requires : tie.Need-records-requires
-records-requires c κs =
-    let g = c.before.before in
+pub records-list-requires : goal.records-list-requires
+records-list-requires c =
+    let g = c.before.before.before in
     (omega (arith, counted g, few g, (sized g).0), (omega (arith, counted g, few g, (sized g).0, numbers-long g), penned g))
 
-add-stored : tie.Need-overflow-add-stored
-add-stored c =
-    let g : tie.After-gather = search in
-    omega (arith, counted g, few g, (sized g).1.0, (s g).pre.1, (s g).fits.room)
+pub overflow_add-stored : goal.overflow_add-stored
+overflow_add-stored c =
+    let g = c.before.before.before.before.before.before in
+    omega (arith, counted g, few g, (sized g).1.0, (s g).requires.1, (s g).ranges.room)
 
-goes-on-requires : tie.Need-goes-on-requires
-goes-on-requires c κs = search rules
-
-returns : tie.Need-returns
+pub returns : goal.returns
 returns c =
-    let g : tie.After-gather = search in
-    answer g c.before.goes_on.result c.before.before.before.before.records.result c.before.goes_on.ensures c.before.before.before.before.records.ensures
-
-pub next-batch-spec : {M : Type 1} → statement M
-next-batch-spec =
-    tie.close
-    (tie.spec
-    sub-batch-room
-    batch-room-requires
-    zeros-requires
-    mul-numbers
-    array-borrow-prefix-numbers
-    slice-aggregate-gather
-    gather-requires
-    slice-aggregate-records
-    records-requires
-    add-stored
-    goes-on-requires
-    returns)
+    let g = c.before.before.before.before.before.before.before.before in
+    answer g c.goes_on-more.result c.records-list.result c.goes_on-more.ensures c.records-list.ensures
