@@ -1,6 +1,8 @@
 // The machine for programs in C and Rust. A slice crosses as a pointer and a length, and the machine is kept by the caller, as a list of numbers: a header and what `save` writes.
 // The calls are for all lists. One that is too short is answered with 41, then one that is no machine with 40; then nothing is written.
 // specs/Calls.antt has one definition for what each call leaves; the crate readiness has that each list which the calls leave is a machine. include/vutaroi.h is the same in C's words.
+#![tactic(auto)]
+
 ghost use Rattle.std.specs.Prelude.{◌≡◌};
 ghost use Rattle.hpgl.specs.Machine.{rect};
 ghost use Rattle.vutaroi.specs.Calls.{fresh_call, take_call, draw_call, look_call, fetch_call, feed_call, plot_call, write_call};
