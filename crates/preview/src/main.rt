@@ -1,5 +1,7 @@
 // The program preview: HP-GL in, a picture of its strokes as SVG on standard output: the sheet with a grid in metres, and above it what is painted and what is
 // refused.
+#![tactic(auto)]
+
 ghost use Rattle.hpgl.specs.Valid.{Usable};
 
 use arguments::desk::{asked, ready, refused};

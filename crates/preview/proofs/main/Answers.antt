@@ -1,0 +1,6 @@
+-- A machine of fresh may be used.
+use Rattle.plotting.specs.PlottedLaws.{started-usable}
+use Rattle.preview.proofs.main.Goals as goal
+
+pub page-requires : goal.page-requires
+page-requires c = started-usable _ c.fresh-started.ensures
