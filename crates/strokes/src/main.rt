@@ -1,5 +1,7 @@
 // The program strokes of document 01: HP-GL in, a line for each stroke and each refused byte on standard output, and each reply (document 02, CR 5) as
 // soon as it is made: a package may send OA; and wait.
+#![tactic(auto)]
+
 use arguments::desk::{asked, ready, unread};
 use delivery::files::{End, Sink, run};
 use streams::{Stream, write_all};
