@@ -1,4 +1,3 @@
--- The proof of `mode_letter`: by its arms.
 use Rattle.exact.proofs.Rules.{rules}
 use Rattle.saved.specs.SavedReader.{mode_letter}
 use Rattle.saving.proofs.instruction.mode_letter.Goals as goal

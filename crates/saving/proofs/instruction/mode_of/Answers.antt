@@ -1,4 +1,3 @@
--- The proof of `mode_of`: by its tests.
 use Rattle.exact.proofs.Rules.{rules}
 use Rattle.saved.specs.SavedReader.{mode_of}
 use Rattle.saving.proofs.instruction.mode_of.Goals as goal

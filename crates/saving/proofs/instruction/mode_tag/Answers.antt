@@ -1,4 +1,3 @@
--- The proof of `mode_tag`: by its arms.
 use Rattle.exact.proofs.Rules.{rules}
 use Rattle.saved.specs.SavedReader.{mode_tag}
 use Rattle.saving.proofs.instruction.mode_tag.Goals as goal

@@ -1,4 +1,3 @@
--- The proof of `number_row`: each part is a number of the row.
 use Rattle.exact.proofs.Rules.{rules}
 use Rattle.saved.specs.SavedReader.{number_row}
 use Rattle.saving.proofs.instruction.number_row.Goals as goal

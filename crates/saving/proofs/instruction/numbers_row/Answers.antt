@@ -1,4 +1,3 @@
--- The proof of `numbers_row`: each part is a number of the row.
 use Rattle.exact.proofs.Rules.{rules}
 use Rattle.saved.specs.SavedReader.{numbers_row}
 use Rattle.saving.proofs.instruction.numbers_row.Goals as goal

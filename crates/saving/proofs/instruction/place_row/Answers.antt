@@ -1,4 +1,3 @@
--- The proof of `place_row`: each part is a number of the row.
 use Rattle.exact.proofs.Rules.{rules}
 use Rattle.saved.specs.SavedReader.{place_row}
 use Rattle.saving.proofs.instruction.place_row.Goals as goal
