@@ -1,5 +1,7 @@
 // The program survey: HP-GL in, one page of text on standard output: what is painted, what is cut off, what is refused, and whether the drawing is fit to
 // paint.
+#![tactic(auto)]
+
 ghost use Rattle.std.specs.Prelude.{false, ◌≡◌};
 ghost use Rattle.hpgl.specs.Machine.{occupied};
 ghost use Rattle.hpgl.specs.Valid.{Usable};
