@@ -1,4 +1,4 @@
-/* An HP-GL machine for painting rink lines: bytes in, strokes and replies out. Link with libvutaroi.a, which `rt staticlib vutaroi` proves and writes.
+/* An HP-GL machine for painting rink lines: bytes in, strokes and replies out. Link with libvutaroi.a, which `tools/build vutaroi` proves and writes.
  *
  * Who owns what. The caller owns every list and lends it for the length of a call; the library keeps nothing between calls, allocates nothing
  * and starts no thread. A list is a pointer and a count of its elements. A machine is a vutaroi_machine, lent with the count VUTAROI_NUMBERS:

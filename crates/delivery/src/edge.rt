@@ -3,7 +3,7 @@
 // lends to them: a read whose answer is thrown away has moved it all the same, and so has a text.
 ghost use Rattle.std.specs.Prelude.{◌≡◌, ◌+◌, ◌%◌, ◌^◌, ◌<◌, ◌≤◌, false, length};
 ghost use Rattle.io.specs.Counts.{IsPrefixLen};
-ghost use Rattle.delivery.specs.Compared.{common as commonOf, line_ends};
+ghost use Rattle.delivery.specs.Compared.{common as common_of, line_ends};
 ghost use Rattle.delivery.specs.Ran.{Next};
 ghost use Rattle.delivery.specs.Tally.{read_of, handed_of, same_of, Kept};
 
@@ -42,7 +42,7 @@ pub fn read_block(file: &mut Stream<Source>, block: &mut [u8], tally: &mut Tally
 
 // How many bytes two texts have in common at their start.
 fn common(a: &[u8], b: &[u8]) -> usize
-    ensures value { result ≡ commonOf a.now b.now }
+    ensures value { result ≡ common_of a.now b.now }
     ensures upper_bound { result ≤ length a.now }
 {
     let mut i = 0;

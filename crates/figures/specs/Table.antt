@@ -767,7 +767,7 @@ checked =
     taken ten "SP1;PU5000,5000;CI100,7;" (replicate 52 hidden ++ (up 5000 5000 1 0 ∷ [])) ∷
     -- (l) Radius 1000, angle 60, at (0,0): vertex one (500, 866)
     take "SP1;CI1000,60;" (stroke 1 (pos 1000) (pos 0) (pos 500) (pos 866) ∷ stroke 1 (pos 500) (pos 866) (minus 500) (pos 866) ∷ stroke 1 (minus 500) (pos 866) (minus 1000) (pos 0) ∷ stroke 1 (minus 1000) (pos 0) (minus 500) (minus 866) ∷ stroke 1 (minus 500) (minus 866) (pos 500) (minus 866) ∷ stroke 1 (pos 500) (minus 866) (pos 1000) (pos 0) ∷ up 0 0 1 0 ∷ []) ∷
-    -- (m) 32767.9999 passes, 32768 gives 3; −32768 passes, −32768.0001 gives 3: the ends of numerals' `inRange`, to which its law `in-range` holds what is read
+    -- (m) 32767.9999 passes, 32768 gives 3; −32768 passes, −32768.0001 gives 3: the ends of numerals' `in_range`, to which its law `in-range` holds what is read
     ends "PA32767.9999,0;" (up 32768 0 0 0) ∷
     stops "PA32768,0;" 3 8 (up 0 0 0 0) ∷
     ends "PA-32768,0;" (seen (minus 32768) (pos 0) 0 false 0) ∷
