@@ -1,4 +1,4 @@
-// Filling: where the rows of a filled polygon cross its sides. specs/Filling.antt says what, specs/..Laws.antt what holds of it.
+// Filling: where the rows of a filled polygon cross its sides. specs/Filling.antt says what, proofs/..Laws.antt what holds of it.
 #![tactic(auto)]
 
 ghost use Rattle.std.specs.Prelude.{◌≡◌, ◌+◌, ◌<◌, pos, take};

@@ -33,7 +33,7 @@ use Rattle.feeding.specs.Plot.{Plot, took, plot_from, numbers_of, laid_marks}
 use Rattle.feeding.proofs.PlotLaws.{at-end, at-stuck, at_byte, took-none, took-refused, plot-place, plot-stored, plot-usable}
 use Rattle.stretches.specs.Stretch.{is_letter, NoLetter, Outside}
 use Rattle.gathering.specs.GatherLaws.{free-idle, idle-free, reply-held}
-use Rattle.stretches.specs.StretchLaws.{outside-free, take-outside, take-unknown, refused-outside, stretch-refuses}
+use Rattle.stretches.proofs.StretchLaws.{outside-free, take-outside, take-unknown, refused-outside, stretch-refuses}
 use Rattle.machine.specs.declared.Machine.{Machine}
 use Rattle.machine.specs.declared.Ran.{Ran}
 use Rattle.machine.specs.declared.Gathered.{Gathered}

@@ -18,7 +18,7 @@ use Rattle.feeding.specs.Plot.{Plot, took, plot_from}
 use Rattle.feeding.proofs.PlotLaws.{at-end, at-stuck, at_byte, took-none, took-refused}
 use Rattle.gathering.specs.GatherLaws.{free-idle}
 use Rattle.stretches.specs.Stretch.{NoLetter, Outside}
-use Rattle.stretches.specs.StretchLaws.{outside-free, take-outside, take-unknown}
+use Rattle.stretches.proofs.StretchLaws.{outside-free, take-outside, take-unknown}
 use Rattle.machine.specs.declared.Machine.{Machine}
 use Rattle.machine.specs.declared.Ran.{Ran}
 use Rattle.machine.specs.declared.Gathered.{Gathered}

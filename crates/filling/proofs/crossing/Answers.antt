@@ -9,7 +9,7 @@ use Rattle.exact.specs.Fit.{Num, m64, val, put, fit, ret, sized, ◌⊕◌, ◌�
 use Rattle.exact.specs.Divide.{nearest_div}
 use Rattle.exact.proofs.NearestLaws.{nearest-size}
 use Rattle.clip.specs.Reach.{reach, most_extent, most_steps}
-use Rattle.filling.specs.CrossingLaws.{crossing-nearest, crossing-level}
+use Rattle.filling.proofs.CrossingLaws.{crossing-nearest, crossing-level}
 use Rattle.filling.proofs.crossing.Goals as goal
 use Rattle.filling.proofs.crossing.Lts
 use Rattle.filling.proofs.crossing.Tie

@@ -10,7 +10,7 @@ use Rattle.exact.specs.Fit.{Num, m64, arg, val, num, put, fit, ret, lt-is, â—ŒâŠ
 use Rattle.turns.specs.Turn.{lesser_of}
 use Rattle.filling.specs.Filling.{first_row, past_row, met_below}
 use Rattle.filling.specs.Bounds.{most_row, first-size, past-size, less-size}
-use Rattle.filling.specs.CountLaws.{natural, no-natural}
+use Rattle.filling.proofs.CountLaws.{natural, no-natural}
 use Rattle.filling.proofs.rows_below.Goals as goal
 use Rattle.filling.proofs.rows_below.Lts
 use Rattle.filling.proofs.rows_below.Tie

@@ -8,7 +8,7 @@ use mir.Val.{SFits}
 use Rattle.exact.specs.Fit.{Num, m64, arg, put, fit, ret, ◌⊖◌}
 use Rattle.filling.specs.Filling.{first_row, past_row}
 use Rattle.filling.specs.Bounds.{most_row, first-size, past-size}
-use Rattle.filling.specs.CountLaws.{rows-natural}
+use Rattle.filling.proofs.CountLaws.{rows-natural}
 use Rattle.filling.proofs.rows_met.Goals as goal
 use Rattle.filling.proofs.rows_met.Lts
 use Rattle.filling.proofs.rows_met.Tie

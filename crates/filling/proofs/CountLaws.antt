@@ -13,7 +13,7 @@ use Rattle.clip.specs.Line.{Frac}
 use Rattle.turns.specs.Turn.{lesser_of, greater_of}
 use Rattle.turns.proofs.BoxLaws.{lesser-by, lesser-≤, greater-≥}
 use Rattle.filling.specs.Filling.{Pair, row_at, lower, upper, meets, crossings, row_pairs, row_from, first_row, past_row, least_row, past_rows, pairs_from, fill_pairs, rows_met, all_met, pair_count, met_below, all_below, pairs_below}
-use Rattle.filling.specs.RingLaws.{one, one_more, none-crosses, Closed, all-paired}
+use Rattle.filling.proofs.RingLaws.{one, one_more, none-crosses, Closed, all-paired}
 use Rattle.filling.specs.declared.Side.{Side}
 
 weak : {a b : ℤ} → a <ᶻ b → a ≤ᶻ b

@@ -13,7 +13,7 @@ use Rattle.clip.specs.Reach.{reach}
 use Rattle.turns.specs.Turn.{lesser_of, greater_of}
 use Rattle.turns.proofs.BoxLaws.{lesser-by, greater-by, lesser-≤, greater-≥}
 use Rattle.filling.specs.Filling.{meets, crossing}
-use Rattle.filling.specs.RingLaws.{differ, meets-by}
+use Rattle.filling.proofs.RingLaws.{differ, meets-by}
 use Rattle.filling.specs.Bounds.{SmallSide}
 use Rattle.filling.specs.declared.Side.{Side}
 

@@ -1,0 +1,4 @@
+pub mod RingLaws
+pub mod SortLaws
+pub mod CountLaws
+pub mod CrossingLaws
