@@ -1,3 +1,4 @@
+pub mod UsableOnce
 pub mod Calls
 pub mod Loadable
 pub mod Run

@@ -13,8 +13,7 @@ use Rattle.gathering.specs.GatherLaws.{free-idle}
 use Rattle.feeding.proofs.PartsOfFeed.{take-not-full}
 use Rattle.hpgl.specs.Made.{Made}
 use Rattle.hpgl.specs.Valid.{Usable}
-use Rattle.machine.specs.declared.Ran.{Ran}
-use Rattle.machine.specs.Run.{ran_of, run_of}
+use Rattle.machine.specs.Run.{Run, ran_of, run_of}
 
 -- no byte is taken twice, and none past the end
 pub run-place : (m : State) (bs : List ℕ) (at : ℕ) → (at ≤ (run_of m bs at).at) × ((run_of m bs at).at ≤ at + length bs)
@@ -41,15 +40,15 @@ run-takes m (b ∷ bs) at h k =
     go false h = omega arith
 
 -- where bytes are left, the last one was refused, or a segment waits
-pub run-rest : (m : State) (bs : List ℕ) (at : ℕ) → let r = run_of m bs at in r.at < at + length bs → r.number ≡ 0 → waiting r.machine.state.work ≡ 0 → ⊥
+pub run-rest : (m : State) (bs : List ℕ) (at : ℕ) → let r = run_of m bs at in r.at < at + length bs → r.number ≡ 0 → waiting r.state.work ≡ 0 → ⊥
 unfolding run_of
 run-rest m [] at = λ h k l. omega (arith, h)
 run-rest m (b ∷ bs) at = go (eqb (waiting m.work) 0) (eqb (take_number m b) 0) refl refl (run-rest (take_state m b) bs (at + 1))
   where
     go : (s t : Bool) → eqb (waiting m.work) 0 ≡ s → eqb (take_number m b) 0 ≡ t →
-        (let r = run_of (take_state m b) bs (at + 1) in r.at < at + 1 + length bs → r.number ≡ 0 → waiting r.machine.state.work ≡ 0 → ⊥) →
+        (let r = run_of (take_state m b) bs (at + 1) in r.at < at + 1 + length bs → r.number ≡ 0 → waiting r.state.work ≡ 0 → ⊥) →
         let r = cond s (cond t (run_of (take_state m b) bs (at + 1)) (ran_of (take_state m b) (counted (take_number m b) at) (take_number m b))) (ran_of m at 0) in
-        r.at < at + suc (length bs) → r.number ≡ 0 → waiting r.machine.state.work ≡ 0 → ⊥
+        r.at < at + suc (length bs) → r.number ≡ 0 → waiting r.state.work ≡ 0 → ⊥
     go true true e f g h k l = g (omega (arith, h)) k l
     go true false e f g h k l = eqb-false (take_number m b) 0 f k
     go false t e f g h k l = eqb-false (waiting m.work) 0 e l
@@ -57,50 +56,50 @@ run-rest m (b ∷ bs) at = go (eqb (waiting m.work) 0) (eqb (take_number m b) 0)
 -- ---- a run is a feed with no room for a stroke
 
 -- "list full" is no refusal of a run: a segment waits
-abbrev pub ran_by : Feed → Ran
-ran_by f = ran_of f.state f.taken (cond (eqb f.number list_full) 0 f.number)
+abbrev pub fed_run : Feed → Run
+fed_run f = ran_of f.state f.taken (cond (eqb f.number list_full) 0 f.number)
 
 waits-run : (m : State) (bs : List ℕ) (at : ℕ) → 0 < waiting m.work → run_of m bs at ≡ ran_of m at 0
 unfolding run_of
 waits-run m [] at h = refl
 waits-run m (b ∷ bs) at h = rw (ne_eqb (waiting m.work) 0 (λ e. omega (arith, e, h))) refl
 
-pub run-feeds : (m : State) (bs : List ℕ) (at : ℕ) → run_of m bs at ≡ ran_by (feed_from m bs at 0)
+pub run-feeds : (m : State) (bs : List ℕ) (at : ℕ) → run_of m bs at ≡ fed_run (feed_from m bs at 0)
 unfolding run_of
 run-feeds m [] at = by (waiting m.work) refl
   where
-    by : (k : ℕ) → waiting m.work ≡ k → ran_of m at 0 ≡ ran_by (feed_from m [] at 0)
+    by : (k : ℕ) → waiting m.work ≡ k → ran_of m at 0 ≡ fed_run (feed_from m [] at 0)
     by zero e = rw (at-end m at 0 e) refl
     by (suc k) e = rw (at-full m [] at (omega (arith, e))) refl
 run-feeds m (b ∷ bs) at = by (waiting m.work) refl (run-feeds (take_state m b) bs (at + 1))
   where
-    taken : (t : Bool) → eqb (take_number m b) 0 ≡ t → waiting m.work ≡ 0 → run_of (take_state m b) bs (at + 1) ≡ ran_by (feed_from (take_state m b) bs (at + 1) 0) →
-        cond t (run_of (take_state m b) bs (at + 1)) (ran_of (take_state m b) (counted (take_number m b) at) (take_number m b)) ≡ ran_by (feed_from m (b ∷ bs) at 0)
-    taken true e z h = h ∙ ap ran_by (sym (at_byte m at 0 z b bs (eqb-true (take_number m b) 0 e)))
+    taken : (t : Bool) → eqb (take_number m b) 0 ≡ t → waiting m.work ≡ 0 → run_of (take_state m b) bs (at + 1) ≡ fed_run (feed_from (take_state m b) bs (at + 1) 0) →
+        cond t (run_of (take_state m b) bs (at + 1)) (ran_of (take_state m b) (counted (take_number m b) at) (take_number m b)) ≡ fed_run (feed_from m (b ∷ bs) at 0)
+    taken true e z h = h ∙ ap fed_run (sym (at_byte m at 0 z b bs (eqb-true (take_number m b) 0 e)))
     taken false e z h =
         let f = ne_eqb (take_number m b) list_full (take-not-full m b) in
         rw (at-refused m at 0 z b bs (eqb-false (take_number m b) 0 e)) (rw f refl)
 
-    by : (k : ℕ) → waiting m.work ≡ k → run_of (take_state m b) bs (at + 1) ≡ ran_by (feed_from (take_state m b) bs (at + 1) 0) → run_of m (b ∷ bs) at ≡ ran_by (feed_from m (b ∷ bs) at 0)
+    by : (k : ℕ) → waiting m.work ≡ k → run_of (take_state m b) bs (at + 1) ≡ fed_run (feed_from (take_state m b) bs (at + 1) 0) → run_of m (b ∷ bs) at ≡ fed_run (feed_from m (b ∷ bs) at 0)
     by zero e h = rw (eq-eqb (waiting m.work) 0 e) (taken (eqb (take_number m b) 0) refl e h)
     by (suc k) e h =
         let w : 0 < waiting m.work = omega (arith, e) in
         waits-run m (b ∷ bs) at w ∙ rw (at-full m (b ∷ bs) at w) refl
 
 -- so the machine after it may be drawn, looked at and run again, and comes from the calls if the one before it does
-pub run-usable : (m : State) (bs : List ℕ) (at : ℕ) → Usable m → Usable (run_of m bs at).machine.state
+pub run-usable : (m : State) (bs : List ℕ) (at : ℕ) → Usable m → Usable (run_of m bs at).state
 run-usable m bs at w = rw (run-feeds m bs at) (feed-usable m bs at 0 w)
 
-pub run-made : (m : State) (bs : List ℕ) (at : ℕ) → ((k : ℕ) → get_or bs k 0 < 256) → Made m → Made (run_of m bs at).machine.state
+pub run-made : (m : State) (bs : List ℕ) (at : ℕ) → ((k : ℕ) → get_or bs k 0 < 256) → Made m → Made (run_of m bs at).state
 run-made m bs at h w = rw (run-feeds m bs at) (feed-made m bs at 0 h w)
 
 -- ---- a byte is a run of one
 
-pub run-one : (m : State) (b : ℕ) → waiting m.work ≡ 0 → let r = run_of m (b ∷ []) 0 in (r.machine.state ≡ take_state m b) × (r.number ≡ take_number m b)
+pub run-one : (m : State) (b : ℕ) → waiting m.work ≡ 0 → let r = run_of m (b ∷ []) 0 in (r.state ≡ take_state m b) × (r.number ≡ take_number m b)
 unfolding run_of
 run-one m b h = rw (eq-eqb (waiting m.work) 0 h) (go (eqb (take_number m b) 0) refl)
   where
     go : (t : Bool) → eqb (take_number m b) 0 ≡ t → let r = cond t (ran_of (take_state m b) 1 0) (ran_of (take_state m b) (counted (take_number m b) 0) (take_number m b)) in
-        (r.machine.state ≡ take_state m b) × (r.number ≡ take_number m b)
+        (r.state ≡ take_state m b) × (r.number ≡ take_number m b)
     go true e = (refl, sym (eqb-true (take_number m b) 0 e))
     go false e = (refl, refl)

@@ -7,5 +7,7 @@ pub load-requires : goal.load-requires
 load-requires c = c.requires.long
 
 pub returns : goal.returns
-returns c =
-    (c.load.ensures, subst Usable (sym c.load.ensures) c.requires.usable)
+returns c = c.load.ensures
+
+pub invariant_of-result : goal.invariant_of-result
+invariant_of-result c = record { usable = subst Usable (sym c.load.ensures) c.requires.usable }

@@ -5,7 +5,7 @@ use Rattle.machine.proofs.Machine.look.Goals as goal
 
 pub located-location-requires : goal.located-location-requires
 located-location-requires c =
-    let v = c.requires.valid.core in
+    let v = c.args.self.usable.valid.core in
     (v.settings, placed-locatable v.settings v.position)
 
 pub returns : goal.returns

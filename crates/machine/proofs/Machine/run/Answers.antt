@@ -1,45 +1,41 @@
 -- The proof of `run`: a feed with no room for a stroke (RunLaws.antt).
 use borrow.Author.Tests.{eq-eqb, ne_eqb}
-use mathlib.Core.Path.{◌≡◌, sym, ap, ◌∙◌}
+use mathlib.Core.Path.{sym, ap, subst, ◌∙◌}
 use mathlib.Core.Bool.{cond}
 use lib.Dec.{eqb}
-use lib.ListN.{drop}
 use Rattle.feeding.specs.DrawOff.{list_full}
+use Rattle.feeding.proofs.FeedLaws.{feed-usable}
 use Rattle.gathering.specs.declared.Stopped.{Stopped}
 use Rattle.gathering.specs.Gather.{gather_from}
-use Rattle.machine.specs.declared.Ran.{Ran}
-use Rattle.machine.specs.Run.{ran_of, run_of}
+use Rattle.hpgl.specs.declared.State.{State}
+use Rattle.hpgl.specs.Valid.{Usable}
+use Rattle.machine.specs.Run.{Run, ran_of}
 use Rattle.machine.specs.RunLaws.{run-feeds}
 use Rattle.machine.proofs.Machine.run.Goals as goal
-use Rattle.machine.proofs.Machine.run.Lts
-use Rattle.machine.proofs.Machine.run.Tie
-use Rattle.machine.proofs.Machine.run.Reads
 
-abbrev After-gather-g : Type 0
-After-gather-g = Lts.After-gather Tie.the-claims Reads.Pre Reads.Post
-
-abbrev Start : Type 0
-Start = Lts.Start Tie.the-claims Reads.Pre Reads.Post
-
-abbrev start : After-gather-g → Start
-start g = g.before.before.before.before
-
-abbrev ran : Stopped → Ran
+abbrev ran : Stopped → Run
 ran g = ran_of g.state g.at (cond (eqb g.number list_full) 0 g.number)
 
-answer : (g : After-gather-g) → let s = (start g).args in ran g.gather-g.result ≡ run_of s.self.state (drop s.from s.bytes.now) s.from
-unfolding gather_from
-answer g = ap ran g.gather-g.ensures.0 ∙ sym (run-feeds (start g).args.self.state _ (start g).args.from)
+abbrev state : Stopped → State
+state g = g.state
 
 pub gather-g-requires : goal.gather-g-requires
-gather-g-requires c = c.requires.valid
+gather-g-requires c = c.args.self.usable.valid
+
+pub invariant_of-machine : goal.invariant_of-machine
+unfolding gather_from
+invariant_of-machine c = record { usable = subst Usable (sym (ap state c.gather-g.ensures.0)) (feed-usable c.args.self.state _ _ _ c.args.self.usable) }
+
+pub invariant_of-machine-2 : goal.invariant_of-machine-2
+unfolding gather_from
+invariant_of-machine-2 c = record { usable = subst Usable (sym (ap state c.gather-g.ensures.0)) (feed-usable c.args.self.state _ _ _ c.args.self.usable) }
 
 pub returns-then-g-eq-LIST_FULL : goal.returns-then-g-eq-LIST_FULL
+unfolding gather_from
 returns-then-g-eq-LIST_FULL c =
-    let g = c.before.before.before.before.before in
-    rw (eq-eqb g.gather-g.result.number list_full c.if-g-eq-LIST_FULL.true) at (answer g)
+    rw (eq-eqb c.gather-g.result.number list_full c.if-g-eq-LIST_FULL.true) at (ap ran c.gather-g.ensures.0 ∙ sym (run-feeds c.args.self.state _ c.args.from))
 
 pub returns : goal.returns
+unfolding gather_from
 returns c =
-    let g = c.before.before.before.before.before in
-    rw (ne_eqb g.gather-g.result.number list_full c.if-g-eq-LIST_FULL.false) at (answer g)
+    rw (ne_eqb c.gather-g.result.number list_full c.if-g-eq-LIST_FULL.false) at (ap ran c.gather-g.ensures.0 ∙ sym (run-feeds c.args.self.state _ c.args.from))
