@@ -1,6 +1,6 @@
 -- Proofs only, for ExactnessLaws.antt: both axes of `clip`. Why it holds: a point is in the box if it is in both its ranges, and the larger of two entries is
 -- past both.
-use Rattle.std.specs.Prelude.{◌≡◌, refl, ◌⊎◌, ℕ, zero, suc, ◌+◌, ◌*◌, ◌-◌, ◌≤◌, ◌<◌, max, ℤ, pos}
+use Rattle.std.specs.Prelude.{◌≡◌, refl, ◌⊎◌, ℕ, zero, suc, ◌+◌, ◌*◌, ◌-◌, ◌≤◌, ◌<◌, max, ℤ, pos, Some, None}
 use Rattle.std.proofs.Common.{sym, ◌∙◌, inl, inr, mul_comm, mul-pos, mul-le-mul_left, arith}
 use Rattle.std.proofs.Math.Nat.{le_of_mul-le-mul_left}
 use Rattle.exact.specs.Whole.{◌≤ᶻ◌, ◌<ᶻ◌, lt-<?, le-<?, up, dn, ord}
@@ -12,7 +12,6 @@ use Rattle.clip.specs.Line.{whole, between, Inside, nearest_whole, exactly, near
 use Rattle.clip.specs.Axis.{times, extent-sym, extent-pos, natural, recast, In, Past, in-past, past-in, place-nearest}
 use Rattle.clip.specs.declared.Point.{Point}
 use Rattle.clip.specs.declared.Rect.{Rect}
-use Rattle.clip.specs.declared.Clipped.TheVariants.{Hidden, Stroke}
 
 -- the steps of the segment, and those from a till the box is entered, as naturals
 abbrev pub all : Point → Point → ℕ
@@ -128,11 +127,11 @@ module _ (r : Rect) (a b : Point) (k n : ℕ) (l : k ≤ n) (p : 0 < n) where
       }
 
 -- ---- the answer: a stroke exactly if the entry is not past the exit
-pub shows : (r : Rect) (a b : Point) → till r a b + till r b a ≤ all a b → clip r a b ≡ Stroke (place a b (entry r a b)) (place b a (entry r b a))
+pub shows : (r : Rect) (a b : Point) → till r a b + till r b a ≤ all a b → clip r a b ≡ Some (place a b (entry r a b), place b a (entry r b a))
 unfolding clip steps
 shows r a b h = rw (le-<? (→le (entry-is r a b ⊕ entry-is r b a) (natural (not-below (extent-pos a.x b.x)) ⊗ natural (not-below (extent-pos a.y b.y))) (omega arith)))
 
-pub hides : (r : Rect) (a b : Point) → all a b < till r a b + till r b a → clip r a b ≡ Hidden
+pub hides : (r : Rect) (a b : Point) → all a b < till r a b + till r b a → clip r a b ≡ None
 unfolding clip steps
 hides r a b h = rw (lt-<? (→lt (natural (not-below (extent-pos a.x b.x)) ⊗ natural (not-below (extent-pos a.y b.y))) (entry-is r a b ⊕ entry-is r b a) (omega arith)))
   where
@@ -163,10 +162,10 @@ stop-nearest a b m k im l = λ i. record {
 }
 
 -- ---- and so is the answer
-pub hidden≢ : {s t : Point} → Hidden ≡ Stroke s t → ⊥
-hidden≢ e = let z : ◌≡◌ {A = ℕ} 0 1 = cc in omega arith
+pub hidden≢ : {e : Point × Point} → None ≡ Some e → ⊥
+hidden≢ e = cc
 
-pub fits : (r : Rect) (a b s t : Point) → clip r a b ≡ Stroke s t → till r a b + till r b a ≤ all a b
+pub fits : (r : Rect) (a b s t : Point) → clip r a b ≡ Some (s, t) → till r a b + till r b a ≤ all a b
 fits r a b s t h = go (till r a b + till r b a - all a b) refl
   where
     go : (d : ℕ) → till r a b + till r b a - all a b ≡ d → till r a b + till r b a ≤ all a b

@@ -1,6 +1,6 @@
 -- Proofs only, for Nearness.antt: which point of the line belongs to a point of the stroke, and the other way. Why it holds: the stroke runs over the part
 -- from `first` to `last` of the segment, so what is at k of n on it is at (n − k) first + k last of n · parts on the segment and on the line.
-use Rattle.std.specs.Prelude.{◌≡◌, refl, ℕ, zero, suc, ◌+◌, ◌*◌, ◌-◌, ◌≤◌, ◌<◌, ℤ}
+use Rattle.std.specs.Prelude.{◌≡◌, refl, ℕ, zero, suc, ◌+◌, ◌*◌, ◌-◌, ◌≤◌, ◌<◌, ℤ, Some}
 use Rattle.std.proofs.Common.{sym, subst, mul-pos, mul-le-mul_left, arith}
 use Rattle.exact.specs.Whole.{ext}
 use Rattle.exact.specs.Parts.{v, #, ◌⊕◌, ◌⊖◌, ◌⊛◌, le→, →le}
@@ -13,7 +13,6 @@ use Rattle.clip.proofs.ExactnessLaws.{exact-part, exact-ends}
 use Rattle.clip.proofs.Halves.{rounds, near, keep}
 use Rattle.clip.specs.declared.Point.{Point}
 use Rattle.clip.specs.declared.Rect.{Rect}
-use Rattle.clip.specs.declared.Clipped.TheVariants.{Stroke}
 
 rounds-by : (e : Exact) {s : Point} → s ≡ nearest e → RoundsTo e s
 rounds-by e h = subst (λ (z : Point). RoundsTo e z) (sym h) (record { x = rounds e.x; y = rounds e.y })
@@ -24,7 +23,7 @@ pub record Shown (r : Rect) (a b s t : Point) : Type 0 where
   pub start : RoundsTo (at (exactly a) (exactly b) part.first part.parts part.some) s
   pub stop : RoundsTo (at (exactly a) (exactly b) part.last part.parts part.some) t
 
-pub shown : (r : Rect) (a b s t : Point) → clip r a b ≡ Stroke s t → Shown r a b s t
+pub shown : (r : Rect) (a b s t : Point) → clip r a b ≡ Some (s, t) → Shown r a b s t
 shown r a b s t h = let e = exact-ends r a b s t h in record {
   part = exact-part r a b s t h;
   start = rounds-by _ e.start;

@@ -1,7 +1,7 @@
 -- Each segment is of exactly one of the manual's four types, and is painted as its type says: for every box and every two points.
 -- Why an end outside comes to lie on an edge: the box is entered after as many steps as one axis asks, on which the place is then the edge itself, a
 -- whole number; and it is entered after at least one step, since a shown segment that needs none has its end in the box.
-use Rattle.std.specs.Prelude.{◌≡◌, refl, Bool, true, false, cond, ◌⊎◌, ℕ, zero, suc, ◌+◌, ◌*◌, ◌-◌, ◌≤◌, ◌<◌, ℤ, pos, neg_ℤ, ◌+ℤ◌, ◌-ℤ◌, ◌*ℤ◌}
+use Rattle.std.specs.Prelude.{◌≡◌, refl, Bool, true, false, cond, ◌⊎◌, ℕ, zero, suc, ◌+◌, ◌*◌, ◌-◌, ◌≤◌, ◌<◌, ℤ, pos, neg_ℤ, ◌+ℤ◌, ◌-ℤ◌, ◌*ℤ◌, Some, None}
 use Rattle.std.proofs.Common.{sym, ap, subst, ◌∙◌, true≢false, inl, inr, arith}
 use Rattle.exact.specs.Whole.{◌≤ᶻ◌, ◌<ᶻ◌, is, Z, ord, ◌<?◌, le-<?, up}
 use Rattle.exact.specs.Parts.{Is, v, #, ◌⊕◌, ◌⊖◌, ◌⊗◌, ◌⊛◌, le→, →le}
@@ -16,8 +16,6 @@ use Rattle.clip.proofs.Nearness.{clip-inside}
 use Rattle.clip.specs.Types.{LineType, inside_to_inside, inside_to_outside, outside_to_inside, outside_to_outside, Inner, OfType, type_by, type_of, OnEdge, Painted}
 use Rattle.clip.specs.declared.Point.{Point}
 use Rattle.clip.specs.declared.Rect.{Rect}
-use Rattle.clip.specs.declared.Clipped.{Clipped}
-use Rattle.clip.specs.declared.Clipped.TheVariants.{Hidden, Stroke}
 
 -- ---- the test `inside` tells who is within
 
@@ -182,7 +180,7 @@ by-type r a b = go (inside r a) (inside r b) refl refl
     go false false ea eb = both (till r a b + till r b a - all a b) refl
       where
         both : (d : ℕ) → till r a b + till r b a - all a b ≡ d →
-            (clip r a b ≡ Hidden) ⊎ ((s : Point) × (t : Point) × OnEdge r s × OnEdge r t × (clip r a b ≡ Stroke s t))
+            (clip r a b ≡ None) ⊎ ((s : Point) × (t : Point) × OnEdge r s × OnEdge r t × (clip r a b ≡ Some (s, t)))
         both zero e =
             let f : till r a b + till r b a ≤ all a b = omega arith in
             let h = shows r a b f in

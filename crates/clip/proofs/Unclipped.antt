@@ -1,6 +1,6 @@
 -- Laws: an end in the box is left as it is, and a segment with such an end is shown. Why: from that end the box is entered after no step, and no step from an
 -- end is that end.
-use Rattle.std.specs.Prelude.{◌≡◌, refl, Bool, true, false, cond, ◌+◌, ◌≤◌, ℤ, pos, ◌+ℤ◌, ◌*ℤ◌}
+use Rattle.std.specs.Prelude.{◌≡◌, refl, Bool, true, false, cond, ◌+◌, ◌≤◌, ℤ, pos, ◌+ℤ◌, ◌*ℤ◌, Some}
 use Rattle.std.proofs.Common.{sym, ap, ◌∙◌, arith}
 use Rattle.exact.specs.Whole.{◌≤ᶻ◌, ◌<ᶻ◌, ◌<?◌, <?-false, up, is, Z, ord}
 use Rattle.exact.specs.Divide.{nearest_div}
@@ -11,7 +11,6 @@ use Rattle.clip.specs.Line.{whole, between, Inside}
 use Rattle.clip.proofs.Crossing.{all, all-sym, till, till-max, in-inside, entry-is, crosses, crossed, shows}
 use Rattle.clip.specs.declared.Point.{Point}
 use Rattle.clip.specs.declared.Rect.{Rect}
-use Rattle.clip.specs.declared.Clipped.TheVariants.{Stroke}
 
 -- ---- the test, as facts
 pub record Held (r : Rect) (p : Point) : Type 0 where
@@ -95,16 +94,16 @@ held-shows {r} {a} b h =
     (crosses r a b 0 1 (omega arith) (omega arith) (record { x = start-in b.x h.left h.right; y = start-in b.y h.bottom h.top }))
 
 -- the way out of the box: the first end is kept
-pub leaves : (r : Rect) (a b : Point) → inside r a ≡ true → clip r a b ≡ Stroke a (place b a (entry r b a))
-leaves r a b e = let h = held e in shows r a b (held-shows b h) ∙ ap (λ (s : Point). Stroke s (place b a (entry r b a))) (from-inside b h)
+pub leaves : (r : Rect) (a b : Point) → inside r a ≡ true → clip r a b ≡ Some (a, place b a (entry r b a))
+leaves r a b e = let h = held e in shows r a b (held-shows b h) ∙ ap (λ (s : Point). Some (s, place b a (entry r b a))) (from-inside b h)
 
 -- the way into it: the last end is kept
-pub enters : (r : Rect) (a b : Point) → inside r b ≡ true → clip r a b ≡ Stroke (place a b (entry r a b)) b
+pub enters : (r : Rect) (a b : Point) → inside r b ≡ true → clip r a b ≡ Some (place a b (entry r a b), b)
 enters r a b e =
     let h = held e in
     let f : till r b a + till r a b ≤ all b a = held-shows a h in
-    shows r a b (omega (arith, f, all-sym a b)) ∙ ap (Stroke (place a b (entry r a b))) (from-inside a h)
+    shows r a b (omega (arith, f, all-sym a b)) ∙ ap (λ (t : Point). Some (place a b (entry r a b), t)) (from-inside a h)
 
 -- and the way within it both
-pub unclipped : (r : Rect) (a b : Point) → inside r a ≡ true → inside r b ≡ true → clip r a b ≡ Stroke a b
-unclipped r a b ha hb = leaves r a b ha ∙ ap (Stroke a) (from-inside a (held hb))
+pub unclipped : (r : Rect) (a b : Point) → inside r a ≡ true → inside r b ≡ true → clip r a b ≡ Some (a, b)
+unclipped r a b ha hb = leaves r a b ha ∙ ap (λ (t : Point). Some (a, t)) (from-inside a (held hb))

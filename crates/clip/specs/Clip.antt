@@ -2,18 +2,16 @@
 -- "clipped to the limits .. edges included. Empty part: hidden. Otherwise the ends of the exact part, rounded by the rule above."
 -- A reader need not believe the arithmetic below: proofs/ExactnessLaws.antt proves, in the words of Line.antt, that the part that it finds holds
 -- exactly the points of the segment that are in the box (`exact-part`), that the answer's ends are the ends of that part, rounded
--- (`exact-ends`), and that the answer is Hidden only where no point of the segment is in the box (`exact-hidden`).
+-- (`exact-ends`), and that the answer is None only where no point of the segment is in the box (`exact-hidden`).
 --
 -- In the manner of Liang and Barsky: how far along the segment is the box entered, and how far along the way back?
 -- The segment from a to b is divided into ux · uy equal steps, where ux and uy are its extents in x and in y. A step moves x by 1/uy and y
 -- by 1/ux. So the segment crosses each edge of the box, a whole number, after a whole number of steps, and there is nothing to divide.
-use Rattle.std.specs.Prelude.{Bool, true, false, cond, ℤ, pos, neg_ℤ, ◌+ℤ◌, ◌-ℤ◌, ◌*ℤ◌}
+use Rattle.std.specs.Prelude.{Bool, true, false, cond, ℤ, pos, neg_ℤ, ◌+ℤ◌, ◌-ℤ◌, ◌*ℤ◌, Option, Some, None}
 use Rattle.exact.specs.Whole.{◌<?◌}
 use Rattle.exact.specs.Divide.{nearest_div}
 use Rattle.clip.specs.declared.Point.{Point}
 use Rattle.clip.specs.declared.Rect.{Rect}
-use Rattle.clip.specs.declared.Clipped.{Clipped}
-use Rattle.clip.specs.declared.Clipped.TheVariants.{Hidden, Stroke}
 
 -- |q − p|, or 1 where they are equal
 unfoldable pub extent : ℤ → ℤ → ℤ
@@ -52,11 +50,11 @@ unfoldable pub place : Point → Point → ℤ → Point
 place a b m = record { x = axis_place a.x b.x (extent a.y b.y) m; y = axis_place a.y b.y (extent a.x b.x) m }
 
 -- The box is entered m steps after a, and on the way back n steps after b. Each end of the stroke is found from a and b themselves.
-unfoldable pub clip : Rect → Point → Point → Clipped
+unfoldable pub clip : Rect → Point → Point → Option (Point × Point)
 clip r a b =
     let m : ℤ = entry r a b in
     let n : ℤ = entry r b a in
-    cond (steps a b <? m +ℤ n) Hidden (Stroke (place a b m) (place b a n))
+    cond (steps a b <? m +ℤ n) None (Some (place a b m, place b a n))
 
 -- the point is in the box, edges included: of a segment between two such points clip leaves all (proofs/Unclipped.antt)
 unfoldable pub inside : Rect → Point → Bool

@@ -1,12 +1,10 @@
 -- THE FOUR LINE TYPES of the manual (source 001, chapter 10, "Windowing"), and what is painted of a segment of each. That it is so of every segment and
 -- every box, an empty one too, stands in proofs/TypeLaws.antt (`some-type`, `one_type`, `by-type`).
-use Rattle.std.specs.Prelude.{◌≡◌, Bool, true, false, ◌⊎◌}
+use Rattle.std.specs.Prelude.{◌≡◌, Bool, true, false, ◌⊎◌, Option, Some, None}
 use Rattle.clip.specs.Clip.{inside}
 use Rattle.clip.specs.Line.{exactly, Within}
 use Rattle.clip.specs.declared.Point.{Point}
 use Rattle.clip.specs.declared.Rect.{Rect}
-use Rattle.clip.specs.declared.Clipped.{Clipped}
-use Rattle.clip.specs.declared.Clipped.TheVariants.{Hidden, Stroke}
 
 -- "1. Inside window area to inside window area", and so on, in the manual's order
 pub data LineType : Type 0 where
@@ -39,8 +37,8 @@ pub record OnEdge (r : Rect) (p : Point) : Type 0 where
   pub edge : ((p.x ≡ r.left) ⊎ (p.x ≡ r.right)) ⊎ ((p.y ≡ r.bottom) ⊎ (p.y ≡ r.top))
 
 -- "Its stroke keeps an end that does and puts a point on an edge for one that does not; .. only with both outside is it hidden."
-abbrev pub Painted : Rect → Point → Point → LineType → Clipped → Type 0
-Painted r a b inside_to_inside c = c ≡ Stroke a b
-Painted r a b inside_to_outside c = (t : Point) × OnEdge r t × (c ≡ Stroke a t)
-Painted r a b outside_to_inside c = (s : Point) × OnEdge r s × (c ≡ Stroke s b)
-Painted r a b outside_to_outside c = (c ≡ Hidden) ⊎ ((s : Point) × (t : Point) × OnEdge r s × OnEdge r t × (c ≡ Stroke s t))
+abbrev pub Painted : Rect → Point → Point → LineType → Option (Point × Point) → Type 0
+Painted r a b inside_to_inside c = c ≡ Some (a, b)
+Painted r a b inside_to_outside c = (t : Point) × OnEdge r t × (c ≡ Some (a, t))
+Painted r a b outside_to_inside c = (s : Point) × OnEdge r s × (c ≡ Some (s, b))
+Painted r a b outside_to_outside c = (c ≡ None) ⊎ ((s : Point) × (t : Point) × OnEdge r s × OnEdge r t × (c ≡ Some (s, t)))

@@ -15,9 +15,3 @@ pub struct Rect {
     pub right: i64,
     pub top: i64,
 }
-
-#[derive(Clone, Copy)]
-pub enum Clipped {
-    Hidden,
-    Stroke(Point, Point),
-}

@@ -7,7 +7,7 @@ ghost use Rattle.exact.specs.Fit.{Bd};
 ghost use Rattle.clip.specs.Clip as S;
 ghost use Rattle.clip.specs.Reach.{reach, most_extent, most_steps, SmallPoint, SmallRect};
 
-use clip::{Clipped, Point, Rect};
+use clip::{Point, Rect};
 use exact::nearest_div;
 
 // |q - p|, or 1 where they are equal.
@@ -33,19 +33,18 @@ fn axis_entry(lo: i64, hi: i64, p: i64, q: i64, u: i64) -> i64
         (lo - p) * u
     } else if q < p {
         (p - hi) * u
-    } else if p < lo {
-        u + 1
-    } else if hi < p {
+    } else if p < lo || hi < p {
         u + 1
     } else {
         0
     }
 }
 
+// The library's maximum, in the definition's words.
 fn larger(a: i64, b: i64) -> i64
     ensures { result ≡ S.larger a b }
 {
-    if a < b { b } else { a }
+    a.max(b)
 }
 
 // The steps from a towards b until the box is entered.
@@ -87,7 +86,7 @@ fn place(a: Point, b: Point, m: i64) -> Point
 {
     let x = axis_place(a.x, b.x, extent(a.y, b.y), m);
     let y = axis_place(a.y, b.y, extent(a.x, b.x), m);
-    Point { x: x, y: y }
+    Point { x, y }
 }
 
 // The steps of the whole segment.
@@ -101,19 +100,7 @@ fn steps(a: Point, b: Point) -> i64
 fn inside(r: Rect, p: Point) -> bool
     ensures { result ≡ S.inside r p }
 {
-    if p.x < r.left {
-        return false;
-    }
-    if r.right < p.x {
-        return false;
-    }
-    if p.y < r.bottom {
-        return false;
-    }
-    if r.top < p.y {
-        return false;
-    }
-    true
+    r.left <= p.x && p.x <= r.right && r.bottom <= p.y && p.y <= r.top
 }
 
 // The point in place of an end that is outside: where the way to the other end enters the box, rounded.
@@ -127,70 +114,64 @@ fn edge_point(r: Rect, outside: Point, other: Point) -> Point
 // The four line types of the manual (source 001, chapter 10, page 10-1, "Windowing: Setting Up Soft-Clip Limits"), from the last point a to the new point b.
 
 // 1. Inside window area to inside window area: nothing is cut.
-fn inside_to_inside(r: Rect, a: Point, b: Point) -> Clipped
+fn inside_to_inside(r: Rect, a: Point, b: Point) -> Option<(Point, Point)>
     requires { (S.inside r a ≡ true) × (S.inside r b ≡ true) }
     ensures { result ≡ S.clip r a b }
 {
-    Clipped::Stroke(a, b)
+    Some((a, b))
 }
 
 // 2. Inside window area to outside window area: it ends on an edge.
-fn inside_to_outside(r: Rect, a: Point, b: Point) -> Clipped
+fn inside_to_outside(r: Rect, a: Point, b: Point) -> Option<(Point, Point)>
     requires { SmallRect r × SmallPoint a × SmallPoint b × (S.inside r a ≡ true) }
     ensures { result ≡ S.clip r a b }
 {
-    Clipped::Stroke(a, edge_point(r, b, a))
+    Some((a, edge_point(r, b, a)))
 }
 
 // 3. Outside window area to inside window area: it begins on an edge.
-fn outside_to_inside(r: Rect, a: Point, b: Point) -> Clipped
+fn outside_to_inside(r: Rect, a: Point, b: Point) -> Option<(Point, Point)>
     requires { SmallRect r × SmallPoint a × SmallPoint b × (S.inside r b ≡ true) }
     ensures { result ≡ S.clip r a b }
 {
-    Clipped::Stroke(edge_point(r, a, b), b)
+    Some((edge_point(r, a, b), b))
 }
 
 // 4. Outside window area to outside window area: from edge to edge, each end found from a and b themselves, or hidden where the box is entered
 // later than it is left.
-fn outside_to_outside(r: Rect, a: Point, b: Point) -> Clipped
+fn outside_to_outside(r: Rect, a: Point, b: Point) -> Option<(Point, Point)>
     requires { SmallRect r × SmallPoint a × SmallPoint b }
     ensures { result ≡ S.clip r a b }
 {
     let m = entry(r, a, b);
     let n = entry(r, b, a);
     if steps(a, b) < m + n {
-        return Clipped::Hidden;
+        return None;
     }
-    Clipped::Stroke(place(a, b, m), place(b, a, n))
+    Some((place(a, b, m), place(b, a, n)))
 }
 
 // What is left of the segment from a to b in the box, by its type.
-pub fn clip(r: Rect, a: Point, b: Point) -> Clipped
+pub fn clip(r: Rect, a: Point, b: Point) -> Option<(Point, Point)>
     requires { SmallRect r × SmallPoint a × SmallPoint b }
     ensures { result ≡ S.clip r a b }
 {
-    let from_inside = inside(r, a);
-    let to_inside = inside(r, b);
-    if from_inside {
-        if to_inside {
-            return inside_to_inside(r, a, b);
-        }
-        return inside_to_outside(r, a, b);
+    match (inside(r, a), inside(r, b)) {
+        (true, true) => inside_to_inside(r, a, b),
+        (true, false) => inside_to_outside(r, a, b),
+        (false, true) => outside_to_inside(r, a, b),
+        (false, false) => outside_to_outside(r, a, b),
     }
-    if to_inside {
-        return outside_to_inside(r, a, b);
-    }
-    outside_to_outside(r, a, b)
 }
 
 // The same for the loops that draw: most segments are of type 1, and are told here without a call and without a division.
-pub fn kept_or_clipped(r: Rect, a: Point, b: Point) -> Clipped
+pub fn kept_or_clipped(r: Rect, a: Point, b: Point) -> Option<(Point, Point)>
     requires { SmallRect r × SmallPoint a × SmallPoint b }
     ensures { result ≡ S.clip r a b }
 {
     if inside(r, a) {
         if inside(r, b) {
-            return Clipped::Stroke(a, b);
+            return Some((a, b));
         }
         // called at two places, so that it stays a call, and what divides is not built into the loops
         return clip(r, a, b);

@@ -1,12 +1,10 @@
 -- The strokes that feed stores have a pen's number, 0 to 8.
 -- Why: a stroke has the number of the machine's pen, and every machine that the calls make is valid.
-use Rattle.std.specs.Prelude.{◌≡◌, refl, Bool, true, false, List, [], ◌∷◌, ℕ, zero, suc, ◌+◌, ◌≤◌, ◌<◌, eqb, get_or}
+use Rattle.std.specs.Prelude.{◌≡◌, refl, Bool, true, false, List, [], ◌∷◌, ℕ, zero, suc, ◌+◌, ◌≤◌, ◌<◌, eqb, get_or, Option, Some, None}
 use Rattle.std.proofs.Common.{eqb-true}
 use Rattle.std.proofs.lemmas.Bool.{eqb-false}
 use Rattle.clip.specs.Clip.{clip}
 use Rattle.clip.specs.declared.Point.{Point}
-use Rattle.clip.specs.declared.Clipped.{Clipped}
-use Rattle.clip.specs.declared.Clipped.TheVariants as clipped
 use Rattle.hpgl.specs.declared.Core.{Core}
 use Rattle.hpgl.specs.declared.State.{State}
 use Rattle.hpgl.specs.declared.Stroke.{Stroke}
@@ -35,10 +33,10 @@ DrawnPenned drawn.Hidden = Unit {0}
 DrawnPenned drawn.Idle = Unit {0}
 
 module _ (c : Core) (h : c.carriage.pen.number ≤ most_pen) where
-  stroke-penned : (k : Clipped) → DrawnPenned (stroke_of c.carriage.pen.number k)
+  stroke-penned : (k : Option (Point × Point)) → DrawnPenned (stroke_of c.carriage.pen.number k)
   unfolding stroke_of
-  stroke-penned clipped.Hidden = tt
-  stroke-penned (clipped.Stroke s t) = h
+  stroke-penned None = tt
+  stroke-penned (Some (s, t)) = h
 
   shown-penned : (a b : Point) → DrawnPenned (shown c a b)
   unfolding shown

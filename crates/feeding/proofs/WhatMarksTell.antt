@@ -1,14 +1,13 @@
 -- The marks of a plot: a stroke's pen is not 0, which tells it from a refusal, and a refusal's place is within the bytes.
 -- Why: where a segment waits the pen has paint (`Usable`), and a stroke has that pen; and a place is the count of bytes taken.
-use Rattle.std.specs.Prelude.{◌≡◌, length}
+use Rattle.std.specs.Prelude.{◌≡◌, length, Option, Some, None}
 use Rattle.std.proofs.Math.Path.{refl}
 use mathlib.Core.List.{List, [], ◌∷◌}
 use Prim.Native.Nat.{ℕ, zero, suc, ◌+◌, ◌≤◌, ◌<◌}
 use Rattle.std.proofs.Common.{arith}
 use Rattle.clip.specs.Clip.{clip}
+use Rattle.clip.specs.declared.Point.{Point}
 use Rattle.clip.specs.declared.Rect.{Rect}
-use Rattle.clip.specs.declared.Clipped.{Clipped}
-use Rattle.clip.specs.declared.Clipped.TheVariants as clipped
 use Rattle.hpgl.specs.declared.State.{State}
 use Rattle.hpgl.specs.declared.Segment.{Segment}
 use Rattle.hpgl.specs.declared.Segment.TheVariants as segment
@@ -32,10 +31,10 @@ DrawnInked drawn.Hidden = Unit {0}
 DrawnInked drawn.Idle = Unit {0}
 
 module _ (r : Rect) (pen : ℕ) (h : pen ≡ 0 → ⊥) where
-  clipped-inked : (k : Clipped) → DrawnInked (stroke_of pen k)
+  clipped-inked : (k : Option (Point × Point)) → DrawnInked (stroke_of pen k)
   unfolding stroke_of
-  clipped-inked clipped.Hidden = tt
-  clipped-inked (clipped.Stroke s t) = h
+  clipped-inked None = tt
+  clipped-inked (Some (s, t)) = h
 
   drawn-inked : (g : Segment) → DrawnInked (drawn_of r pen g)
   unfolding drawn_of

@@ -80,10 +80,7 @@ pub fn rows_below(e: Side, s: i64, k: i64) -> i64
 pub fn meets(e: Side, y: i64) -> bool
     ensures { result ≡ S.meets y e }
 {
-    if lower(e) <= y {
-        return y < upper(e);
-    }
-    false
+    lower(e) <= y && y < upper(e)
 }
 
 // Where the row at y crosses a side, rounded. A level side has no crossing; its start stands for one.
@@ -99,16 +96,11 @@ pub fn crossing(e: Side, y: i64) -> i64
 }
 
 // Crossings of one row, the first n in order.
+// An array with its length beside it, and no Vec: the library has no heap, and a row is passed by value.
 #[derive(Clone, Copy)]
 pub struct Crossings {
     pub xs: [i64; 114],
     pub n: usize,
-}
-
-// A number that is carried on: a loop keeps signed numbers in structs.
-#[derive(Clone, Copy)]
-struct Carried {
-    x: i64,
 }
 
 // One crossing more: each place keeps the smaller number, and the larger is carried on.
@@ -116,21 +108,14 @@ pub fn inserted(c: Crossings, x: i64) -> Crossings
     requires { c.n < 114 }
     ensures { (result.n ≡ c.n + 1) × (take result.n result.xs ≡ sink x (take c.n c.xs)) }
 {
-    let mut xs = c.xs;
-    let n = c.n;
-    let mut carry = Carried { x: x };
-    let mut i = 0;
-    while i < n {
-        let y = xs[i];
-        let held = carry.x;
-        let small = lesser(held, y);
-        carry = Carried {
-            x: greater(held, y),
-        };
-        xs[i] = small;
-        i += 1;
+    let Crossings { mut xs, n } = c;
+    let mut carry = x;
+    let row = &mut xs[..n];
+    for place in row.iter_mut() {
+        let small = lesser(carry, *place);
+        carry = greater(carry, *place);
+        *place = small;
     }
-    let last = carry.x;
-    xs[n] = last;
-    Crossings { xs: xs, n: n + 1 }
+    xs[n] = carry;
+    Crossings { xs, n: n + 1 }
 }

@@ -1,17 +1,16 @@
 -- A located segment keeps its promise: what draw answers for it is what Condition3.antt asks. Why: clip's three theorems hold for any whole points within a half of
 -- the exact ends, and a point is within the limits exactly when it is within the hard limits and the turned window, if set.
 use Rattle.std.proofs.Math.Path.{◌≡◌, refl, sym}
-use Rattle.std.proofs.Common.{◌∙◌}
+use Rattle.std.proofs.Common.{ap, ◌∙◌}
 use Rattle.std.proofs.Math.Bool.{Bool, true, false}
-use Rattle.std.specs.Prelude.{cond, List, ◌∷◌, ℕ, ◌<◌}
+use Rattle.std.specs.Prelude.{cond, List, ◌∷◌, ℕ, ◌<◌, Option, Some, None}
 use Rattle.clip.specs.Clip.{clip}
 use Rattle.clip.specs.Line.{Exact, exactly, at, HasClose, Within}
 use Rattle.clip.proofs.Nearness.{clip-near, clip-covers}
+use Rattle.clip.proofs.ExactnessLaws.{of_some}
 use Rattle.clip.proofs.NearnessHidden.{clip-hides}
 use Rattle.clip.specs.declared.Point.{Point}
 use Rattle.clip.specs.declared.Rect.{Rect}
-use Rattle.clip.specs.declared.Clipped.{Clipped}
-use Rattle.clip.specs.declared.Clipped.TheVariants as clipped
 use Rattle.turns.specs.Turn.{turned_box_of}
 use Rattle.turns.specs.Limits.{limits_of}
 use Rattle.turns.proofs.LimitsLaws.{intersection-within}
@@ -50,7 +49,7 @@ has-near : {e g h : Exact} → HasClose g h e → HasNear e g h
 has-near c = (c.k, c.n, c.upto, (c.some, c.close))
 
 module _ (d : Core) (g : ExactSegment) (l : Located d.carriage.pen.number g) where
-  painted : (s t : Point) → g.owed ≡ true → clip (limits d.settings) g.start g.end ≡ clipped.Stroke s t →
+  painted : (s t : Point) → g.owed ≡ true → clip (limits d.settings) g.start g.end ≡ Some (s, t) →
       Painted d.settings g (record { pen = d.carriage.pen.number; x0 = s.x; y0 = s.y; x1 = t.x; y1 = t.y })
   unfolding stroke_of
   painted s t o h =
@@ -65,12 +64,12 @@ module _ (d : Core) (g : ExactSegment) (l : Located d.carriage.pen.number g) whe
       }
     where
       covered : (k n : ℕ) (p : 0 < n) →
-          ((s' : Point) × (t' : Point) × (clip (limits d.settings) g.start g.end ≡ clipped.Stroke s' t') ×
+          ((s' : Point) × (t' : Point) × (clip (limits d.settings) g.start g.end ≡ Some (s', t')) ×
           HasClose (exactly s') (exactly t') (at g.from g.to k n p)) → HasNear (at g.from g.to k n p) (exactly s) (exactly t)
       covered k n p (s', t', e, near) =
-          let q : ◌≡◌ {A = Clipped} (clipped.Stroke s' t') (clipped.Stroke s t) = sym e ∙ h in
-          let es : s' ≡ s = cc in
-          let et : t' ≡ t = cc in
+          let q : ◌≡◌ {A = Point × Point} (s', t') (s, t) = of_some (sym e ∙ h) in
+          let es = ap (λ (z : Point × Point). z.0) q in
+          let et = ap (λ (z : Point × Point). z.1) q in
           has-near (rw (es, et) at near)
 
   -- the answer for a segment that waits
@@ -78,12 +77,12 @@ module _ (d : Core) (g : ExactSegment) (l : Located d.carriage.pen.number g) whe
   unfolding shown stroke_of Holds
   keeps-promise gs = go g.owed refl (clip (limits d.settings) g.start g.end) refl
     where
-      go : (t : Bool) → g.owed ≡ t → (k : Clipped) → clip (limits d.settings) g.start g.end ≡ k →
+      go : (t : Bool) → g.owed ≡ t → (k : Option (Point × Point)) → clip (limits d.settings) g.start g.end ≡ k →
           Holds d.settings (g ∷ gs) (cond t (stroke_of d.carriage.pen.number k) drawn.Hidden)
-      go true o clipped.Hidden h = record {
+      go true o None h = record {
         clipped = λ u. h;
         none = λ u k n v p w.
             clip-hides (limits d.settings) g.from g.to g.start g.end l.from l.to h k n v p ((limits-within d.settings 1 _).1 w);
       }
-      go true o (clipped.Stroke s t) h = painted s t o h
+      go true o (Some (s, t)) h = painted s t o h
       go false o k h = record { clipped = λ u. never o u; none = λ u. never o u }

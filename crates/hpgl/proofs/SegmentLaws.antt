@@ -1,11 +1,10 @@
 -- The laws of the segment that waits first: draw answers it, clipped to the limits in force, in 01's values; and it may be clipped.
-use Rattle.std.specs.Prelude.{◌≡◌, refl, Bool, cond, ℕ, zero, suc, ◌+◌, get_or}
+use Rattle.std.specs.Prelude.{◌≡◌, refl, Bool, cond, ℕ, zero, suc, ◌+◌, get_or, Option, Some, None}
 use Rattle.std.proofs.Common.{ap, ◌∙◌, arith}
 use Rattle.std.proofs.Math.Bool.{true, false}
 use Rattle.clip.specs.Clip.{clip}
+use Rattle.clip.specs.declared.Point.{Point}
 use Rattle.clip.specs.declared.Rect.{Rect}
-use Rattle.clip.specs.declared.Clipped.{Clipped}
-use Rattle.clip.specs.declared.Clipped.TheVariants as clipped
 use Rattle.turns.specs.Turn.{turned_of}
 use Rattle.turns.proofs.TurnLaws.{turned-small}
 use Rattle.hpgl.specs.declared.Settings.{Settings}
@@ -47,10 +46,10 @@ pub segment-drawn : (m : State) → draw_answer m ≡ drawn_of (limits m.core.se
 unfolding draw_answer segment_of
 segment-drawn m = work-drawn m m.work
 
-clipped-values : (pen : ℕ) (k : Clipped) → drawn_values (stroke_of pen k) ≡ clipped_values pen k
+clipped-values : (pen : ℕ) (k : Option (Point × Point)) → drawn_values (stroke_of pen k) ≡ clipped_values pen k
 unfolding drawn_values stroke_of clipped_values
-clipped-values pen clipped.Hidden = refl
-clipped-values pen (clipped.Stroke s t) = refl
+clipped-values pen None = refl
+clipped-values pen (Some (s, t)) = refl
 
 segment-values : (r : Rect) (pen : ℕ) (g : Segment) → drawn_values (drawn_of r pen g) ≡ segment_values r pen g
 unfolding drawn_values drawn_of segment_values

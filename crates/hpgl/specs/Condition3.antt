@@ -6,11 +6,10 @@
 -- Among the machines that it excludes: one that loses a segment or draws it out of order, takes a byte while one waits, clips to other limits, paints
 -- with another pen, says "hidden" of what shows or "idle" while one waits, or shows an edge that was reached pen up; and one that
 -- takes a byte while a reply waits, loses a reply, or tells what is so when it is fetched and not when it was asked for.
-use Rattle.std.specs.Prelude.{◌≡◌, true, List, [], ◌∷◌, ℕ, ◌≤◌, ◌<◌}
+use Rattle.std.specs.Prelude.{◌≡◌, true, List, [], ◌∷◌, ℕ, ◌≤◌, ◌<◌, None}
 use Rattle.clip.specs.Clip.{clip}
 use Rattle.clip.specs.Line.{Exact, exactly, at, Close, Within}
 use Rattle.clip.specs.declared.Rect.{Rect}
-use Rattle.clip.specs.declared.Clipped.TheVariants as clipped
 use Rattle.turns.specs.Turn.{turned_box_of}
 use Rattle.hpgl.specs.declared.Settings.{Settings}
 use Rattle.hpgl.specs.declared.State.{State}
@@ -65,7 +64,7 @@ pub record Painted (c : Settings) (g : ExactSegment) (s : Stroke) : Type 0 where
 
 -- "hidden": if paint was owed, the clip of its located ends is, and no point of the line is at least one unit inside
 pub record Unseen (c : Settings) (g : ExactSegment) : Type 0 where
-  pub clipped : g.owed ≡ true → clip (limits c) g.start g.end ≡ clipped.Hidden
+  pub clipped : g.owed ≡ true → clip (limits c) g.start g.end ≡ None
   pub none : g.owed ≡ true → (k n : ℕ) → k ≤ n → (p : 0 < n) → ¬ InLimits c 1 (at g.from g.to k n p)
 
 -- a draw answers for the first segment of the queue, and "idle" exactly where there is none

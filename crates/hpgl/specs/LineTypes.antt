@@ -1,11 +1,11 @@
 -- Clip as the manual tells it (document 02, CR 4), of every draw of every list of calls: the segment that it works off is of exactly one of the manual's four line types, by
 -- its located ends and the limits in force, and is painted as its type says; EP's pen-up edges aside, of which draw says "hidden" whatever their type.
 -- The types stand in clip (Types.antt). Why it holds: by condition 3 draw answers the clip of the first segment of the queue, and each clip goes by its type.
-use Rattle.std.specs.Prelude.{◌≡◌, true, List, [], ◌∷◌}
+use Rattle.std.specs.Prelude.{◌≡◌, true, List, [], ◌∷◌, Option}
 use Rattle.clip.specs.Types.{LineType, Inner, OfType, type_of}
 use Rattle.clip.specs.Types as types
+use Rattle.clip.specs.declared.Point.{Point}
 use Rattle.clip.specs.declared.Rect.{Rect}
-use Rattle.clip.specs.declared.Clipped.{Clipped}
 use Rattle.hpgl.specs.declared.Settings.{Settings}
 use Rattle.hpgl.specs.declared.State.{State}
 use Rattle.hpgl.specs.declared.Drawn.{Drawn}
@@ -22,7 +22,7 @@ pub record ByType (s : Settings) (g : ExactSegment) (a : Drawn) : Type 0 where
   pub type : LineType
   pub is : OfType (limits s) g.start g.end type
   pub only : (t : LineType) → OfType (limits s) g.start g.end t → t ≡ type
-  pub left : Clipped
+  pub left : Option (Point × Point)
   pub answer : a ≡ stroke_of g.pen left
   pub painted : types.Painted (limits s) g.start g.end type left
 

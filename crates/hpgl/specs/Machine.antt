@@ -1,11 +1,9 @@
 -- The calls fresh, take, draw and look (document 01, "The calls"), and fetch (document 02, CR 5), over the machine's state.
-use Rattle.std.specs.Prelude.{ℕ, zero, suc, ◌+◌, Bool, true, false, cond, not, ◌&&◌, ◌||◌, List, [], ◌++◌, eqb, leb, ℤ, pos, get_or, set, replicate, length, drop}
+use Rattle.std.specs.Prelude.{ℕ, zero, suc, ◌+◌, Bool, true, false, cond, not, ◌&&◌, ◌||◌, List, [], ◌++◌, eqb, leb, ℤ, pos, get_or, set, replicate, length, drop, Option, Some, None}
 use Rattle.exact.specs.Whole.{◌<?◌}
 use Rattle.clip.specs.Clip.{clip}
 use Rattle.clip.specs.declared.Point.{Point}
 use Rattle.clip.specs.declared.Rect.{Rect}
-use Rattle.clip.specs.declared.Clipped.{Clipped}
-use Rattle.clip.specs.declared.Clipped.TheVariants as clipped
 use Rattle.reader.specs.declared.Reader.{Reader}
 use Rattle.reader.specs.Reader.{fresh_reader}
 use Rattle.reader.specs.Step.{step_of, passed_over}
@@ -139,9 +137,9 @@ take_number m b = cond (occupied m.work) busy (acted m b).number
 
 -- ---- Draw: "works off one waiting segment and answers a stroke (pen, x0, y0, x1, y1), hidden, or idle if none waits"
 
-unfoldable pub stroke_of : ℕ → Clipped → Drawn
-stroke_of pen clipped.Hidden = drawn.Hidden
-stroke_of pen (clipped.Stroke s t) = drawn.Stroke (record { pen = pen; x0 = s.x; y0 = s.y; x1 = t.x; y1 = t.y })
+unfoldable pub stroke_of : ℕ → Option (Point × Point) → Drawn
+stroke_of pen None = drawn.Hidden
+stroke_of pen (Some (s, t)) = drawn.Stroke (record { pen = pen; x0 = s.x; y0 = s.y; x1 = t.x; y1 = t.y })
 
 -- a segment between two page points
 unfoldable pub shown : Core → Point → Point → Drawn

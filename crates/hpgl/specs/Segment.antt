@@ -1,10 +1,9 @@
 -- The segment that waits first, before the clip ("Location is turned to the page, then clipped to the limits"), and what draw answers of it.
-use Rattle.std.specs.Prelude.{cond, ℕ, zero, suc, ◌+◌, get_or}
+use Rattle.std.specs.Prelude.{cond, ℕ, zero, suc, ◌+◌, get_or, Option, Some, None}
 use Rattle.clip.specs.Clip.{clip}
 use Rattle.clip.specs.Reach.{SmallPoint}
+use Rattle.clip.specs.declared.Point.{Point}
 use Rattle.clip.specs.declared.Rect.{Rect}
-use Rattle.clip.specs.declared.Clipped.{Clipped}
-use Rattle.clip.specs.declared.Clipped.TheVariants as clipped
 use Rattle.turns.specs.Turn.{turned_of}
 use Rattle.hpgl.specs.declared.Settings.{Settings}
 use Rattle.hpgl.specs.declared.Edge.{Edge}
@@ -47,9 +46,9 @@ drawn_of r pen PenUp = drawn.Hidden
 drawn_of r pen (Line a b) = stroke_of pen (clip r a b)
 
 -- the same in 01's values: "Empty part: hidden. Otherwise the ends of the exact part, rounded"
-unfoldable pub clipped_values : ℕ → Clipped → Out
-clipped_values pen clipped.Hidden = hidden
-clipped_values pen (clipped.Stroke s t) = stroke pen s.x s.y t.x t.y
+unfoldable pub clipped_values : ℕ → Option (Point × Point) → Out
+clipped_values pen None = hidden
+clipped_values pen (Some (s, t)) = stroke pen s.x s.y t.x t.y
 
 unfoldable pub segment_values : Rect → ℕ → Segment → Out
 segment_values r pen Nothing = idle

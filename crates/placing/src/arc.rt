@@ -31,19 +31,7 @@ pub fn way_from(a: Axis, p: ExactPosition, q: ExactPosition) -> i64
 pub fn way_fits(w: Way) -> bool
     ensures { result ≡ way_fits w }
 {
-    if w.u < -MOST {
-        return false;
-    }
-    if MOST < w.u {
-        return false;
-    }
-    if w.v < -MOST {
-        return false;
-    }
-    if MOST < w.v {
-        return false;
-    }
-    true
+    -MOST <= w.u && w.u <= MOST && -MOST <= w.v && w.v <= MOST
 }
 
 // How large a number is, whatever its sign.
@@ -51,10 +39,7 @@ fn size(n: i64) -> usize
     requires { Bd n most_number }
     ensures { result ≡ nat_abs n }
 {
-    if n < 0 {
-        return -n as usize;
-    }
-    n as usize
+    n.unsigned_abs() as usize
 }
 
 // How many chords.
@@ -83,10 +68,7 @@ pub fn bend(sweep: i64, angle: usize, i: usize) -> i64
 fn both_in_range(p: Point) -> bool
     ensures { result ≡ both_in_range p }
 {
-    if in_range(p.x) {
-        return in_range(p.y);
-    }
-    false
+    in_range(p.x) && in_range(p.y)
 }
 
 // Whether the two points at a distance from the centre on its axis are in range.
@@ -95,10 +77,7 @@ fn ends_fit(c: Centre, distance: usize) -> bool
     ensures { result ≡ ends_fit c distance }
 {
     let t = distance as i64;
-    if in_range(vertex(c, t * SCALE)) {
-        return in_range(vertex(c, -t * SCALE));
-    }
-    false
+    in_range(vertex(c, t * SCALE)) && in_range(vertex(c, -t * SCALE))
 }
 
 // Whether the points at the length of the way are in range, on both axes: then every vertex is.
@@ -107,10 +86,7 @@ pub fn round_fits(cx: Centre, cy: Centre, w: Way) -> bool
     ensures { result ≡ round_fits cx cy w }
 {
     let distance = size(w.u) + size(w.v);
-    if ends_fit(cx, distance) {
-        return ends_fit(cy, distance);
-    }
-    false
+    ends_fit(cx, distance) && ends_fit(cy, distance)
 }
 
 // Whether the vertices from one on, so many, are in range, one by one. No arc has more vertices than tenths of a degree in a turn, and the one where it starts.
@@ -127,13 +103,10 @@ pub fn each_fits(
     requires { CentreBounds cx × CentreBounds cy × WayBounds w × (table.now ≡ sines) × Bd sweep most_sweep × (0 < angle) × (angle ≤ most_angle) × (from + many ≤ most_sweep + 1) }
     ensures { result ≡ fits_from cx cy w sweep angle from many }
 {
-    let end = from + many;
-    let mut i = from;
-    while i < end {
+    for i in from..from + many {
         if !both_in_range(vertex_point(cx, cy, w, table, bend(sweep, angle, i))) {
             return false;
         }
-        i += 1;
     }
     true
 }
@@ -143,8 +116,5 @@ pub fn arc_fits(cx: Centre, cy: Centre, w: Way, table: &[u32], sweep: i64, angle
     requires { CentreBounds cx × CentreBounds cy × WayBounds w × (table.now ≡ sines) × Bd sweep most_sweep × (0 < angle) × (angle ≤ most_angle) }
     ensures { result ≡ arc_fits cx cy w sweep angle }
 {
-    if round_fits(cx, cy, w) {
-        return true;
-    }
-    each_fits(cx, cy, w, table, sweep, angle, 1, parts(sweep, angle))
+    round_fits(cx, cy, w) || each_fits(cx, cy, w, table, sweep, angle, 1, parts(sweep, angle))
 }

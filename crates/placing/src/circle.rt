@@ -94,5 +94,5 @@ pub fn vertex_point(cx: Centre, cy: Centre, w: Way, table: &[u32], angle: i64) -
     let t = rotated(w, table, angle);
     let x = vertex(cx, t.u);
     let y = vertex(cy, t.v);
-    Point { x: x, y: y }
+    Point { x, y }
 }

@@ -22,7 +22,7 @@ pub fn axis_of(scaled: bool, p1: i64, p2: i64, least: i64, most: i64) -> Axis
     if scaled {
         return Axis {
             origin: p1,
-            least: least,
+            least,
             span: p2 - p1,
             width: most - least,
         };
@@ -79,11 +79,5 @@ pub fn location(a: Axis, p: ExactPosition) -> i64
 pub fn in_range(n: i64) -> bool
     ensures { result ≡ in_range_of n }
 {
-    if n < -REACH {
-        return false;
-    }
-    if REACH < n {
-        return false;
-    }
-    true
+    -REACH <= n && n <= REACH
 }

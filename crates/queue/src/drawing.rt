@@ -10,7 +10,7 @@ ghost use Rattle.hpgl.specs.Valid.{ValidSettings, SmallEdge, ValidCircle, ValidW
 ghost use Rattle.queue.specs.First as S;
 ghost use Rattle.queue.specs.Corners as C;
 
-use clip::{Clipped, Point, Rect};
+use clip::{Point, Rect};
 use clipping::kept_or_clipped;
 use hpgl::{Circle, Core, Drawn, Edge, Segment, Stroke, Work};
 use placing::arc::bend;
@@ -18,12 +18,12 @@ use placing::circle::vertex_point;
 use rulekit::places::limits_of;
 use turns::turn::{Rows, rows_of, turned_by};
 
-fn stroke_of(pen: u8, c: Clipped) -> Drawn
+fn stroke_of(pen: u8, c: Option<(Point, Point)>) -> Drawn
     ensures { result ≡ M.stroke_of pen c }
 {
     match c {
-        Clipped::Hidden => Drawn::Hidden,
-        Clipped::Stroke(s, t) => Drawn::Stroke(Stroke {
+        None => Drawn::Hidden,
+        Some((s, t)) => Drawn::Stroke(Stroke {
             pen: pen,
             x0: s.x,
             y0: s.y,

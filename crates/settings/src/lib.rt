@@ -25,7 +25,7 @@ use rulekit::changes::{
 };
 use rulekit::numbers::{MOST_PEN, OUT_OF_RANGE};
 use rulekit::places::{absolute_position, located, page_point, reachable, rest_at, rounded};
-use turns::turn::{TURN_COUNT, find_turn, ordered, turned_back};
+use turns::turn::{find_turn, ordered, turned_back};
 
 // The turn that is none, by its place in the table.
 const UPRIGHT: usize = 0;
@@ -385,11 +385,10 @@ fn turn_to(c: Core, degrees: i64) -> Acted
     requires { ValidCore c }
     ensures { result ≡ R.turn_to c degrees }
 {
-    let turn = find_turn(degrees);
-    if turn < TURN_COUNT {
-        return set_turn(c, turn);
+    match find_turn(degrees) {
+        Some(turn) => set_turn(c, turn),
+        None => refuse(c, OUT_OF_RANGE),
     }
-    refuse(c, OUT_OF_RANGE)
 }
 
 // RO (page 10-14): no number is 0.

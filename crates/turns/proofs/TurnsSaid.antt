@@ -1,11 +1,12 @@
 -- The documents' own sentences on the turns, written out a second time beside the table: which numbers RO knows, and where each sends a point. What is looked up
 -- in the table is what they say, by computation.
-use Rattle.std.specs.Prelude.{◌≡◌, refl, ◌↔◌, ◌⊎◌, Bool, true, false, cond, ℕ, zero, suc, ◌+◌, ◌/◌, ◌<◌, ℤ, pos, neg_ℤ, nat_abs}
+use Rattle.std.specs.Prelude.{◌≡◌, refl, ◌↔◌, ◌⊎◌, Bool, true, false, cond, ℕ, zero, suc, ◌+◌, ◌/◌, ◌<◌, ℤ, pos, neg_ℤ, nat_abs, ltb, Some, None}
 use Rattle.std.proofs.Common.{sym, subst, inl, inr, arith, ltb→lt}
+use Rattle.std.proofs.lemmas.Option.{none-some}
 use Rattle.exact.specs.Whole.{◌≡?◌, ≡?-true}
 use Rattle.exact.specs.Fit.{Bd, bd-lit}
 use Rattle.clip.specs.declared.Point.{Point}
-use Rattle.turns.specs.Turn.{turn_count, turns, upright, degrees_of, turn_from, find_turn, turn_of, turned_of}
+use Rattle.turns.specs.Turn.{turn_count, turns, upright, degrees_of, turn_from, find_turn, found_of, turn_of, turned_of}
 use Rattle.turns.proofs.TurnLaws.{east, north, west, south, coord-is}
 
 -- ---- what 01 says, and 02
@@ -85,3 +86,18 @@ quarters-found z h = subst (λ (y : ℤ). nat_abs y / 90 ≡ find_turn z) (found
 
 pub degrees-size : (t : ℕ) → t < turn_count → Bd (degrees_of t) 32768
 degrees-size t h = (listed t h).size
+
+-- ---- what the code's answer tells: the turn that was found, or that there is none
+pub found-some : (t : ℕ) {u : ℕ} → found_of t ≡ Some u → (t ≡ u) × (ltb t turn_count ≡ true)
+found-some t {u} e = go (ltb t turn_count) refl e
+  where
+    go : (b : Bool) → ltb t turn_count ≡ b → cond b (Some t) None ≡ Some u → (t ≡ u) × (ltb t turn_count ≡ true)
+    go true h k = (cc, h)
+    go false h k = absurd (none-some u k)
+
+pub found-none : (t : ℕ) → found_of t ≡ None → ltb t turn_count ≡ false
+found-none t e = go (ltb t turn_count) refl e
+  where
+    go : (b : Bool) → ltb t turn_count ≡ b → cond b (Some t) None ≡ None → ltb t turn_count ≡ false
+    go true h k = absurd (none-some t (sym k))
+    go false h k = h

@@ -1,7 +1,7 @@
 -- The turn of the paper: "The quarter turn is a two by two table of whole numbers: point (x, y) goes to page (−y, x)."
 -- Document 02, CR 3: "RO180 and RO270. Page point (−x, −y) and (y, −x) are the new images."
 -- Definitions only: TurnLaws.antt, BoxLaws.antt and TurnsSaid.antt have what follows of them.
-use Rattle.std.specs.Prelude.{cond, List, [], ◌∷◌, map, ℕ, zero, suc, ◌+◌, ℤ, pos, negsuc, ◌+ℤ◌, ◌*ℤ◌, get_or}
+use Rattle.std.specs.Prelude.{cond, Option, Some, None, ltb, List, [], ◌∷◌, map, ℕ, zero, suc, ◌+◌, ℤ, pos, negsuc, ◌+ℤ◌, ◌*ℤ◌, get_or}
 use Rattle.exact.specs.Whole.{◌<?◌, ◌≡?◌}
 use Rattle.exact.specs.Fit.{Bd}
 use Rattle.clip.specs.Line.{Frac, Exact}
@@ -43,6 +43,10 @@ turn_from z t (suc n) = cond (degrees_of t ≡? z) t (turn_from z (t + 1) n)
 unfoldable pub find_turn : ℤ → ℕ
 find_turn z = turn_from z 0 turn_count
 
+-- place t as the code answers it: none past the last turn
+abbrev pub found_of : ℕ → Option ℕ
+found_of t = cond (ltb t turn_count) (Some t) None
+
 -- the table of turn t
 abbrev pub table_of : ℕ → List (List ℤ)
 table_of t = get_or (map (λ (r : Turn). r.table) turns) t []
@@ -54,6 +58,10 @@ turn_of t i j = get_or (get_or (table_of t) i []) j (pos 0)
 -- the whole table
 unfoldable pub rows_of : ℕ → Rows
 rows_of t = record { xx = turn_of t 0 0; xy = turn_of t 0 1; yx = turn_of t 1 0; yy = turn_of t 1 1 }
+
+-- the table whose rows are its columns
+unfoldable pub transposed_of : Rows → Rows
+transposed_of r = record { xx = r.xx; xy = r.yx; yx = r.xy; yy = r.yy }
 
 -- ---- points
 

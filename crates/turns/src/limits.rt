@@ -11,19 +11,16 @@ use clip::Rect;
 pub fn intersection(a: Rect, b: Rect) -> Rect
     ensures { result ≡ intersection_of a b }
 {
-    let left = greater(a.left, b.left);
-    let bottom = greater(a.bottom, b.bottom);
-    let right = lesser(a.right, b.right);
-    let top = lesser(a.top, b.top);
     Rect {
-        left: left,
-        bottom: bottom,
-        right: right,
-        top: top,
+        left: greater(a.left, b.left),
+        bottom: greater(a.bottom, b.bottom),
+        right: lesser(a.right, b.right),
+        top: lesser(a.top, b.top),
     }
 }
 
 // The hard limits and, if set, the window, which is kept unturned.
+// A flag and a box, and no Option: the list of numbers that C keeps has the box of a window that is not set too (Saved.antt).
 pub fn limits(hard: Rect, windowed: bool, window: Rect, turn: usize) -> Rect
     requires { SmallRect window × (turn < turn_count) }
     ensures { result ≡ limits_of hard windowed window turn }

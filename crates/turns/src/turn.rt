@@ -1,43 +1,14 @@
 // The turn of the paper: an index into a table of two by two tables of whole numbers, each beside the number by which RO asks for it.
-ghost use Rattle.std.specs.Prelude.{◌≡◌, ◌<◌};
+// An index and no enum: settings and the C interface's list of numbers hold a turn as its place in the table (SavedLaws.antt), and another turn is another row.
+ghost use Rattle.std.specs.Prelude.{◌≡◌, ◌<◌, position};
+ghost use Rattle.std.specs.Ordering.{int_eq};
 ghost use Rattle.exact.specs.Fit.{Bd};
 ghost use Rattle.clip.specs.Reach.{SmallPoint, SmallRect};
-ghost use Rattle.turns.specs.Turn.{turn_count, degrees_of, find_turn, table_of, along_of, rows_of, turned_by, turned_of, turned_back_of, rebased_of, lesser_of, greater_of, ordered_of, turned_box_of, turned_back_box_of, UnitRows};
+ghost use Rattle.turns.specs.Turn.{turn_count, find_turn, found_of, along_of, rows_of, transposed_of, turned_by, turned_of, turned_back_of, rebased_of, lesser_of, greater_of, ordered_of, turned_box_of, turned_back_box_of, UnitRows};
 
 use clip::{Point, Rect};
 
 pub const TURN_COUNT: usize = 4;
-
-// RO's number for each turn, and its table: the definition has the two in one row.
-const DEGREES: [i64; TURN_COUNT] = [0, 90, 180, 270];
-
-const TURNS: [[[i64; 2]; 2]; TURN_COUNT] = [
-    [[1, 0], [0, 1]],
-    [[0, -1], [1, 0]],
-    [[-1, 0], [0, -1]],
-    [[0, 1], [-1, 0]],
-];
-
-fn degrees_of(turn: usize) -> i64
-    requires { turn < turn_count }
-    ensures { result ≡ degrees_of turn }
-{
-    DEGREES[turn]
-}
-
-// The turn that RO asks for by a number; TURN_COUNT if none has it.
-pub fn find_turn(degrees: i64) -> usize
-    ensures { result ≡ find_turn degrees }
-{
-    let mut turn: usize = 0;
-    while turn < TURN_COUNT {
-        if degrees_of(turn) == degrees {
-            return turn;
-        }
-        turn += 1;
-    }
-    TURN_COUNT
-}
 
 // A turn's table, looked up once for many points: its first row is xx, xy.
 #[derive(Clone, Copy)]
@@ -48,12 +19,64 @@ pub struct Rows {
     pub yy: i64,
 }
 
-// The table of a turn, laid out once for its four numbers.
-fn table_of(turn: usize) -> [[i64; 2]; 2]
-    requires { turn < turn_count }
-    ensures { result ≡ table_of turn }
+// A turn: the number by which RO asks for it, and its table.
+#[derive(Clone, Copy)]
+struct Turn {
+    degrees: i64,
+    rows: Rows,
+}
+
+const TURNS: [Turn; TURN_COUNT] = [
+    Turn {
+        degrees: 0,
+        rows: Rows {
+            xx: 1,
+            xy: 0,
+            yx: 0,
+            yy: 1,
+        },
+    },
+    Turn {
+        degrees: 90,
+        rows: Rows {
+            xx: 0,
+            xy: -1,
+            yx: 1,
+            yy: 0,
+        },
+    },
+    Turn {
+        degrees: 180,
+        rows: Rows {
+            xx: -1,
+            xy: 0,
+            yx: 0,
+            yy: -1,
+        },
+    },
+    Turn {
+        degrees: 270,
+        rows: Rows {
+            xx: 0,
+            xy: 1,
+            yx: -1,
+            yy: 0,
+        },
+    },
+];
+
+// The first of some turns that has a number.
+fn first_with(turns: &[Turn], degrees: i64) -> Option<usize>
+    ensures { result ≡ position (λ (t : Turn). int_eq t.degrees degrees) turns.now }
 {
-    TURNS[turn]
+    turns.iter().position(|t| t.degrees == degrees)
+}
+
+// The turn that RO asks for by a number, if one has it.
+pub fn find_turn(degrees: i64) -> Option<usize>
+    ensures { result ≡ found_of (find_turn degrees) }
+{
+    first_with(&TURNS, degrees)
 }
 
 // A row or a column of a table times a point.
@@ -68,17 +91,7 @@ pub fn rows_of(turn: usize) -> Rows
     requires { turn < turn_count }
     ensures { result ≡ rows_of turn }
 {
-    let t = table_of(turn);
-    let xx = t[0][0];
-    let xy = t[0][1];
-    let yx = t[1][0];
-    let yy = t[1][1];
-    Rows {
-        xx: xx,
-        xy: xy,
-        yx: yx,
-        yy: yy,
-    }
+    TURNS[turn].rows
 }
 
 // A table times a point.
@@ -86,9 +99,10 @@ pub fn turned_by(t: Rows, p: Point) -> Point
     requires { UnitRows t × SmallPoint p }
     ensures { result ≡ turned_by t p }
 {
-    let x = along(t.xx, t.xy, p);
-    let y = along(t.yx, t.yy, p);
-    Point { x: x, y: y }
+    Point {
+        x: along(t.xx, t.xy, p),
+        y: along(t.yx, t.yy, p),
+    }
 }
 
 // The page point of a point.
@@ -96,10 +110,18 @@ pub fn turned(p: Point, turn: usize) -> Point
     requires { SmallPoint p × (turn < turn_count) }
     ensures { result ≡ turned_of p turn }
 {
-    let t = table_of(turn);
-    let x = along(t[0][0], t[0][1], p);
-    let y = along(t[1][0], t[1][1], p);
-    Point { x: x, y: y }
+    turned_by(rows_of(turn), p)
+}
+
+// The table whose rows are a table's columns.
+fn transposed(t: Rows) -> Rows
+    ensures { result ≡ transposed_of t }
+{
+    Rows {
+        xy: t.yx,
+        yx: t.xy,
+        ..t
+    }
 }
 
 // The point of a page point: by the transposed table.
@@ -107,10 +129,7 @@ pub fn turned_back(p: Point, turn: usize) -> Point
     requires { SmallPoint p × (turn < turn_count) }
     ensures { result ≡ turned_back_of p turn }
 {
-    let t = table_of(turn);
-    let x = along(t[0][0], t[1][0], p);
-    let y = along(t[0][1], t[1][1], p);
-    Point { x: x, y: y }
+    turned_by(transposed(rows_of(turn)), p)
 }
 
 // The point that has, under a new turn, the page point that a point has under the old one.
@@ -121,31 +140,28 @@ pub fn rebased(p: Point, old: usize, new: usize) -> Point
     turned_back(turned(p, old), new)
 }
 
+// The library's minimum and maximum, in the definitions' words.
 pub fn lesser(a: i64, b: i64) -> i64
     ensures { result ≡ lesser_of a b }
 {
-    if b < a { b } else { a }
+    a.min(b)
 }
 
 pub fn greater(a: i64, b: i64) -> i64
     ensures { result ≡ greater_of a b }
 {
-    if a < b { b } else { a }
+    a.max(b)
 }
 
 // The box of two corners, put in order.
 pub fn ordered(p: Point, q: Point) -> Rect
     ensures { result ≡ ordered_of p q }
 {
-    let left = lesser(p.x, q.x);
-    let bottom = lesser(p.y, q.y);
-    let right = greater(p.x, q.x);
-    let top = greater(p.y, q.y);
     Rect {
-        left: left,
-        bottom: bottom,
-        right: right,
-        top: top,
+        left: lesser(p.x, q.x),
+        bottom: lesser(p.y, q.y),
+        right: greater(p.x, q.x),
+        top: greater(p.y, q.y),
     }
 }
 

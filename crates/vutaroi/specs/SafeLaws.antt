@@ -1,11 +1,9 @@
 -- What a list that passes paints: strokes within its limits, with a pen of 1 to 8.
 -- Why: clipping answers what lies in the box (clip's `clip-inside`), and a machine with a pen of 0 has no segment that waits.
-use Rattle.std.specs.Prelude.{◌≡◌, refl, List, ℕ, zero, suc, ◌≤◌, ◌<◌, ℤ}
+use Rattle.std.specs.Prelude.{◌≡◌, refl, List, ℕ, zero, suc, ◌≤◌, ◌<◌, ℤ, Option, Some, None}
 use Rattle.std.proofs.Common.{sym, ap, ◌∙◌, subst, arith}
 use Rattle.clip.specs.declared.Point.{Point}
 use Rattle.clip.specs.declared.Rect.{Rect}
-use Rattle.clip.specs.declared.Clipped.{Clipped}
-use Rattle.clip.specs.declared.Clipped.TheVariants as clipped
 use Rattle.clip.specs.Line.{exactly, Within}
 use Rattle.clip.specs.Clip.{clip}
 use Rattle.clip.proofs.Nearness.{clip-inside}
@@ -49,11 +47,11 @@ stroke_in d (drawn.Stroke s) = s
 same-stroke : {j k : Stroke} → drawn.Stroke j ≡ drawn.Stroke k → j ≡ k
 same-stroke {j} h = ap (stroke_in j) h
 
-clipped-within : (r : Rect) (a b : Point) (pen : ℕ) (c : Clipped) → clip r a b ≡ c → (k : Stroke) → stroke_of pen c ≡ drawn.Stroke k →
+clipped-within : (r : Rect) (a b : Point) (pen : ℕ) (c : Option (Point × Point)) → clip r a b ≡ c → (k : Stroke) → stroke_of pen c ≡ drawn.Stroke k →
     (k.pen ≡ pen) × Within r 0 (exactly (point k.x0 k.y0)) × Within r 0 (exactly (point k.x1 k.y1))
 unfolding stroke_of
-clipped-within r a b pen clipped.Hidden e k h = absurd (hidden≢ h)
-clipped-within r a b pen (clipped.Stroke s t) e k h =
+clipped-within r a b pen None e k h = absurd (hidden≢ h)
+clipped-within r a b pen (Some (s, t)) e k h =
     let w = clip-inside r a b s t e in
     let q = same-stroke h in (
       sym (ap (λ (j : Stroke). j.pen) q),

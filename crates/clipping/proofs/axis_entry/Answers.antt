@@ -1,5 +1,5 @@
 -- The proof of `axis_entry`: its four tests are the definition's, in its order.
-use borrow.Author.Rules.{rules}
+use Rattle.std.proofs.Common.{rules}
 use lib.IntN.{pos}
 use Rattle.exact.specs.Fit.{signed64, lit, ◌⊞◌, ◌⊟◌, ◌⊠◌}
 use Rattle.clip.specs.Clip.{axis_entry}
@@ -20,9 +20,6 @@ overflow_mul-result-then-q-p c = search (rules, signed64, c.requires.2 ⊟ c.req
 pub overflow_add-result : goal.overflow_add-result
 overflow_add-result c = search (rules, signed64, c.requires.4 ⊞ lit (pos 1))
 
-pub overflow_add-result-then-hi-p : goal.overflow_add-result-then-hi-p
-overflow_add-result-then-hi-p c = search (rules, signed64, c.requires.4 ⊞ lit (pos 1))
-
 pub returns-then-p-q : goal.returns-then-p-q
 unfolding axis_entry
 returns-then-p-q c = search (rules, signed64, c.requires.0 ⊟ c.requires.2, (c.requires.0 ⊟ c.requires.2) ⊠ c.requires.4)
@@ -30,10 +27,6 @@ returns-then-p-q c = search (rules, signed64, c.requires.0 ⊟ c.requires.2, (c.
 pub returns-then-q-p : goal.returns-then-q-p
 unfolding axis_entry
 returns-then-q-p c = search (rules, signed64, c.requires.2 ⊟ c.requires.1, (c.requires.2 ⊟ c.requires.1) ⊠ c.requires.4)
-
-pub returns-then-p-lo : goal.returns-then-p-lo
-unfolding axis_entry
-returns-then-p-lo c = search (rules, signed64, c.requires.4 ⊞ lit (pos 1))
 
 pub returns-then-hi-p : goal.returns-then-hi-p
 unfolding axis_entry

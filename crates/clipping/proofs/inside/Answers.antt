@@ -1,25 +1,23 @@
 -- The proof of `inside`: by its four tests.
-use borrow.Author.Rules.{rules}
+use Rattle.std.proofs.Common.{rules, sym, ◌∙◌}
 use Rattle.exact.specs.Fit.{signed64}
 use Rattle.clip.specs.Clip.{inside}
 use Rattle.clipping.proofs.inside.Goals as goal
-
-pub returns-then-p-r : goal.returns-then-p-r
-unfolding inside
-returns-then-p-r c = search (rules, signed64)
-
-pub returns-then-r-p : goal.returns-then-r-p
-unfolding inside
-returns-then-r-p c = search (rules, signed64)
-
-pub returns-then-p-r-2 : goal.returns-then-p-r-2
-unfolding inside
-returns-then-p-r-2 c = search (rules, signed64)
+use Rattle.clipping.proofs.inside.Goals.{then-r-p, else-r-p, then-p-r, else-p-r}
 
 pub returns-then-r-p-2 : goal.returns-then-r-p-2
 unfolding inside
-returns-then-r-p-2 c = search (rules, signed64)
+returns-then-r-p-2 c = elim c.if-p-r.branch [
+  | then-p-r v ↦ elim c.if-r-p.branch [ then-r-p w ↦ search (rules, signed64) | else-r-p w ↦ search (rules, signed64) ]
+  | else-p-r v ↦ search (rules, signed64)
+]
 
-pub returns : goal.returns
+pub returns-else-r-p-2 : goal.returns-else-r-p-2
 unfolding inside
-returns c = search (rules, signed64)
+returns-else-r-p-2 c = elim c.if-p-r.branch [
+  | then-p-r v ↦ elim c.if-r-p.branch [ then-r-p w ↦ search (rules, signed64) | else-r-p w ↦ search (rules, signed64) ]
+  | else-p-r v ↦ elim c.if-r-p.branch [
+    | then-r-p w ↦ let e = sym w.value-is ∙ v.if-p-r.false in rw c.if-r-p-2.false (search (rules, signed64, e))
+    | else-r-p w ↦ search (rules, signed64)
+  ]
+]

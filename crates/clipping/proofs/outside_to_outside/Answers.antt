@@ -1,11 +1,11 @@
 -- The proof of `outside_to_outside`: its test is the definition's, of what the calls returned.
-use mathlib.Core.Path.{ap₂, ◌∙◌}
+use Rattle.std.proofs.Common.{ap₂, ◌∙◌, Some}
 use mir.Syntax.{w64}
 use Rattle.exact.specs.Fit.{Num, m64, ret, put, fit, sized, lt?-is, ◌⊕◌}
 use Rattle.clip.specs.Clip.{steps, entry, place, clip}
 use Rattle.clip.specs.Reach.{most_steps}
 use Rattle.clip.specs.Sizes.{steps-size, entry-size}
-use Rattle.clip.specs.declared.Clipped.TheVariants.{Stroke}
+use Rattle.clip.specs.declared.Point.{Point}
 use Rattle.clipping.proofs.outside_to_outside.Goals as goal
 use Rattle.clipping.proofs.outside_to_outside.Lts
 use Rattle.clipping.proofs.outside_to_outside.Tie
@@ -55,6 +55,6 @@ returns c =
     let n = c.before.before.before.before in
     let a = c.before.before.before in
     rw (lt?-is (all-num a) (put w64 (m-num n.before ⊕ n-num n) tt) c.if-steps-m.false)
-    (ap₂ Stroke
+    (ap₂ (λ (s t : Point). Some (s, t))
     (c.place.ensures ∙ (λ i. place c.args.a c.args.b ((m-num n.before).is i)))
     (c.place-2.ensures ∙ (λ i. place c.args.b c.args.a ((n-num n).is i))))

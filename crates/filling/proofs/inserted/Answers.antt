@@ -1,67 +1,49 @@
--- The proof of `inserted`: what stands before i is done, and what is left is the carried number sunk into the rest.
-use borrow.Author.Rules.{rules}
-use mathlib.Core.Path.{◌≡◌, refl, sym, ap, ◌∙◌}
-use mathlib.Core.List.{List, [], ◌∷◌, ◌++◌}
-use Prim.Native.Nat.{ℕ, zero, suc, ◌+◌, ◌-◌, ◌<◌}
-use native.Mathlib.Numerals.{add-one}
-use native.Mathlib.Omega.{arith}
-use lib.IntN.{ℤ, pos}
-use lib.ListN.{length, take, drop, set, get_or, length-set}
-use lib.Seq.{take-suc-set}
-use mir.Syntax.{w64}
-use mir.Val.{SFits, to_z, of_z}
-use Rattle.exact.specs.Fit.{arg, got}
+-- The proof of `inserted`: what stands before the place is done, and what is left is the carried number sunk into the rest.
+use Rattle.std.proofs.Common.{rules, arith, add-one, ◌≡◌, refl, sym, ap, ◌∙◌, ◌≤◌, ◌<◌, ℕ, zero, suc, ℤ, pos, List, [], ◌∷◌, ◌++◌, take, drop, length, slice_index_or, slice_set, w64, to_z}
+use Rattle.std.proofs.Math.Seq.{take-suc-set}
+use Rattle.std.proofs.lemmas.List.{take_all, drop_all, take-append-le, length-append, length-drop, length-take-le}
+use mir.Val.{SFits}
+use Rattle.exact.specs.Fit.{m64, arg, got}
 use Rattle.turns.specs.Turn.{lesser_of, greater_of}
 use Rattle.filling.specs.Sink.{sink}
 use Rattle.filling.proofs.inserted.Goals as goal
 
 -- one place more
-next : (xs : List ℤ) (i m : ℕ) (c : ℤ) → i < length xs → let y = get_or xs i (pos 0) in
-    take (suc i) (set xs i (lesser_of c y)) ++ sink (greater_of c y) (take m (drop (suc i) (set xs i (lesser_of c y)))) ≡ take i xs ++ sink c (take (suc m) (drop i xs))
+next : (xs : List ℤ) (i : ℕ) (c : ℤ) → i < length xs → let y = slice_index_or xs i (pos 0) in
+    take (suc i) (slice_set xs i (lesser_of c y)) ++ sink (greater_of c y) (drop (suc i) (slice_set xs i (lesser_of c y))) ≡ take i xs ++ sink c (drop i xs)
 unfolding sink
-next [] i m c h = absurd (omega arith)
-next (x ∷ xs) zero m c h = refl
-next (x ∷ xs) (suc i) m c h = ap (λ (l : List ℤ). x ∷ l) (next xs i m c (omega arith))
+next [] i c h = absurd (omega arith)
+next (x ∷ xs) zero c h = refl
+next (x ∷ xs) (suc i) c h = ap (λ (l : List ℤ). x ∷ l) (next xs i c (omega arith))
 
-pub loop-i-init : goal.loop-i-init
-loop-i-init c =
-    let e : c.args.c.n - 0 ≡ c.args.c.n = omega arith in
-    (omega arith, search rules, ap (λ (k : ℕ). sink (to_z w64 (of_z w64 c.args.x)) (take k c.args.c.xs)) e)
+-- past the last place what is carried is the last number
+last : (row rest : List ℤ) (n i : ℕ) (c : ℤ) → length row ≡ n → length row ≤ i → n < length (row ++ rest) → take (suc n) (slice_set (row ++ rest) n c) ≡ take i row ++ sink c (drop i row)
+unfolding sink
+last row rest n i c e h l =
+    take-suc-set (row ++ rest) n c l ∙ rw (take_all i row h, drop_all i row h) (ap (λ (k : List ℤ). k ++ (c ∷ [])) (take-append-le n row rest (omega arith) ∙ take_all n row (omega arith)))
 
-pub loop-i-preserved : goal.loop-i-preserved
-loop-i-preserved c =
-    let l = c.loop-i in
-    let y = get_or l.xs l.i (pos 0) in
-    let more : l.i < c.args.c.n = search rules in
-    let long : length l.xs ≡ 114 = l.invariant.1 in
-    let fc : SFits w64 l.carry.x = search rules in
+pub loop-place-preserved : goal.loop-place-preserved
+loop-place-preserved c =
+    let l = c.loop-place in
+    let y = slice_index_or l.row l.place-index (pos 0) in
     let fy : SFits w64 y = search rules in
-    let es : to_z w64 (of_z w64 c.lesser-small.result) ≡ lesser_of l.carry.x y = got w64 c.lesser-small.type_inv ∙ c.lesser-small.ensures ∙ (λ i. lesser_of ((arg w64 fc).is i) ((arg w64 fy).is i)) in
-    let eg : to_z w64 (of_z w64 c.greater.result) ≡ greater_of l.carry.x y = got w64 c.greater.type_inv ∙ c.greater.ensures ∙ (λ i. greater_of ((arg w64 fc).is i) ((arg w64 fy).is i)) in
-    let less : c.args.c.n - l.i ≡ suc (c.args.c.n - (l.i + 1)) = omega (arith, more) in (
-      omega (arith, more),
-      length-set l.xs l.i _ ∙ long,
-      (λ i. take (add-one l.i i) (set l.xs l.i (es i)) ++ sink (eg i) (take (c.args.c.n - (l.i + 1)) (drop (add-one l.i i) (set l.xs l.i (es i)))))
-          ∙ next l.xs l.i (c.args.c.n - (l.i + 1)) l.carry.x (omega (arith, more, long, c.requires))
-          ∙ ap (λ (m : ℕ). take l.i l.xs ++ sink l.carry.x (take m (drop l.i l.xs))) (sym less)
-          ∙ l.invariant.2,
-    )
+    let es : m64 c.lesser-small.result ≡ lesser_of l.carry y = got w64 c.lesser-small.type_inv ∙ c.lesser-small.ensures ∙ (λ i. lesser_of (l.carry-is i) ((arg w64 fy).is i)) in
+    let eg : m64 c.greater-carry.result ≡ greater_of l.carry y = got w64 c.greater-carry.type_inv ∙ c.greater-carry.ensures ∙ (λ i. greater_of (l.carry-is i) ((arg w64 fy).is i)) in
+    (λ i. take (add-one l.place-index i) (slice_set l.row l.place-index (es i)) ++ sink (eg i) (drop (add-one l.place-index i) (slice_set l.row l.place-index (es i))))
+    ∙ next l.row l.place-index l.carry (omega arith)
+    ∙ ap (λ (z : ℤ). take l.place-index l.row ++ sink z (drop l.place-index l.row)) (sym l.carry-is)
+    ∙ l.invariant
 
 pub returns : goal.returns
-unfolding sink
 returns c =
-    let l = c.loop-i in
+    let l = c.loop-place in
     let n = c.args.c.n in
-    let end : l.i ≡ n = omega (arith, l.invariant.0, c.loop-i-test.false) in
-    let long : length l.xs ≡ 114 = l.invariant.1 in
-    let fc : SFits w64 l.carry.x = search rules in
     let fx : SFits w64 c.args.x = search rules in
-    let none : n - n ≡ 0 = omega arith in (
+    let long : length c.args.c.xs ≡ 114 = search rules in
+    let len : length l.row ≡ n = omega (arith, length-take-le n c.args.c.xs (omega arith)) in (
       refl,
-      (λ i. take (add-one n i) (set l.xs n ((arg w64 fc).is i)))
-          ∙ take-suc-set l.xs n l.carry.x (omega (arith, long, c.requires))
-          ∙ ap (λ (m : ℕ). take n l.xs ++ sink l.carry.x (take m (drop n l.xs))) (sym none)
-          ∙ ap (λ (j : ℕ). take j l.xs ++ sink l.carry.x (take (n - j) (drop j l.xs))) (sym end)
-          ∙ l.invariant.2
+      ap (λ (k : ℕ). take k (slice_set (l.row ++ drop n c.args.c.xs) n (to_z w64 l.carry-bits))) (add-one n)
+          ∙ last l.row (drop n c.args.c.xs) n l.place-index _ len (omega arith) (omega (arith, length-append l.row (drop n c.args.c.xs), length-drop n c.args.c.xs))
+          ∙ l.invariant
           ∙ ap (λ (x : ℤ). sink x (take n c.args.c.xs)) (arg w64 fx).is,
     )

@@ -28,8 +28,8 @@ returns-then-lower-y c =
     let f : SFits w64 y = search rules in
     ap₂ lt_z (arg w64 f).is (got w64 c.upper.type_inv ∙ c.upper.ensures) ∙ sym (ap (λ (b : Bool). b && lt_z y (upper c.args.e)) (first l c.if-lower-y.true))
 
-pub returns : goal.returns
+pub returns-else-lower-y : goal.returns-else-lower-y
 unfolding meets ◌<?◌ ◌≤?◌
-returns c =
+returns-else-lower-y c =
     let l = c.before in
-    sym (ap (λ (b : Bool). b && lt_z c.args.y (upper c.args.e)) (first l c.if-lower-y.false))
+    c.if-lower-y.false ∙ sym (ap (λ (b : Bool). b && lt_z c.args.y (upper c.args.e)) (first l c.if-lower-y.false))

@@ -1,37 +1,31 @@
 -- The proof of `turn_to`: the search of the table, and whether it found a turn.
-use borrow.Author.Rules.{rules}
-use borrow.Author.Tests.{lt-ltb, le-ltb}
-use mathlib.Core.Path.{◌≡◌, refl, sym, ap, ◌∙◌}
-use mir.Syntax.{w64}
+use Rattle.std.proofs.Common.{rules, w64, arith, ◌≡◌, sym, ap, ◌∙◌, Option, ℕ, ℤ}
+use Rattle.std.proofs.lemmas.Bool.{ltb-true}
 use mir.Val.{SFits}
 use Rattle.exact.specs.Fit.{arg}
-use Rattle.turns.specs.Turn.{find_turn}
+use Rattle.turns.specs.Turn.{turn_count, find_turn, found_of}
+use Rattle.turns.proofs.TurnsSaid.{found-some, found-none}
 use Rattle.hpgl.specs.Rules.{turn_to}
 use Rattle.settings.proofs.turn_to.Goals as goal
-use Rattle.settings.proofs.turn_to.Lts
-use Rattle.settings.proofs.turn_to.Tie
-use Rattle.settings.proofs.turn_to.Reads
 
-abbrev After-find_turn-turn : Type 0
-After-find_turn-turn = Lts.After-find_turn Tie.the-claims Reads.Pre Reads.Post
+told : {d z : ℤ} {o : Option ℕ} → d ≡ z → o ≡ found_of (find_turn d) → found_of (find_turn z) ≡ o
+told e f = sym (f ∙ ap (λ (x : ℤ). found_of (find_turn x)) e)
 
-abbrev Start : Type 0
-Start = Lts.Start Tie.the-claims Reads.Pre Reads.Post
+pub set_turn-requires : goal.set_turn-requires
+set_turn-requires c =
+    let f : SFits w64 c.args.degrees = search rules in
+    let k = found-some (find_turn c.args.degrees) (told (arg w64 f).is c.find_turn.ensures ∙ c.in-Some.is) in
+    (c.requires, omega (arith, k.0, ltb-true _ _ k.1))
 
-abbrev S : After-find_turn-turn → Start
-S c = search
-
-found : (c : After-find_turn-turn) → find_turn (S c).args.degrees ≡ c.find_turn-turn.result
-found c = let f : SFits w64 (S c).args.degrees = search rules in sym (c.find_turn-turn.ensures ∙ ap find_turn (arg w64 f).is)
-
-pub returns-then-turn-lt-TURN_COUNT : goal.returns-then-turn-lt-TURN_COUNT
+pub returns-in-Some : goal.returns-in-Some
 unfolding turn_to
-returns-then-turn-lt-TURN_COUNT c =
-    let a = c.before.before in
-    simp (c.set_turn.ensures, found a, lt-ltb _ _ c.if-turn-lt-TURN_COUNT.true) refl
+returns-in-Some c =
+    let f : SFits w64 c.args.degrees = search rules in
+    let k = found-some (find_turn c.args.degrees) (told (arg w64 f).is c.find_turn.ensures ∙ c.in-Some.is) in
+    rw (k.1, k.0) c.set_turn.ensures
 
-pub returns : goal.returns
+pub returns-in-None : goal.returns-in-None
 unfolding turn_to
-returns c =
-    let a = c.before.before in
-    simp (c.refuse.ensures, found a, le-ltb _ _ c.if-turn-lt-TURN_COUNT.false) refl
+returns-in-None c =
+    let f : SFits w64 c.args.degrees = search rules in
+    rw (found-none (find_turn c.args.degrees) (told (arg w64 f).is c.find_turn.ensures ∙ c.in-None.is)) c.refuse.ensures

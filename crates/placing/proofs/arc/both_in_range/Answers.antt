@@ -27,8 +27,8 @@ returns-then-in_range c =
     let f : SFits w64 c.args.p.y = search rules in
     rw (sym (tested a) ∙ c.if-in_range.true) (c.in_range-then-in_range.ensures ∙ ap in_range_of (arg w64 f).is)
 
-pub returns : goal.returns
+pub returns-else-in_range : goal.returns-else-in_range
 unfolding both_in_range
-returns c =
+returns-else-in_range c =
     let a = c.before in
-    rw (sym (tested a) ∙ c.if-in_range.false) refl
+    c.if-in_range.false ∙ rw (sym (tested a) ∙ c.if-in_range.false) refl

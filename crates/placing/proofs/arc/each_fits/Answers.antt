@@ -34,16 +34,16 @@ pub returns-then-not-both_in_range : goal.returns-then-not-both_in_range
 returns-then-not-both_in_range c =
     let a = c.args in
     let tested = c.both_in_range.ensures ∙ ap both_in_range (c.vertex_point.ensures ∙ ap (point_from_centre a.cx a.cy a.w) (got w64 c.bend.type_inv ∙ c.bend.ensures)) in
-    sym (one_more a.cx a.cy a.w _ a.angle _ c.loop-i.i c.loop-i-test.true (sym tested ∙ c.if-not-both_in_range.true)) ∙ c.loop-i.invariant.1
+    sym (one_more a.cx a.cy a.w _ a.angle _ c.loop-i.i (omega arith) (sym tested ∙ c.if-not-both_in_range.true)) ∙ c.loop-i.invariant
     ∙ read a.cx a.cy a.w _ a.angle a.from a.many (arg w64 c.ranges.sweep).is
 
 pub loop-i-preserved : goal.loop-i-preserved
 loop-i-preserved c =
     let a = c.args in
     let tested = c.both_in_range.ensures ∙ ap both_in_range (c.vertex_point.ensures ∙ ap (point_from_centre a.cx a.cy a.w) (got w64 c.bend.type_inv ∙ c.bend.ensures)) in
-    (omega arith, sym (one_more a.cx a.cy a.w _ a.angle _ c.loop-i.i c.loop-i-test.true (sym tested ∙ c.if-not-both_in_range.false)) ∙ c.loop-i.invariant.1)
+    sym (one_more a.cx a.cy a.w _ a.angle _ c.loop-i.i (omega arith) (sym tested ∙ c.if-not-both_in_range.false)) ∙ c.loop-i.invariant
 
 pub returns : goal.returns
 returns c =
     let a = c.args in
-    all a.cx a.cy a.w _ a.angle _ c.loop-i.i c.loop-i-test.false ∙ c.loop-i.invariant.1 ∙ read a.cx a.cy a.w _ a.angle a.from a.many (arg w64 c.ranges.sweep).is
+    all a.cx a.cy a.w _ a.angle _ c.loop-i.i (omega arith) ∙ c.loop-i.invariant ∙ read a.cx a.cy a.w _ a.angle a.from a.many (arg w64 c.ranges.sweep).is

@@ -56,8 +56,8 @@ returns-then-in_range c =
     let a = c.before.before.before in
     rw (sym (tested a) ∙ c.if-in_range.true) (c.in_range-then-in_range.ensures ∙ ap in_range_of (got w64 c.vertex-then-in_range.type_inv ∙ c.vertex-then-in_range.ensures ∙ ap (from_centre s.args.c) (back s).is))
 
-pub returns : goal.returns
+pub returns-else-in_range : goal.returns-else-in_range
 unfolding ends_fit
-returns c =
+returns-else-in_range c =
     let a = c.before in
-    rw (sym (tested a) ∙ c.if-in_range.false) refl
+    c.if-in_range.false ∙ rw (sym (tested a) ∙ c.if-in_range.false) refl

@@ -55,8 +55,8 @@ returns-then-ends_fit c =
     let e = c.before.before in
     rw (sym (tested e) ∙ c.if-ends_fit.true) (c.ends_fit-then-ends_fit.ensures ∙ ap (ends_fit c.args.cy) (sum a))
 
-pub returns : goal.returns
+pub returns-else-ends_fit : goal.returns-else-ends_fit
 unfolding round_fits
-returns c =
+returns-else-ends_fit c =
     let e = c.before in
-    rw (sym (tested e) ∙ c.if-ends_fit.false) refl
+    c.if-ends_fit.false ∙ rw (sym (tested e) ∙ c.if-ends_fit.false) refl

@@ -1,25 +1,23 @@
 -- The proof of `way_fits`: by its four tests.
-use borrow.Author.Rules.{rules}
+use Rattle.std.proofs.Common.{rules, sym, ◌∙◌}
 use Rattle.exact.specs.Fit.{signed64}
 use Rattle.plane.specs.Arc.{way_fits}
 use Rattle.placing.proofs.arc.way_fits.Goals as goal
-
-pub returns-then-w : goal.returns-then-w
-unfolding way_fits
-returns-then-w c = search (rules, signed64)
-
-pub returns-then-w-gt-MOST : goal.returns-then-w-gt-MOST
-unfolding way_fits
-returns-then-w-gt-MOST c = search (rules, signed64)
+use Rattle.placing.proofs.arc.way_fits.Goals.{then-w, else-w, then-w-le-MOST, else-w-le-MOST}
 
 pub returns-then-w-2 : goal.returns-then-w-2
 unfolding way_fits
-returns-then-w-2 c = search (rules, signed64)
+returns-then-w-2 c = elim c.if-w-le-MOST.branch [
+  | then-w-le-MOST v ↦ elim c.if-w.branch [ then-w w ↦ search (rules, signed64) | else-w w ↦ search (rules, signed64) ]
+  | else-w-le-MOST v ↦ search (rules, signed64)
+]
 
-pub returns-then-w-gt-MOST-2 : goal.returns-then-w-gt-MOST-2
+pub returns-else-w-2 : goal.returns-else-w-2
 unfolding way_fits
-returns-then-w-gt-MOST-2 c = search (rules, signed64)
-
-pub returns : goal.returns
-unfolding way_fits
-returns c = search (rules, signed64)
+returns-else-w-2 c = elim c.if-w-le-MOST.branch [
+  | then-w-le-MOST v ↦ elim c.if-w.branch [ then-w w ↦ search (rules, signed64) | else-w w ↦ search (rules, signed64) ]
+  | else-w-le-MOST v ↦ elim c.if-w.branch [
+    | then-w w ↦ let e = sym w.value-is ∙ v.if-w-le-MOST.false in rw c.if-w-2.false (search (rules, signed64, e))
+    | else-w w ↦ search (rules, signed64)
+  ]
+]

@@ -3,10 +3,10 @@ use Rattle.exact.proofs.Rules.{rules64}
 use Rattle.hpgl.specs.Machine.{stroke_of}
 use Rattle.queue.proofs.drawing.stroke_of.Goals as goal
 
-pub returns-in-Hidden : goal.returns-in-Hidden
+pub returns-in-None : goal.returns-in-None
 unfolding stroke_of
-returns-in-Hidden c = search (rules64, c.in-Hidden.is)
+returns-in-None c = search (rules64, c.in-None.is)
 
-pub returns-in-Stroke : goal.returns-in-Stroke
+pub returns-in-Some : goal.returns-in-Some
 unfolding stroke_of
-returns-in-Stroke c = search (rules64, c.in-Stroke.is)
+returns-in-Some c = search (rules64, c.in-Some.is)

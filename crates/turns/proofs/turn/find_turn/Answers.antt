@@ -1,66 +1,33 @@
--- The loop's invariant: what the search of the whole table gives is what the search from `turn` on gives.
-use mathlib.Core.Path.{◌≡◌, refl, sym, ap, ◌∙◌}
-use mathlib.Core.Bool.{true, false}
-use Prim.Native.Nat.{ℕ, suc, ◌+◌, ◌-◌}
-use native.Mathlib.Omega.{arith}
-use borrow.Author.Rules.{rules}
-use lib.IntN.{ℤ}
-use mir.Syntax.{w64}
-use mir.Val.{SFits, of_z, to_z}
-use Rattle.exact.specs.Fit.{arg, eq64-t, eq64-f}
-use Rattle.exact.specs.Whole.{◌≡?◌}
-use Rattle.turns.specs.Turn.{turn_count, degrees_of, turn_from, find_turn}
+-- The proof of `find_turn`: the constant has the definition's numbers, and the first place that has a number is the one that the search of the whole table gives.
+use Rattle.std.proofs.Common.{rules, w64, ap, ◌≡◌, refl, ◌∙◌, ℤ, Bool, true, false, cond, pos, [], ◌∷◌, int_eq}
+use Rattle.std.specs.Prelude.{position}
+use Rattle.std.proofs.lemmas.Bool.Decides.{same_from_decides, Decides-int_eq}
+use mir.Val.{SFits}
+use Rattle.exact.specs.Fit.{arg}
+use Rattle.exact.specs.Whole.{◌≡?◌, ≡?-true, eq-eq_z}
+use Rattle.turns.specs.Turn.{turns, degrees_of, turn_from, find_turn, found_of}
+use Rattle.turns.specs.declared.turn.Turn.{Turn}
+use Rattle.turns.specs.declared.turn.TheConstants.{TURNS}
 use Rattle.turns.proofs.turn.find_turn.Goals as goal
-use Rattle.turns.proofs.turn.find_turn.Lts
-use Rattle.turns.proofs.turn.find_turn.Tie
-use Rattle.turns.proofs.turn.find_turn.Reads
 
-abbrev Start : Type 0
-Start = Lts.Start Tie.the-claims Reads.Pre Reads.Post goal.the-invariant-loop-turn goal.the-decreases-loop-turn
+-- the code's test of two numbers is the definition's
+same : (a b : ℤ) → int_eq a b ≡ (a ≡? b)
+unfolding ◌≡?◌
+same a b = same_from_decides (int_eq a b) (a ≡? b) (Decides-int_eq a b) (≡?-true a b, eq-eq_z)
 
--- the search ends at t, or goes on after it
-here : (z : ℤ) (t n : ℕ) → (degrees_of t ≡? z) ≡ true → turn_from z t (suc n) ≡ t
-unfolding turn_from
-here z t n e = simp e
+-- the first of four tests that is met
+by_tests : (a b c d : Bool) → position (λ (t : Bool). t) (a ∷ b ∷ c ∷ d ∷ []) ≡ found_of (cond a 0 (cond b 1 (cond c 2 (cond d 3 4))))
+by_tests true b c d = refl
+by_tests false true c d = refl
+by_tests false false true d = refl
+by_tests false false false true = refl
+by_tests false false false false = refl
 
-later : (z : ℤ) (t n : ℕ) → (degrees_of t ≡? z) ≡ false → turn_from z t (suc n) ≡ turn_from z (t + 1) n
-unfolding turn_from
-later z t n e = simp e
-
-pub loop-turn-init : goal.loop-turn-init
-unfolding find_turn
-loop-turn-init c = (search rules, refl)
-
--- the number as the loop has it
-abbrev asked : Start → ℤ
-asked s = to_z w64 (of_z w64 s.args.degrees)
-
-fit : (s : Start) → asked s ≡ s.args.degrees
-fit s = let f : SFits w64 s.args.degrees = search rules in (arg w64 f).is
-
-pub returns-then-degrees_of-degrees : goal.returns-then-degrees_of-degrees
-returns-then-degrees_of-degrees c =
-    let s = c.before.before.before.before in
-    let t = c.loop-turn.turn in
-    let f : SFits w64 s.args.degrees = search rules in
-    let left : turn_count - t ≡ suc (turn_count - (t + 1)) = omega arith in
-    let e = (λ i. sym c.degrees_of.ensures i ≡? fit s i) ∙ eq64-t _ s.args.degrees (record { sfits = c.degrees_of.type_inv }) f c.if-degrees_of-degrees.true in
-    sym (ap find_turn (sym (fit s)) ∙ c.loop-turn.invariant.1 ∙ rw left (here (asked s) t (turn_count - (t + 1)) e))
-
-pub loop-turn-preserved : goal.loop-turn-preserved
-loop-turn-preserved c =
-    let s = c.before.before.before.before in
-    let t = c.loop-turn.turn in
-    let f : SFits w64 s.args.degrees = search rules in
-    let left : turn_count - t ≡ suc (turn_count - (t + 1)) = omega arith in
-    let e = (λ i. sym c.degrees_of.ensures i ≡? fit s i) ∙ eq64-f _ s.args.degrees (record { sfits = c.degrees_of.type_inv }) f c.if-degrees_of-degrees.false in
-    (search rules, (c.loop-turn.invariant.1 ∙ rw left (later (asked s) t (turn_count - (t + 1)) e)))
+first : (z : ℤ) → position (λ (t : Turn). int_eq t.degrees z) TURNS ≡ found_of (find_turn z)
+unfolding find_turn turn_from degrees_of turns
+first z = rw (same (pos 0) z, same (pos 90) z, same (pos 180) z, same (pos 270) z) (by_tests (pos 0 ≡? z) (pos 90 ≡? z) (pos 180 ≡? z) (pos 270 ≡? z))
 
 pub returns : goal.returns
-unfolding turn_from
 returns c =
-    let at = c.before in
-    let none : turn_count - at.loop-turn.turn ≡ 0 = omega arith in
-    let last : turn_count ≡ at.loop-turn.turn = omega arith in
-    let s = c.before.before in
-    last ∙ sym (ap find_turn (sym (fit s)) ∙ at.loop-turn.invariant.1 ∙ rw none refl)
+    let f : SFits w64 c.args.degrees = search rules in
+    c.first_with.ensures ∙ first _ ∙ ap (λ (z : ℤ). found_of (find_turn z)) (arg w64 f).is

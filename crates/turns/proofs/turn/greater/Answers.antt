@@ -1,13 +1,9 @@
--- The proof of `greater`: by its test.
-use borrow.Author.Rules.{rules}
-use Rattle.exact.specs.Fit.{signed64}
+-- The proof of `greater`: the library's maximum, which tests the two the other way round.
+use Rattle.std.proofs.Common.{rules}
+use Rattle.exact.specs.Whole.{◌<?◌}
 use Rattle.turns.specs.Turn.{greater_of}
 use Rattle.turns.proofs.turn.greater.Goals as goal
 
-pub returns-then-a-b : goal.returns-then-a-b
-unfolding greater_of
-returns-then-a-b c = search (rules, signed64)
-
-pub returns-else-a-b : goal.returns-else-a-b
-unfolding greater_of
-returns-else-a-b c = search (rules, signed64)
+pub returns : goal.returns
+unfolding greater_of ◌<?◌
+returns c = search rules

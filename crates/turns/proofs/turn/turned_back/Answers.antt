@@ -1,26 +1,20 @@
--- The proof of `turned_back`: a column times the point, twice.
-use Rattle.turns.specs.Turn.{turned_back_of}
-use Rattle.turns.proofs.Rows.{Table, table, along-asks, along-is}
+-- The proof of `turned_back`: the columns of a turn's rows are units too.
+use Rattle.std.proofs.Common.{◌≡◌, refl, ◌∙◌, ◌<◌, ℕ}
+use Rattle.clip.specs.declared.Point.{Point}
+use Rattle.turns.specs.Turn.{turn_count, rows_of, transposed_of, turned_by, turned_back_of, UnitRows}
+use Rattle.turns.proofs.TurnLaws.{rows-unit}
 use Rattle.turns.proofs.turn.turned_back.Goals as goal
-use Rattle.turns.proofs.turn.turned_back.Lts
-use Rattle.turns.proofs.turn.turned_back.Tie
-use Rattle.turns.proofs.turn.turned_back.Reads
 
-abbrev After-table_of-t : Type 0
-After-table_of-t = Lts.After-table_of Tie.the-claims Reads.Pre Reads.Post
+columns-unit : {t : ℕ} → t < turn_count → UnitRows (transposed_of (rows_of t))
+unfolding transposed_of
+columns-unit h = let u = rows-unit h in record { xx = u.xx; xy = u.yx; yx = u.xy; yy = u.yy }
 
-numbers : (a : After-table_of-t) → Table a.table_of-t.result a.args.turn
-numbers a = table a.table_of-t.ensures a.requires.1
+by_columns : (p : Point) (t : ℕ) → turned_by (transposed_of (rows_of t)) p ≡ turned_back_of p t
+unfolding transposed_of rows_of turned_by turned_back_of
+by_columns p t = refl
 
-pub along-x-requires : goal.along-x-requires
-along-x-requires c = let a = c.before.before in along-asks (numbers a).xx (numbers a).yx a.requires.0
-
-pub along-y-requires : goal.along-y-requires
-along-y-requires c = let a = c.before.before.before.before.before in along-asks (numbers a).xy (numbers a).yy a.requires.0
+pub turned_by-requires : goal.turned_by-requires
+turned_by-requires c = rw (c.transposed.ensures, c.rows_of.ensures) (columns-unit c.requires.1, c.requires.0)
 
 pub returns : goal.returns
-unfolding turned_back_of
-returns c =
-    let a = c.before.before.before.before.before.before in let n = numbers a in let p = a.args.p in
-    let x = c.before.before.before in
-    λ i. record { x = along-is p n.xx n.yx x.along-x.type_inv x.along-x.ensures i; y = along-is p n.xy n.yy c.along-y.type_inv c.along-y.ensures i }
+returns c = c.turned_by.ensures ∙ rw (c.transposed.ensures, c.rows_of.ensures) (by_columns c.args.p c.args.turn)
