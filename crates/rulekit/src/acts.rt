@@ -23,7 +23,7 @@ pub fn refuse(c: Core, number: u8) -> Acted
     Acted {
         core: c,
         action: Action::Keep,
-        number: number,
+        number,
     }
 }
 

@@ -9,7 +9,7 @@ unfolding noted_hand remembering
 returns-then-remembered c =
     rw (sym c.remembered.ensures ∙ c.if-remembered.true) refl
 
-pub returns : goal.returns
+pub returns-else-remembered : goal.returns-else-remembered
 unfolding noted_hand remembering
-returns c =
+returns-else-remembered c =
     rw (sym c.remembered.ensures ∙ c.if-remembered.false) refl

@@ -1,26 +1,25 @@
--- The proof of `remembered`: number by number.
-use mathlib.Core.Path.{refl}
-use borrow.Author.Tests.{ne_eqb}
+-- The proof of `remembered`: test by test.
+use Rattle.std.proofs.Common.{arith}
+use Rattle.std.proofs.lemmas.Bool.Decides.{nat_tests}
 use Rattle.hpgl.specs.Replies.{remembered}
 use Rattle.rulekit.proofs.hand.remembered.Goals as goal
 
-pub returns-then-number-eq1 : goal.returns-then-number-eq1
+pub returns-in-1 : goal.returns-in-1
 unfolding remembered
-returns-then-number-eq1 c = rw c.if-number-eq1.true refl
+returns-in-1 c = grind (arith, nat_tests)
 
-pub returns-then-number-eq2 : goal.returns-then-number-eq2
+pub returns-in-1-2 : goal.returns-in-1-2
 unfolding remembered
-returns-then-number-eq2 c = rw c.if-number-eq2.true refl
+returns-in-1-2 c = grind (arith, nat_tests)
 
-pub returns-then-number-eq3 : goal.returns-then-number-eq3
+pub returns-in_default : goal.returns-in_default
 unfolding remembered
-returns-then-number-eq3 c = rw c.if-number-eq3.true refl
+returns-in_default c = grind (arith, nat_tests)
 
-pub returns-then-number-eq6 : goal.returns-then-number-eq6
+pub returns-in_default-2 : goal.returns-in_default-2
 unfolding remembered
-returns-then-number-eq6 c = rw c.if-number-eq6.true refl
+returns-in_default-2 c = grind (arith, nat_tests)
 
-pub returns : goal.returns
+pub returns-in_default-3 : goal.returns-in_default-3
 unfolding remembered
-returns c =
-    rw (ne_eqb _ _ c.if-number-eq1.false, ne_eqb _ _ c.if-number-eq2.false, ne_eqb _ _ c.if-number-eq3.false, ne_eqb _ _ c.if-number-eq6.false) refl
+returns-in_default-3 c = grind (arith, nat_tests)

@@ -1,6 +1,6 @@
 -- The proof of `reachable`: by its two tests.
 use borrow.Author.Rules.{rules}
-use mathlib.Core.Path.{refl, sym, ap, ◌∙◌}
+use mathlib.Core.Path.{sym, ap, ◌∙◌}
 use mir.Syntax.{w64}
 use mir.Val.{SFits}
 use Rattle.exact.specs.Fit.{arg}
@@ -16,8 +16,8 @@ returns-then-in_range c =
     rw (sym (c.in_range.ensures ∙ ap in_range_of (arg w64 x).is) ∙ c.if-in_range.true)
     (c.in_range-then-in_range.ensures ∙ ap in_range_of (arg w64 y).is)
 
-pub returns : goal.returns
+pub returns-else-in_range : goal.returns-else-in_range
 unfolding in_range
-returns c =
+returns-else-in_range c =
     let x : SFits w64 c.args.p.x = search rules in
-    rw (sym (c.in_range.ensures ∙ ap in_range_of (arg w64 x).is) ∙ c.if-in_range.false) refl
+    rw (sym (c.in_range.ensures ∙ ap in_range_of (arg w64 x).is) ∙ c.if-in_range.false) c.if-in_range.false
