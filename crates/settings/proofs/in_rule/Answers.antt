@@ -6,4 +6,4 @@ use Rattle.settings.proofs.in_rule.Goals as goal
 pub returns : goal.returns
 unfolding in_rule
 returns c =
-    simp (c.done.ensures, c.fresh_settings-fresh.ensures, c.fresh_carriage-still.ensures, c.page_point-page.ensures) refl
+    simp (c.done.ensures, c.fresh_settings-settings.ensures, c.fresh_carriage-carriage.ensures, c.page_point-page.ensures) refl

@@ -11,7 +11,7 @@ unfolding set_corners
 returns-then-good_corners c =
     simp (c.settled.ensures, c.with_corners.ensures, sym c.good_corners.ensures ∙ c.if-good_corners.true) refl
 
-pub returns : goal.returns
+pub returns-else-good_corners : goal.returns-else-good_corners
 unfolding set_corners
-returns c =
+returns-else-good_corners c =
     simp (c.refuse.ensures, sym c.good_corners.ensures ∙ c.if-good_corners.false) refl

@@ -30,8 +30,8 @@ returns-then-turn-lt-TURN_COUNT c =
     let a = c.before.before in
     simp (c.set_turn.ensures, found a, lt-ltb _ _ c.if-turn-lt-TURN_COUNT.true) refl
 
-pub returns : goal.returns
+pub returns-else-turn-lt-TURN_COUNT : goal.returns-else-turn-lt-TURN_COUNT
 unfolding turn_to
-returns c =
+returns-else-turn-lt-TURN_COUNT c =
     let a = c.before.before in
     simp (c.refuse.ensures, found a, le-ltb _ _ c.if-turn-lt-TURN_COUNT.false) refl
