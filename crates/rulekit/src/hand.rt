@@ -64,6 +64,7 @@ pub fn core_of(settings: Settings, h: Hand, polygon: Polygon) -> Core
 }
 
 // Whether a number is remembered for OE.
+#[tactic(auto, unfolding(hpgl::specs::Replies::remembered))]
 fn remembered(number: u8) -> bool
     ensures { result ≡ remembered number }
 {
@@ -71,6 +72,7 @@ fn remembered(number: u8) -> bool
 }
 
 // A hand that remembers the number of a take.
+#[tactic(auto, unfolding(crate::specs::Hand::noted_hand, hpgl::specs::Replies::remembering))]
 pub fn noted(h: Hand, number: u8) -> Hand
     ensures { result ≡ noted_hand number h }
 {

@@ -51,6 +51,7 @@ pub fn axis_y(s: Settings) -> Axis
     axis_of(s.scale.on, s.p1.y, s.p2.y, range.min, range.max)
 }
 
+#[tactic(auto, unfolding(hpgl::specs::Place::limits))]
 pub fn limits_of(s: Settings) -> Rect
     requires { ValidSettings s }
     ensures { result ≡ P.limits s }
@@ -58,6 +59,7 @@ pub fn limits_of(s: Settings) -> Rect
     limits(s.hard, s.window.set, s.window.area, s.turn)
 }
 
+#[tactic(auto, unfolding(crate::specs::Hand::frame_of))]
 pub fn frame_of(s: Settings) -> Frame
     requires { ValidSettings s }
     ensures { result ≡ frame_of s }
@@ -80,6 +82,7 @@ pub fn located_in(f: Frame, p: Position) -> Point
 }
 
 // The location of a position.
+#[tactic(auto, unfolding(hpgl::specs::Place::location))]
 pub fn located(s: Settings, p: Position) -> Point
     requires { ValidSettings s × LocatablePosition s p }
     ensures { result ≡ P.location s p }
@@ -89,6 +92,7 @@ pub fn located(s: Settings, p: Position) -> Point
     Point { x, y }
 }
 
+#[tactic(auto, unfolding(hpgl::specs::Place::in_range))]
 pub fn reachable(p: Point) -> bool
     ensures { result ≡ P.in_range p }
 {
@@ -114,6 +118,7 @@ pub fn absolute_position(s: Settings, n: Coordinates) -> Position
 }
 
 // The position of a pair in relative mode.
+#[tactic(auto, unfolding(hpgl::specs::Place::relative_position))]
 pub fn relative_position(p: Position, n: Coordinates) -> Position
     requires { Bd p.x.offset most_product × Bd p.y.offset most_product × SmallPair n }
     ensures { result ≡ P.relative_position p n }
@@ -124,6 +129,7 @@ pub fn relative_position(p: Position, n: Coordinates) -> Position
 }
 
 // The position whose base is a location.
+#[tactic(auto, unfolding(hpgl::specs::Place::rest_at))]
 pub fn rest_at(p: Point) -> Position
     ensures { result ≡ P.rest_at p }
 {
