@@ -97,6 +97,7 @@ fn right_top(r: Rect) -> Point
 }
 
 // P1 and P2 are corners of the hard limits.
+#[tactic(auto, unfolding(hpgl::specs::Rules::fresh_settings))]
 pub fn fresh_settings(hard: Rect) -> Settings
     ensures { result ≡ R.fresh_settings hard }
 {
@@ -114,6 +115,7 @@ pub fn fresh_settings(hard: Rect) -> Settings
     }
 }
 
+#[tactic(auto, unfolding(hpgl::specs::Rules::no_polygon))]
 fn no_polygon() -> Polygon
     ensures { result ≡ R.no_polygon }
 {
@@ -133,6 +135,7 @@ fn no_polygon() -> Polygon
 }
 
 // The carriage at a page point, with a pen.
+#[tactic(auto, unfolding(hpgl::specs::Rules::fresh_carriage))]
 fn fresh_carriage(page: Point, pen: u8) -> Carriage
     ensures { result ≡ R.fresh_carriage page pen }
 {
@@ -151,6 +154,7 @@ fn fresh_carriage(page: Point, pen: u8) -> Carriage
     }
 }
 
+#[tactic(auto, unfolding(hpgl::specs::Rules::fresh_core))]
 pub fn fresh_core(hard: Rect) -> Core
     ensures { result ≡ R.fresh_core hard }
 {
@@ -197,6 +201,7 @@ pub fn good_limits(r: Rect) -> bool
 }
 
 // The hard limits of a fresh machine: bad ones are replaced, so that every machine has some.
+#[tactic(auto, unfolding(hpgl::specs::Machine::hard_limits))]
 pub fn hard_limits(r: Rect) -> Rect
     ensures { result ≡ M.hard_limits r }
 {
@@ -233,6 +238,7 @@ fn settled(c: Core, s: Settings) -> Acted
 }
 
 // IN (page 3-11): all as fresh, but page point and pen number stay.
+#[tactic(auto, unfolding(hpgl::specs::Rules::in_rule))]
 pub fn in_rule(c: Core) -> Acted
     requires { ValidCore c }
     ensures { result ≡ R.in_rule c }
@@ -244,6 +250,7 @@ pub fn in_rule(c: Core) -> Acted
 }
 
 // DF (page 3-8): scaling off, no window, absolute mode.
+#[tactic(auto, unfolding(hpgl::specs::Rules::df_rule))]
 pub fn df_rule(c: Core) -> Acted
     requires { ValidCore c }
     ensures { result ≡ R.df_rule c }
@@ -252,6 +259,7 @@ pub fn df_rule(c: Core) -> Acted
     settled(with_carriage(c, with_relative(c.carriage, false)), plain)
 }
 
+#[tactic(auto, unfolding(hpgl::specs::Rules::set_corners))]
 fn set_corners(c: Core, p: Point, q: Point) -> Acted
     requires { ValidCore c }
     ensures { result ≡ R.set_corners c p q }
@@ -321,6 +329,7 @@ pub fn sc_rule(c: Core, n: Numbers) -> Acted
     settled(c, with_scale(c.settings, scale_of(n)))
 }
 
+#[tactic(auto, unfolding(hpgl::specs::Rules::set_turn))]
 fn set_turn(c: Core, turn: usize) -> Acted
     requires { ValidCore c × (turn < turn_count) }
     ensures { result ≡ R.set_turn c turn }
@@ -361,6 +370,7 @@ fn window_of(p: Point, q: Point) -> Window
 }
 
 // Both corners must be in range.
+#[tactic(auto, unfolding(hpgl::specs::Rules::set_window))]
 fn set_window(c: Core, p: Point, q: Point) -> Acted
     ensures { result ≡ R.set_window c p q }
 {
@@ -387,6 +397,7 @@ pub fn iw_rule(c: Core, n: Numbers) -> Acted
     set_window(c, p, q)
 }
 
+#[tactic(auto, unfolding(hpgl::specs::Rules::set_pen))]
 fn set_pen(c: Core, number: u8) -> Acted
     ensures { result ≡ R.set_pen c number }
 {
@@ -414,6 +425,7 @@ pub fn sp_rule(c: Core, n: Numbers) -> Acted
 }
 
 // A fresh machine's state.
+#[tactic(auto, unfolding(hpgl::specs::Machine::fresh_state))]
 pub fn fresh_state(r: Rect) -> State
     ensures { result ≡ M.fresh_state r }
 {
