@@ -18,13 +18,14 @@ use placing::circle::vertex_point;
 use rulekit::places::limits_of;
 use turns::turn::{Rows, rows_of, turned_by};
 
+#[tactic(auto, unfolding(hpgl::specs::Machine::stroke_of))]
 fn stroke_of(pen: u8, c: Option<(Point, Point)>) -> Drawn
     ensures { result ≡ M.stroke_of pen c }
 {
     match c {
         None => Drawn::Hidden,
         Some((s, t)) => Drawn::Stroke(Stroke {
-            pen: pen,
+            pen,
             x0: s.x,
             y0: s.y,
             x1: t.x,
@@ -41,118 +42,110 @@ pub fn vertex(rows: Rows, o: Circle, i: u16, sines: &[u32]) -> Point
     if i == 0 {
         return turned_by(rows, o.start);
     }
-    let x = o.x;
-    let y = o.y;
-    let radius = o.radius;
     let angle = bend(o.sweep, o.angle as usize, i as usize);
-    turned_by(rows, vertex_point(x, y, radius, sines, angle))
+    turned_by(rows, vertex_point(o.x, o.y, o.radius, sines, angle))
 }
 
 // The work without its first segment; a reply that waits is none.
+#[tactic(auto, unfolding(hpgl::specs::Machine::work_after))]
 pub fn work_after(w: Work) -> Work
     requires { ValidWork w }
     ensures { result ≡ M.work_after w }
 {
     match w {
-        Work::Nothing => Work::Nothing,
-        Work::Line(_, _) => Work::Nothing,
+        Work::Nothing | Work::Line(..) => Work::Nothing,
         Work::Chords(o, i, n) => {
             if n <= 1 {
-                return Work::Nothing;
+                Work::Nothing
+            } else {
+                Work::Chords(o, i + 1, n - 1)
             }
-            Work::Chords(o, i + 1, n - 1)
         }
         Work::Edges(i, n) => {
             if n <= 1 {
-                return Work::Nothing;
+                Work::Nothing
+            } else {
+                Work::Edges(i + 1, n - 1)
             }
-            Work::Edges(i + 1, n - 1)
         }
         Work::Answer(_) => w,
     }
 }
 
 // The place in the store of the edge that waits first; 0 where none waits.
+#[tactic(auto, unfolding(crate::specs::First::edge_place))]
 pub fn edge_place(w: Work) -> usize
     ensures { result ≡ S.edge_place w }
 {
-    match w {
-        Work::Nothing => 0,
-        Work::Line(_, _) => 0,
-        Work::Chords(_, _, _) => 0,
-        Work::Edges(i, n) => {
-            if n == 0 {
-                return 0;
-            }
-            i as usize
-        }
-        Work::Answer(_) => 0,
+    if let Work::Edges(i, n) = w {
+        if n == 0 { 0 } else { i as usize }
+    } else {
+        0
     }
 }
 
 // Where the first waiting chord begins, on the page; of other work the origin.
+#[tactic(auto, unfolding(crate::specs::Corners::corner_of))]
 pub fn corner(rows: Rows, w: Work, sines: &[u32]) -> Point
     requires { UnitRows rows × ValidWork w × (sines.now ≡ T.sines) }
     ensures { result ≡ C.corner_of rows w }
 {
-    match w {
-        Work::Nothing => Point { x: 0, y: 0 },
-        Work::Line(_, _) => Point { x: 0, y: 0 },
-        Work::Chords(o, i, _) => vertex(rows, o, i, sines),
-        Work::Edges(_, _) => Point { x: 0, y: 0 },
-        Work::Answer(_) => Point { x: 0, y: 0 },
+    if let Work::Chords(o, i, _) = w {
+        vertex(rows, o, i, sines)
+    } else {
+        Point { x: 0, y: 0 }
     }
 }
 
 // Where it ends, and the next one begins; the origin also where none waits.
+#[tactic(auto, unfolding(crate::specs::Corners::next_corner_of))]
 pub fn next_corner(rows: Rows, w: Work, sines: &[u32]) -> Point
     requires { UnitRows rows × ValidWork w × (sines.now ≡ T.sines) }
     ensures { result ≡ C.next_corner_of rows w }
 {
-    match w {
-        Work::Nothing => Point { x: 0, y: 0 },
-        Work::Line(_, _) => Point { x: 0, y: 0 },
-        Work::Chords(o, i, n) => {
-            if n == 0 {
-                return Point { x: 0, y: 0 };
-            }
+    if let Work::Chords(o, i, n) = w {
+        if n == 0 {
+            Point { x: 0, y: 0 }
+        } else {
             vertex(rows, o, i + 1, sines)
         }
-        Work::Edges(_, _) => Point { x: 0, y: 0 },
-        Work::Answer(_) => Point { x: 0, y: 0 },
+    } else {
+        Point { x: 0, y: 0 }
     }
 }
 
 // The segment that waits first. e is the edge at its place, so that the store, which is large, is not handed on; a chord goes from `from` to `to`.
+#[tactic(auto, unfolding(crate::specs::Corners::segment_in, crate::specs::Corners::edge_in))]
 pub fn segment(rows: Rows, e: Edge, w: Work, from: Point, to: Point) -> Segment
     requires { UnitRows rows × SmallEdge e }
     ensures { result ≡ C.segment_in rows e w from to }
 {
     match w {
-        Work::Nothing => Segment::Nothing,
+        Work::Nothing | Work::Answer(_) => Segment::Nothing,
         Work::Line(a, b) => Segment::Line(a, b),
         Work::Chords(_, _, n) => {
             if n == 0 {
-                return Segment::Nothing;
+                Segment::Nothing
+            } else {
+                Segment::Line(from, to)
             }
-            Segment::Line(from, to)
         }
         Work::Edges(_, n) => {
             if n == 0 {
-                return Segment::Nothing;
-            }
-            if e.down {
+                Segment::Nothing
+            } else if e.down {
                 let a = turned_by(rows, e.from);
                 let b = turned_by(rows, e.to);
-                return Segment::Line(a, b);
+                Segment::Line(a, b)
+            } else {
+                Segment::PenUp
             }
-            Segment::PenUp
         }
-        Work::Answer(_) => Segment::Nothing,
     }
 }
 
 // What is drawn of a segment.
+#[tactic(auto, unfolding(hpgl::specs::Segment::drawn_of))]
 pub fn drawn_of(limits: Rect, pen: u8, s: Segment) -> Drawn
     requires { SmallRect limits × G.SmallSegment s }
     ensures { result ≡ G.drawn_of limits pen s }
@@ -169,8 +162,7 @@ pub fn first_segment(c: Core, e: Edge, w: Work, sines: &[u32]) -> Segment
     requires { ValidSettings c.settings × SmallEdge e × ValidWork w × (sines.now ≡ T.sines) }
     ensures { result ≡ C.first_segment c.settings e w }
 {
-    let settings = c.settings;
-    let rows = rows_of(settings.turn);
+    let rows = rows_of(c.settings.turn);
     let from = corner(rows, w, sines);
     let to = next_corner(rows, w, sines);
     segment(rows, e, w, from, to)
@@ -181,9 +173,6 @@ pub fn draw_first(c: Core, e: Edge, w: Work, sines: &[u32]) -> Drawn
     requires { ValidSettings c.settings × SmallEdge e × ValidWork w × (sines.now ≡ T.sines) }
     ensures { result ≡ G.drawn_of (P.limits c.settings) c.carriage.pen.number (C.first_segment c.settings e w) }
 {
-    let settings = c.settings;
-    let carriage = c.carriage;
-    let pen = carriage.pen;
     let s = first_segment(c, e, w, sines);
-    drawn_of(limits_of(settings), pen.number, s)
+    drawn_of(limits_of(c.settings), c.carriage.pen.number, s)
 }

@@ -20,6 +20,7 @@ fn edge(p: Point, q: Point) -> Edge
 }
 
 // The four edges of a rectangle, first along x, all pen down.
+#[tactic(auto, unfolding(hpgl::specs::Machine::rectangle_edges))]
 fn rectangle_edges(s: Store, p: Point, q: Point) -> Store
     ensures { result.edges ≡ M.rectangle_edges s.edges p q }
 {
@@ -45,51 +46,50 @@ fn joined(s: Store, count: u8, e: Edge) -> Store
 }
 
 // The store after an action of a polygon that had `count` edges.
+#[tactic(auto, unfolding(hpgl::specs::Machine::stored))]
 pub fn stored(s: Store, count: u8, a: Action) -> Store
     requires { ValidAction count a }
     ensures { result.edges ≡ M.stored s.edges count a }
 {
     match a {
-        Action::Keep => s,
-        Action::Line(_, _) => s,
-        Action::Chords(_) => s,
         Action::Join(e) => joined(s, count, e),
-        Action::Outline => s,
         Action::Rectangle(p, q, _) => rectangle_edges(s, p, q),
-        Action::Answer(_) => s,
+        Action::Keep | Action::Line(..) | Action::Chords(_) | Action::Outline | Action::Answer(_) =>
+            s,
     }
 }
 
 // What waits after an action of a polygon that has `count` edges now, whatever they are and the turn. It asks only that a circle's chords can be counted.
+#[tactic(auto, unfolding(hpgl::specs::Machine::queued))]
 pub fn queued(count: u8, a: Action) -> Work
     requires { ValidAction 0 a }
     ensures { (t : ℕ) (es : List Edge) → result ≡ M.queued t es count a }
 {
     match a {
-        Action::Keep => Work::Nothing,
+        Action::Keep | Action::Join(_) => Work::Nothing,
         Action::Line(p, q) => Work::Line(p, q),
         Action::Chords(o) => Work::Chords(o, 0, parts(o.sweep, o.angle as usize) as u16),
-        Action::Join(_) => Work::Nothing,
         Action::Outline => Work::Edges(0, count),
         Action::Rectangle(_, _, inked) => {
             if inked {
-                return Work::Edges(0, count);
+                Work::Edges(0, count)
+            } else {
+                Work::Nothing
             }
-            Work::Nothing
         }
         Action::Answer(r) => Work::Answer(r),
     }
 }
 
 // How many segments wait.
+#[tactic(auto, unfolding(hpgl::specs::Machine::waiting))]
 pub fn waiting(w: Work) -> u16
     ensures { result ≡ M.waiting w }
 {
     match w {
-        Work::Nothing => 0,
-        Work::Line(_, _) => 1,
+        Work::Nothing | Work::Answer(_) => 0,
+        Work::Line(..) => 1,
         Work::Chords(_, _, n) => n,
         Work::Edges(_, n) => n as u16,
-        Work::Answer(_) => 0,
     }
 }

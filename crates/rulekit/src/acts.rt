@@ -6,6 +6,7 @@ use hpgl::{Acted, Action, Core};
 use reader::{Coordinates, Numbers};
 
 // Carried out.
+#[tactic(auto, unfolding(hpgl::specs::Rules::done))]
 pub fn done(c: Core, a: Action) -> Acted
     ensures { result ≡ R.done c a }
 {
@@ -17,13 +18,14 @@ pub fn done(c: Core, a: Action) -> Acted
 }
 
 // Refused with a number: settings, position and polygon are left.
+#[tactic(auto, unfolding(hpgl::specs::Rules::refuse))]
 pub fn refuse(c: Core, number: u8) -> Acted
     ensures { result ≡ R.refuse c number }
 {
     Acted {
         core: c,
         action: Action::Keep,
-        number: number,
+        number,
     }
 }
 

@@ -8,88 +8,65 @@ use hpgl::{Carriage, Core, Memory, Pen, Polygon, Position, Scale, Settings, Wind
 pub fn with_position(k: Carriage, p: Position) -> Carriage
     ensures { result ≡ C.with_position k p }
 {
-    let mut r = k;
-    r.position = p;
-    r
+    Carriage { position: p, ..k }
 }
 
 pub fn with_pen(k: Carriage, p: Pen) -> Carriage
     ensures { result ≡ C.with_pen k p }
 {
-    let mut r = k;
-    r.pen = p;
-    r
+    Carriage { pen: p, ..k }
 }
 
 pub fn with_relative(k: Carriage, relative: bool) -> Carriage
     ensures { result ≡ C.with_relative k relative }
 {
-    let mut r = k;
-    r.relative = relative;
-    r
+    Carriage { relative, ..k }
 }
 
 pub fn with_polygon(k: Carriage, g: Polygon) -> Carriage
     ensures { result ≡ C.with_polygon k g }
 {
-    let mut r = k;
-    r.polygon = g;
-    r
+    Carriage { polygon: g, ..k }
 }
 
 pub fn with_memory(k: Carriage, n: Memory) -> Carriage
     ensures { result ≡ C.with_memory k n }
 {
-    let mut r = k;
-    r.memory = n;
-    r
+    Carriage { memory: n, ..k }
 }
 
 pub fn with_settings(c: Core, s: Settings) -> Core
     ensures { result ≡ C.with_settings c s }
 {
-    let mut r = c;
-    r.settings = s;
-    r
+    Core { settings: s, ..c }
 }
 
 pub fn with_carriage(c: Core, k: Carriage) -> Core
     ensures { result ≡ C.with_carriage c k }
 {
-    let mut r = c;
-    r.carriage = k;
-    r
+    Core { carriage: k, ..c }
 }
 
 pub fn with_corners(s: Settings, p: Point, q: Point) -> Settings
     ensures { result ≡ C.with_corners s p q }
 {
-    let mut r = s;
-    r.p1 = p;
-    r.p2 = q;
-    r
+    Settings { p1: p, p2: q, ..s }
 }
 
 pub fn with_scale(s: Settings, k: Scale) -> Settings
     ensures { result ≡ C.with_scale s k }
 {
-    let mut r = s;
-    r.scale = k;
-    r
+    Settings { scale: k, ..s }
 }
 
 pub fn with_turn(s: Settings, turn: usize) -> Settings
     ensures { result ≡ C.with_turn s turn }
 {
-    let mut r = s;
-    r.turn = turn;
-    r
+    Settings { turn, ..s }
 }
 
 pub fn with_window(s: Settings, w: Window) -> Settings
     ensures { result ≡ C.with_window s w }
 {
-    let mut r = s;
-    r.window = w;
-    r
+    Settings { window: w, ..s }
 }

@@ -35,67 +35,53 @@ pub struct Pointed {
     pub number: u8,
 }
 
+// Not `From`: the polygon is left out.
 pub fn hand_of(k: Carriage) -> Hand
     ensures { result ≡ hand_of k }
 {
-    let position = k.position;
-    let pen = k.pen;
-    let memory = k.memory;
     Hand {
-        position: position,
-        pen: pen,
+        position: k.position,
+        pen: k.pen,
         relative: k.relative,
-        memory: memory,
+        memory: k.memory,
     }
 }
 
 // The parts put together again.
-pub fn core_of(s: Settings, h: Hand, g: Polygon) -> Core
-    ensures { result ≡ core_of s h g }
+pub fn core_of(settings: Settings, h: Hand, polygon: Polygon) -> Core
+    ensures { result ≡ core_of settings h polygon }
 {
-    let position = h.position;
-    let pen = h.pen;
-    let memory = h.memory;
     Core {
-        settings: s,
+        settings,
         carriage: Carriage {
-            position: position,
-            pen: pen,
+            position: h.position,
+            pen: h.pen,
             relative: h.relative,
-            polygon: g,
-            memory: memory,
+            polygon,
+            memory: h.memory,
         },
     }
 }
 
-// Whether a number is remembered for OE. Most refusals are 1.
+// Whether a number is remembered for OE.
+#[tactic(auto, unfolding(hpgl::specs::Replies::remembered))]
 fn remembered(number: u8) -> bool
     ensures { result ≡ remembered number }
 {
-    if number == 1 {
-        return true;
-    }
-    if number == 2 {
-        return true;
-    }
-    if number == 3 {
-        return true;
-    }
-    if number == 6 {
-        return true;
-    }
-    number == 7
+    matches!(number, 1 | 2 | 3 | 6 | 7)
 }
 
 // A hand that remembers the number of a take.
+#[tactic(auto, unfolding(crate::specs::Hand::noted_hand, hpgl::specs::Replies::remembering))]
 pub fn noted(h: Hand, number: u8) -> Hand
     ensures { result ≡ noted_hand number h }
 {
-    let mut r = h;
     if remembered(number) {
-        let memory = Memory { refusal: number };
-        r.memory = memory;
-        return r;
+        Hand {
+            memory: Memory { refusal: number },
+            ..h
+        }
+    } else {
+        h
     }
-    r
 }

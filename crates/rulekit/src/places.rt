@@ -39,34 +39,27 @@ pub fn axis_x(s: Settings) -> Axis
     requires { ValidSettings s }
     ensures { result ≡ P.axis_x s }
 {
-    let scale = s.scale;
-    let range = scale.x;
-    let p1 = s.p1;
-    let p2 = s.p2;
-    axis_of(scale.on, p1.x, p2.x, range.min, range.max)
+    let range = s.scale.x;
+    axis_of(s.scale.on, s.p1.x, s.p2.x, range.min, range.max)
 }
 
 pub fn axis_y(s: Settings) -> Axis
     requires { ValidSettings s }
     ensures { result ≡ P.axis_y s }
 {
-    let scale = s.scale;
-    let range = scale.y;
-    let p1 = s.p1;
-    let p2 = s.p2;
-    axis_of(scale.on, p1.y, p2.y, range.min, range.max)
+    let range = s.scale.y;
+    axis_of(s.scale.on, s.p1.y, s.p2.y, range.min, range.max)
 }
 
+#[tactic(auto, unfolding(hpgl::specs::Place::limits))]
 pub fn limits_of(s: Settings) -> Rect
     requires { ValidSettings s }
     ensures { result ≡ P.limits s }
 {
-    let hard = s.hard;
-    let window = s.window;
-    let area = window.area;
-    limits(hard, window.set, area, s.turn)
+    limits(s.hard, s.window.set, s.window.area, s.turn)
 }
 
+#[tactic(auto, unfolding(crate::specs::Hand::frame_of))]
 pub fn frame_of(s: Settings) -> Frame
     requires { ValidSettings s }
     ensures { result ≡ frame_of s }
@@ -75,12 +68,7 @@ pub fn frame_of(s: Settings) -> Frame
     let y = axis_y(s);
     let rows = rows_of(s.turn);
     let limits = limits_of(s);
-    Frame {
-        x: x,
-        y: y,
-        rows: rows,
-        limits: limits,
-    }
+    Frame { x, y, rows, limits }
 }
 
 // The location of a position, by a frame that is at hand.
@@ -88,34 +76,27 @@ pub fn located_in(f: Frame, p: Position) -> Point
     requires { Locatable f.x p.x × Locatable f.y p.y }
     ensures { result ≡ location_in f p }
 {
-    let px = p.x;
-    let py = p.y;
-    let across = f.x;
-    let up = f.y;
-    let x = location(across, px);
-    let y = location(up, py);
-    Point { x: x, y: y }
+    let x = location(f.x, p.x);
+    let y = location(f.y, p.y);
+    Point { x, y }
 }
 
 // The location of a position.
+#[tactic(auto, unfolding(hpgl::specs::Place::location))]
 pub fn located(s: Settings, p: Position) -> Point
     requires { ValidSettings s × LocatablePosition s p }
     ensures { result ≡ P.location s p }
 {
-    let px = p.x;
-    let py = p.y;
-    let x = location(axis_x(s), px);
-    let y = location(axis_y(s), py);
-    Point { x: x, y: y }
+    let x = location(axis_x(s), p.x);
+    let y = location(axis_y(s), p.y);
+    Point { x, y }
 }
 
+#[tactic(auto, unfolding(hpgl::specs::Place::in_range))]
 pub fn reachable(p: Point) -> bool
     ensures { result ≡ P.in_range p }
 {
-    if in_range(p.x) {
-        return in_range(p.y);
-    }
-    false
+    in_range(p.x) && in_range(p.y)
 }
 
 // The position of a pair in absolute mode, on its axes.
@@ -137,18 +118,18 @@ pub fn absolute_position(s: Settings, n: Coordinates) -> Position
 }
 
 // The position of a pair in relative mode.
+#[tactic(auto, unfolding(hpgl::specs::Place::relative_position))]
 pub fn relative_position(p: Position, n: Coordinates) -> Position
     requires { Bd p.x.offset most_product × Bd p.y.offset most_product × SmallPair n }
     ensures { result ≡ P.relative_position p n }
 {
-    let px = p.x;
-    let py = p.y;
-    let x = relative(px, n.x);
-    let y = relative(py, n.y);
-    Position { x: x, y: y }
+    let x = relative(p.x, n.x);
+    let y = relative(p.y, n.y);
+    Position { x, y }
 }
 
 // The position whose base is a location.
+#[tactic(auto, unfolding(hpgl::specs::Place::rest_at))]
 pub fn rest_at(p: Point) -> Position
     ensures { result ≡ P.rest_at p }
 {

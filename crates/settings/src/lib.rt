@@ -50,7 +50,7 @@ fn rounded_corner(n: Coordinates) -> Point
 {
     let x = rounded(n.x);
     let y = rounded(n.y);
-    Point { x: x, y: y }
+    Point { x, y }
 }
 
 // Scaling off.
@@ -97,6 +97,7 @@ fn right_top(r: Rect) -> Point
 }
 
 // P1 and P2 are corners of the hard limits.
+#[tactic(auto, unfolding(hpgl::specs::Rules::fresh_settings))]
 pub fn fresh_settings(hard: Rect) -> Settings
     ensures { result ≡ R.fresh_settings hard }
 {
@@ -105,15 +106,16 @@ pub fn fresh_settings(hard: Rect) -> Settings
     let scale = unscaled();
     let window = no_window();
     Settings {
-        hard: hard,
-        p1: p1,
-        p2: p2,
-        scale: scale,
+        hard,
+        p1,
+        p2,
+        scale,
         turn: UPRIGHT,
-        window: window,
+        window,
     }
 }
 
+#[tactic(auto, unfolding(hpgl::specs::Rules::no_polygon))]
 fn no_polygon() -> Polygon
     ensures { result ≡ R.no_polygon }
 {
@@ -133,79 +135,60 @@ fn no_polygon() -> Polygon
 }
 
 // The carriage at a page point, with a pen.
+#[tactic(auto, unfolding(hpgl::specs::Rules::fresh_carriage))]
 fn fresh_carriage(page: Point, pen: u8) -> Carriage
     ensures { result ≡ R.fresh_carriage page pen }
 {
     let position = rest_at(page);
     let polygon = no_polygon();
     Carriage {
-        position: position,
+        position,
         pen: Pen {
             number: pen,
             down: false,
             changed: false,
         },
         relative: false,
-        polygon: polygon,
+        polygon,
         memory: Memory { refusal: 0 },
     }
 }
 
+#[tactic(auto, unfolding(hpgl::specs::Rules::fresh_core))]
 pub fn fresh_core(hard: Rect) -> Core
     ensures { result ≡ R.fresh_core hard }
 {
     let settings = fresh_settings(hard);
     let carriage = fresh_carriage(Point { x: 0, y: 0 }, NO_PEN);
-    Core {
-        settings: settings,
-        carriage: carriage,
-    }
+    Core { settings, carriage }
 }
 
 // A corner of two numbers of 16 bits.
 fn short(p: Point) -> bool
     ensures { result ≡ (R.int16 p.x && R.int16 p.y) }
 {
-    if int16(p.x) {
-        return int16(p.y);
-    }
-    false
+    int16(p.x) && int16(p.y)
 }
 
 // Two corners differ in x and in y.
 fn apart(p: Point, q: Point) -> bool
     ensures { result ≡ (not (p.x ≡? q.x) && not (p.y ≡? q.y)) }
 {
-    if p.x == q.x {
-        return false;
-    }
-    if p.y == q.y {
-        return false;
-    }
-    true
+    p.x != q.x && p.y != q.y
 }
 
 // The first corner is left of the second and below it.
 fn below(p: Point, q: Point) -> bool
     ensures { result ≡ ((p.x <? q.x) && (p.y <? q.y)) }
 {
-    if p.x < q.x {
-        return p.y < q.y;
-    }
-    false
+    p.x < q.x && p.y < q.y
 }
 
 // What IP may set.
 fn good_corners(p: Point, q: Point) -> bool
     ensures { result ≡ R.good_corners p q }
 {
-    if short(p) {
-        if short(q) {
-            return apart(p, q);
-        }
-        return false;
-    }
-    false
+    short(p) && short(q) && apart(p, q)
 }
 
 // What a fresh machine may have as its hard limits.
@@ -214,16 +197,11 @@ pub fn good_limits(r: Rect) -> bool
 {
     let p = left_bottom(r);
     let q = right_top(r);
-    if short(p) {
-        if short(q) {
-            return below(p, q);
-        }
-        return false;
-    }
-    false
+    short(p) && short(q) && below(p, q)
 }
 
 // The hard limits of a fresh machine: bad ones are replaced, so that every machine has some.
+#[tactic(auto, unfolding(hpgl::specs::Machine::hard_limits))]
 pub fn hard_limits(r: Rect) -> Rect
     ensures { result ≡ M.hard_limits r }
 {
@@ -243,15 +221,11 @@ fn rebased(c: Core, s: Settings) -> Core
     requires { ValidCore c × (s.turn < turn_count) }
     ensures { result ≡ R.rebased c s }
 {
-    let settings = c.settings;
-    let carriage = c.carriage;
-    let position = carriage.position;
-    let page = page_point(settings, position);
+    let page = page_point(c.settings, c.carriage.position);
     let rest = rest_at(turned_back(page, s.turn));
-    let moved = with_position(carriage, rest);
     Core {
         settings: s,
-        carriage: moved,
+        carriage: with_position(c.carriage, rest),
     }
 }
 
@@ -264,47 +238,37 @@ fn settled(c: Core, s: Settings) -> Acted
 }
 
 // IN (page 3-11): all as fresh, but page point and pen number stay.
+#[tactic(auto, unfolding(hpgl::specs::Rules::in_rule))]
 pub fn in_rule(c: Core) -> Acted
     requires { ValidCore c }
     ensures { result ≡ R.in_rule c }
 {
-    let settings = c.settings;
-    let hard = settings.hard;
-    let carriage = c.carriage;
-    let position = carriage.position;
-    let pen = carriage.pen;
-    let page = page_point(settings, position);
-    let fresh = fresh_settings(hard);
-    let still = fresh_carriage(page, pen.number);
-    done(
-        Core {
-            settings: fresh,
-            carriage: still,
-        },
-        Action::Keep,
-    )
+    let page = page_point(c.settings, c.carriage.position);
+    let settings = fresh_settings(c.settings.hard);
+    let carriage = fresh_carriage(page, c.carriage.pen.number);
+    done(Core { settings, carriage }, Action::Keep)
 }
 
 // DF (page 3-8): scaling off, no window, absolute mode.
+#[tactic(auto, unfolding(hpgl::specs::Rules::df_rule))]
 pub fn df_rule(c: Core) -> Acted
     requires { ValidCore c }
     ensures { result ≡ R.df_rule c }
 {
-    let settings = c.settings;
-    let carriage = c.carriage;
-    let plain = with_window(with_scale(settings, unscaled()), no_window());
-    settled(with_carriage(c, with_relative(carriage, false)), plain)
+    let plain = with_window(with_scale(c.settings, unscaled()), no_window());
+    settled(with_carriage(c, with_relative(c.carriage, false)), plain)
 }
 
+#[tactic(auto, unfolding(hpgl::specs::Rules::set_corners))]
 fn set_corners(c: Core, p: Point, q: Point) -> Acted
     requires { ValidCore c }
     ensures { result ≡ R.set_corners c p q }
 {
-    let settings = c.settings;
     if good_corners(p, q) {
-        return settled(c, with_corners(settings, p, q));
+        settled(c, with_corners(c.settings, p, q))
+    } else {
+        refuse(c, OUT_OF_RANGE)
     }
-    refuse(c, OUT_OF_RANGE)
 }
 
 // P2 at its distance from P1, for a new P1.
@@ -312,11 +276,9 @@ fn carried(s: Settings, p: Point) -> Point
     requires { ValidSettings s × ShortPoint p }
     ensures { result ≡ R.carried s p }
 {
-    let p1 = s.p1;
-    let p2 = s.p2;
     Point {
-        x: p.x + (p2.x - p1.x),
-        y: p.y + (p2.y - p1.y),
+        x: p.x + (s.p2.x - s.p1.x),
+        y: p.y + (s.p2.y - s.p1.y),
     }
 }
 
@@ -325,14 +287,13 @@ pub fn ip_rule(c: Core, n: Numbers) -> Acted
     requires { ValidCore c × Small n }
     ensures { result ≡ R.ip_rule c n }
 {
-    let settings = c.settings;
     if n.count == 0 {
-        let hard = settings.hard;
+        let hard = c.settings.hard;
         return set_corners(c, left_bottom(hard), right_top(hard));
     }
     let p = rounded_corner(first_two(n));
     if n.count == 2 {
-        return set_corners(c, p, carried(settings, p));
+        return set_corners(c, p, carried(c.settings, p));
     }
     set_corners(c, p, rounded_corner(last_two(n)))
 }
@@ -359,25 +320,21 @@ pub fn sc_rule(c: Core, n: Numbers) -> Acted
     requires { ValidCore c × Small n }
     ensures { result ≡ R.sc_rule c n }
 {
-    let settings = c.settings;
     if n.count == 0 {
-        return settled(c, with_scale(settings, unscaled()));
+        return settled(c, with_scale(c.settings, unscaled()));
     }
-    if n.first == n.second {
+    if n.first == n.second || n.third == n.fourth {
         return refuse(c, OUT_OF_RANGE);
     }
-    if n.third == n.fourth {
-        return refuse(c, OUT_OF_RANGE);
-    }
-    settled(c, with_scale(settings, scale_of(n)))
+    settled(c, with_scale(c.settings, scale_of(n)))
 }
 
+#[tactic(auto, unfolding(hpgl::specs::Rules::set_turn))]
 fn set_turn(c: Core, turn: usize) -> Acted
     requires { ValidCore c × (turn < turn_count) }
     ensures { result ≡ R.set_turn c turn }
 {
-    let settings = c.settings;
-    settled(c, with_turn(settings, turn))
+    settled(c, with_turn(c.settings, turn))
 }
 
 // The turn of so many degrees, if the table of turns has one.
@@ -407,25 +364,20 @@ fn window_of(p: Point, q: Point) -> Window
     ensures { result ≡ record { set = true; area = ordered_of p q } }
 {
     let area = ordered(p, q);
-    Window {
-        set: true,
-        area: area,
-    }
+    Window { set: true, area }
 }
 
 // Both corners must be in range.
+#[tactic(auto, unfolding(hpgl::specs::Rules::set_window))]
 fn set_window(c: Core, p: Point, q: Point) -> Acted
     ensures { result ≡ R.set_window c p q }
 {
-    let settings = c.settings;
-    if reachable(p) {
-        if reachable(q) {
-            let limited = with_window(settings, window_of(p, q));
-            return done(with_settings(c, limited), Action::Keep);
-        }
-        return refuse(c, OUT_OF_RANGE);
+    if reachable(p) && reachable(q) {
+        let limited = with_window(c.settings, window_of(p, q));
+        done(with_settings(c, limited), Action::Keep)
+    } else {
+        refuse(c, OUT_OF_RANGE)
     }
-    refuse(c, OUT_OF_RANGE)
 }
 
 // IW (page 10-9): no numbers, the window is removed; four, its corners in current units, in absolute sense.
@@ -435,27 +387,23 @@ pub fn iw_rule(c: Core, n: Numbers) -> Acted
 {
     let settings = c.settings;
     if n.count == 0 {
-        return done(
-            with_settings(c, with_window(settings, no_window())),
-            Action::Keep,
-        );
+        let unlimited = with_window(settings, no_window());
+        return done(with_settings(c, unlimited), Action::Keep);
     }
     let p = located(settings, absolute_position(settings, first_two(n)));
     let q = located(settings, absolute_position(settings, last_two(n)));
     set_window(c, p, q)
 }
 
+#[tactic(auto, unfolding(hpgl::specs::Rules::set_pen))]
 fn set_pen(c: Core, number: u8) -> Acted
     ensures { result ≡ R.set_pen c number }
 {
-    let carriage = c.carriage;
-    let old = carriage.pen;
     let pen = Pen {
-        number: number,
-        down: old.down,
-        changed: old.changed,
+        number,
+        ..c.carriage.pen
     };
-    done(with_carriage(c, with_pen(carriage, pen)), Action::Keep)
+    done(with_carriage(c, with_pen(c.carriage, pen)), Action::Keep)
 }
 
 // SP (page 4-16): no number is pen 0.
@@ -467,16 +415,15 @@ pub fn sp_rule(c: Core, n: Numbers) -> Acted
         return set_pen(c, NO_PEN);
     }
     let number = rounded(n.first);
-    if 0 <= number {
-        if number <= MOST_PEN {
-            return set_pen(c, number as u8);
-        }
-        return refuse(c, OUT_OF_RANGE);
+    if 0 <= number && number <= MOST_PEN {
+        set_pen(c, number as u8)
+    } else {
+        refuse(c, OUT_OF_RANGE)
     }
-    refuse(c, OUT_OF_RANGE)
 }
 
 // A fresh machine's state.
+#[tactic(auto, unfolding(hpgl::specs::Machine::fresh_state))]
 pub fn fresh_state(r: Rect) -> State
     ensures { result ≡ M.fresh_state r }
 {

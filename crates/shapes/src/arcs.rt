@@ -39,10 +39,7 @@ fn arc_angle(n: Numbers) -> i64
 fn good_sweep(sweep: i64) -> bool
     ensures { result ≡ R.good_sweep sweep }
 {
-    if from_to(-WHOLE_TURN, sweep, WHOLE_TURN) {
-        return sweep != 0;
-    }
-    false
+    from_to(-WHOLE_TURN, sweep, WHOLE_TURN) && sweep != 0
 }
 
 // The arc from the position about a centre.
@@ -50,27 +47,21 @@ fn arc_of(c: Core, centre: Position, sweep: i64, angle: u16) -> Circle
     requires { ValidCore c × LocatablePosition c.settings centre }
     ensures { result ≡ R.arc c centre sweep angle }
 {
-    let settings = c.settings;
-    let carriage = c.carriage;
-    let position = carriage.position;
-    let px = position.x;
-    let py = position.y;
-    let qx = centre.x;
-    let qy = centre.y;
-    let x = axis_x(settings);
-    let y = axis_y(settings);
-    let u = way_from(x, px, qx);
-    let v = way_from(y, py, qy);
-    let cx = centre_of(x, qx);
-    let cy = centre_of(y, qy);
-    let start = located(settings, position);
+    let position = c.carriage.position;
+    let x = axis_x(c.settings);
+    let y = axis_y(c.settings);
+    let u = way_from(x, position.x, centre.x);
+    let v = way_from(y, position.y, centre.y);
+    let cx = centre_of(x, centre.x);
+    let cy = centre_of(y, centre.y);
+    let start = located(c.settings, position);
     Circle {
         x: cx,
         y: cy,
-        radius: Way { u: u, v: v },
-        angle: angle,
-        start: start,
-        sweep: sweep,
+        radius: Way { u, v },
+        angle,
+        start,
+        sweep,
     }
 }
 
@@ -79,17 +70,13 @@ fn follow(c: Core, o: Circle, sines: &[u32]) -> Acted
     requires { WholeCircle o × (sines.now ≡ T.sines) }
     ensures { result ≡ R.follow c o }
 {
-    let carriage = c.carriage;
-    let pen = carriage.pen;
     let last = vertex_point(o.x, o.y, o.radius, sines, o.sweep);
-    let moved = with_carriage(c, with_position(carriage, rest_at(last)));
-    if pen.down {
-        if inked(c) {
-            return done(moved, Action::Chords(o));
-        }
-        return done(moved, Action::Keep);
+    let moved = with_carriage(c, with_position(c.carriage, rest_at(last)));
+    if c.carriage.pen.down && inked(c) {
+        done(moved, Action::Chords(o))
+    } else {
+        done(moved, Action::Keep)
     }
-    done(moved, Action::Keep)
 }
 
 // An arc whose way and whose vertices are to be judged.
@@ -129,8 +116,7 @@ pub fn aa_rule(c: Core, n: Numbers) -> Acted
     requires { ValidCore c × Small n }
     ensures { result ≡ R.aa_rule c n }
 {
-    let s = c.settings;
-    arc_about(c, absolute_position(s, first_two(n)), n)
+    arc_about(c, absolute_position(c.settings, first_two(n)), n)
 }
 
 // AR, page 5-10: the centre in relative sense.
@@ -138,7 +124,6 @@ pub fn ar_rule(c: Core, n: Numbers) -> Acted
     requires { ValidCore c × Small n }
     ensures { result ≡ R.ar_rule c n }
 {
-    let k = c.carriage;
-    let position = k.position;
-    arc_about(c, relative_position(position, first_two(n)), n)
+    let here = c.carriage.position;
+    arc_about(c, relative_position(here, first_two(n)), n)
 }

@@ -25,10 +25,7 @@ use rulekit::places::{axis_x, axis_y, located, reachable, relative_position};
 pub fn from_to(least: i64, n: i64, most: i64) -> bool
     ensures { result ≡ ((least ≤? n) && (n ≤? most)) }
 {
-    if least <= n {
-        return n <= most;
-    }
-    false
+    least <= n && n <= most
 }
 
 // The location of the point a way from the position.
@@ -36,10 +33,7 @@ fn point_at(c: Core, way: Coordinates) -> Point
     requires { ValidCore c × SmallPair way }
     ensures { result ≡ P.location c.settings (P.relative_position c.carriage.position way) }
 {
-    let settings = c.settings;
-    let carriage = c.carriage;
-    let position = carriage.position;
-    located(settings, relative_position(position, way))
+    located(c.settings, relative_position(c.carriage.position, way))
 }
 
 // Whether it is in range.
@@ -55,16 +49,10 @@ fn circle_fits(c: Core, radius: i64) -> bool
     requires { ValidCore c × Bd radius most_number }
     ensures { result ≡ R.circle_fits c radius }
 {
-    if way_fits(c, Coordinates { x: radius, y: 0 }) {
-        if way_fits(c, Coordinates { x: 0, y: radius }) {
-            if way_fits(c, Coordinates { x: -radius, y: 0 }) {
-                return way_fits(c, Coordinates { x: 0, y: -radius });
-            }
-            return false;
-        }
-        return false;
-    }
-    false
+    way_fits(c, Coordinates { x: radius, y: 0 })
+        && way_fits(c, Coordinates { x: 0, y: radius })
+        && way_fits(c, Coordinates { x: -radius, y: 0 })
+        && way_fits(c, Coordinates { x: 0, y: -radius })
 }
 
 // The circle about the position.
@@ -72,20 +60,16 @@ fn circle_of(c: Core, radius: i64, angle: u16) -> Circle
     requires { ValidCore c × Bd radius most_number }
     ensures { result ≡ R.circle c radius angle }
 {
-    let settings = c.settings;
-    let carriage = c.carriage;
-    let position = carriage.position;
-    let px = position.x;
-    let py = position.y;
-    let x = centre_of(axis_x(settings), px);
-    let y = centre_of(axis_y(settings), py);
+    let position = c.carriage.position;
+    let x = centre_of(axis_x(c.settings), position.x);
+    let y = centre_of(axis_y(c.settings), position.y);
     let start = point_at(c, Coordinates { x: radius, y: 0 });
     Circle {
-        x: x,
-        y: y,
+        x,
+        y,
         radius: Way { u: radius, v: 0 },
-        angle: angle,
-        start: start,
+        angle,
+        start,
         sweep: WHOLE_TURN,
     }
 }

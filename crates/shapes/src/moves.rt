@@ -25,9 +25,8 @@ fn spent(p: Pen) -> Pen
     ensures { result ≡ R.spent p }
 {
     Pen {
-        number: p.number,
-        down: p.down,
         changed: false,
+        ..p
     }
 }
 
@@ -35,13 +34,11 @@ fn spent(p: Pen) -> Pen
 pub fn name_number(mode: bool, op: usize) -> u8
     ensures { result ≡ name_number mode op }
 {
-    if mode {
-        if known_in_polygon(op) {
-            return 0;
-        }
-        return UNKNOWN;
+    if mode && !known_in_polygon(op) {
+        UNKNOWN
+    } else {
+        0
     }
-    0
 }
 
 // What the second letter does to the hand: PA, PD, PR and PU, pages 4-8, 4-10, 4-12 and 4-14 of the DraftPro manual.
@@ -49,66 +46,60 @@ pub fn letters(h: Hand, op: usize) -> Hand
     ensures { (g : Polygon) → carriage_of result g ≡ R.letters (carriage_of h g) op }
 {
     let pen = h.pen;
-    let mut r = h;
-    if op == PU {
-        let up = Pen {
-            number: pen.number,
-            down: false,
-            changed: pen.down,
-        };
-        r.pen = up;
-        return r;
+    match op {
+        PU => Hand {
+            pen: Pen {
+                down: false,
+                changed: pen.down,
+                ..pen
+            },
+            ..h
+        },
+        PD => Hand {
+            pen: Pen {
+                down: true,
+                changed: !pen.down,
+                ..pen
+            },
+            ..h
+        },
+        PA => Hand {
+            pen: spent(pen),
+            relative: false,
+            ..h
+        },
+        PR => Hand {
+            pen: spent(pen),
+            relative: true,
+            ..h
+        },
+        _ => h,
     }
-    if op == PD {
-        let down = Pen {
-            number: pen.number,
-            down: true,
-            changed: !pen.down,
-        };
-        r.pen = down;
-        return r;
-    }
-    if op == PA {
-        r.pen = spent(pen);
-        r.relative = false;
-        return r;
-    }
-    if op == PR {
-        r.pen = spent(pen);
-        r.relative = true;
-        return r;
-    }
-    r
 }
 
 // Whether a pen has paint: pen 0 has none.
 fn paints(p: Pen) -> bool
     ensures { result ≡ not (eqb p.number 0) }
 {
-    if p.number == 0 {
-        return false;
-    }
-    true
+    p.number != 0
 }
 
 // Whether the pen paints.
 pub fn inked(c: Core) -> bool
     ensures { result ≡ R.inked c }
 {
-    let k = c.carriage;
-    let pen = k.pen;
-    paints(pen)
+    paints(c.carriage.pen)
 }
 
 // The hand at p.
 fn moved(h: Hand, p: Position) -> Hand
     ensures { result ≡ moved_to h p }
 {
-    let pen = h.pen;
-    let mut r = h;
-    r.position = p;
-    r.pen = spent(pen);
-    r
+    Hand {
+        position: p,
+        pen: spent(h.pen),
+        ..h
+    }
 }
 
 // A move outside polygon mode, to p with its location. The page points are computed only for a line.
@@ -118,30 +109,17 @@ fn move_to(f: Frame, h: Hand, here: Point, p: Position, to: Point) -> Shifted
     ensures here_value { (result.here ≡ to) × (result.hand.position ≡ p) }
 {
     let there = moved(h, p);
-    let pen = h.pen;
-    if pen.down {
-        if paints(pen) {
-            let rows = f.rows;
-            let a = turned_by(rows, here);
-            let b = turned_by(rows, to);
-            return Shifted {
-                hand: there,
-                here: to,
-                segment: Segment::Line(a, b),
-                number: 0,
-            };
-        }
-        return Shifted {
-            hand: there,
-            here: to,
-            segment: Segment::Nothing,
-            number: 0,
-        };
-    }
+    let segment = if h.pen.down && paints(h.pen) {
+        let a = turned_by(f.rows, here);
+        let b = turned_by(f.rows, to);
+        Segment::Line(a, b)
+    } else {
+        Segment::Nothing
+    };
     Shifted {
         hand: there,
         here: to,
-        segment: Segment::Nothing,
+        segment,
         number: 0,
     }
 }
@@ -151,9 +129,10 @@ fn point_cost(p: Pen) -> u16
     ensures { result ≡ R.point_cost p }
 {
     if p.changed {
-        return POINT_BYTES + PEN_BYTES;
+        POINT_BYTES + PEN_BYTES
+    } else {
+        POINT_BYTES
     }
-    POINT_BYTES
 }
 
 // The polygon with one point more. The first of a subpolygon makes no edge.
@@ -161,15 +140,21 @@ pub fn longer(g: Polygon, n: u16, p: Position) -> Polygon
     requires { (g.bytes + n ≤ polygon_bytes) × (g.edges ≤ most_edges) }
     ensures { result ≡ R.longer g n p }
 {
-    let mut r = g;
-    r.bytes = g.bytes + n;
-    r.empty = false;
+    let bytes = g.bytes + n;
     if g.empty {
-        r.first = p;
-        return r;
+        Polygon {
+            bytes,
+            empty: false,
+            first: p,
+            ..g
+        }
+    } else {
+        Polygon {
+            bytes,
+            edges: g.edges + 1,
+            ..g
+        }
     }
-    r.edges = g.edges + 1;
-    r
 }
 
 // The edge from the current position.
@@ -177,16 +162,12 @@ pub fn edge_to(c: Core, p: Position) -> Action
     requires { ValidCore c × LocatablePosition c.settings p }
     ensures { result ≡ R.edge_to c p }
 {
-    let s = c.settings;
-    let k = c.carriage;
-    let position = k.position;
-    let pen = k.pen;
-    let from = located(s, position);
-    let to = located(s, p);
+    let from = located(c.settings, c.carriage.position);
+    let to = located(c.settings, p);
     Action::Join(Edge {
-        from: from,
-        to: to,
-        down: pen.down,
+        from,
+        to,
+        down: c.carriage.pen.down,
     })
 }
 
@@ -196,27 +177,26 @@ fn store_point(h: Hand, here: Point, bytes: u16, p: Position, to: Point) -> Poin
     ensures result_value { (s : Settings) (g : Polygon) → here ≡ P.location s h.position → to ≡ P.location s p → g.bytes ≡ bytes → pointed_of s h g result ≡ R.store_point (core_of s h g) p }
     ensures here_value { (f : Frame) → here ≡ location_in f h.position → to ≡ location_in f p → result.here ≡ location_in f result.hand.position }
 {
-    let pen = h.pen;
-    let n = point_cost(pen);
+    let n = point_cost(h.pen);
     let edge = Edge {
         from: here,
-        to: to,
-        down: pen.down,
+        to,
+        down: h.pen.down,
     };
     if bytes + n <= POLYGON_BYTES {
         let there = moved(h, p);
         return Pointed {
             hand: there,
             here: to,
-            edge: edge,
+            edge,
             cost: n,
             number: 0,
         };
     }
     Pointed {
         hand: h,
-        here: here,
-        edge: edge,
+        here,
+        edge,
         cost: 0,
         number: POLYGON_FULL,
     }
@@ -229,12 +209,10 @@ fn aimed(f: Frame, h: Hand, n: Coordinates) -> Position
     ensures { (s : Settings) (g : Polygon) → f ≡ frame_of s → result ≡ R.aimed (core_of s h g) n }
 {
     if h.relative {
-        let position = h.position;
-        return relative_position(position, n);
+        relative_position(h.position, n)
+    } else {
+        absolute_on(f.x, f.y, n)
     }
-    let x = f.x;
-    let y = f.y;
-    absolute_on(x, y, n)
 }
 
 // A pair outside polygon mode: a move to its position, if the location is in range. The location where the hand is comes along, found once for two moves.
@@ -250,7 +228,7 @@ pub fn shift(f: Frame, h: Hand, here: Point, n: Coordinates) -> Shifted
     }
     Shifted {
         hand: h,
-        here: here,
+        here,
         segment: Segment::Nothing,
         number: TOO_FAR,
     }
@@ -261,8 +239,7 @@ pub fn line_of(s: Segment) -> Action
     ensures { result ≡ line_of s }
 {
     match s {
-        Segment::Nothing => Action::Keep,
-        Segment::PenUp => Action::Keep,
+        Segment::Nothing | Segment::PenUp => Action::Keep,
         Segment::Line(a, b) => Action::Line(a, b),
     }
 }
@@ -278,14 +255,13 @@ pub fn point(f: Frame, h: Hand, here: Point, bytes: u16, n: Coordinates) -> Poin
     if reachable(to) {
         return store_point(h, here, bytes, p, to);
     }
-    let pen = h.pen;
     Pointed {
         hand: h,
-        here: here,
+        here,
         edge: Edge {
             from: here,
-            to: to,
-            down: pen.down,
+            to,
+            down: h.pen.down,
         },
         cost: 0,
         number: TOO_FAR,

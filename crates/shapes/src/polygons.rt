@@ -25,18 +25,16 @@ const MODE_AND_POINT: u16 = MODE_BYTES + POINT_BYTES;
 fn begun(k: Carriage) -> Polygon
     ensures { result ≡ R.begun k }
 {
-    let position = k.position;
-    let pen = k.pen;
     Polygon {
         mode: true,
         bytes: MODE_AND_POINT,
         edges: 0,
         empty: false,
-        first: position,
+        first: k.position,
         saved: Saved {
-            position: position,
+            position: k.position,
             relative: k.relative,
-            down: pen.down,
+            down: k.pen.down,
         },
     }
 }
@@ -45,23 +43,17 @@ fn pm0(c: Core) -> Acted
     ensures { result ≡ R.pm0 c }
 {
     let k = c.carriage;
-    let g = k.polygon;
-    if g.mode {
-        return refuse(c, OUT_OF_RANGE);
+    if k.polygon.mode {
+        refuse(c, OUT_OF_RANGE)
+    } else {
+        done(with_carriage(c, with_polygon(k, begun(k))), Action::Keep)
     }
-    done(with_carriage(c, with_polygon(k, begun(k))), Action::Keep)
 }
 
 fn differ(p: Point, q: Point) -> bool
     ensures { result ≡ R.differ p q }
 {
-    if p.x == q.x {
-        if p.y == q.y {
-            return false;
-        }
-        return true;
-    }
-    true
+    p.x != q.x || p.y != q.y
 }
 
 // Whether the subpolygon's end adds its first point.
@@ -70,14 +62,11 @@ fn closes(c: Core) -> bool
     ensures { result ≡ R.closes c }
 {
     let k = c.carriage;
-    let g = k.polygon;
-    if g.empty {
+    if k.polygon.empty {
         return false;
     }
-    let s = c.settings;
-    let position = k.position;
-    let first = g.first;
-    differ(located(s, position), located(s, first))
+    let here = located(c.settings, k.position);
+    differ(here, located(c.settings, k.polygon.first))
 }
 
 // The polygon after the end of a subpolygon that takes n bytes and k edges.
@@ -85,21 +74,22 @@ fn ended_with(g: Polygon, mode: bool, n: u16, k: u8) -> Polygon
     requires { (g.bytes + n ≤ polygon_bytes) × (g.edges ≤ most_edges) × (k ≤ 1) }
     ensures { result ≡ R.ended_with g mode n k }
 {
-    let mut r = g;
-    r.mode = mode;
-    r.bytes = g.bytes + n;
-    r.edges = g.edges + k;
-    r.empty = true;
-    r
+    Polygon {
+        mode,
+        bytes: g.bytes + n,
+        edges: g.edges + k,
+        empty: true,
+        ..g
+    }
 }
 
 fn lifted(p: Pen) -> Pen
     ensures { result ≡ R.lifted p }
 {
     Pen {
-        number: p.number,
         down: false,
         changed: false,
+        ..p
     }
 }
 
@@ -109,10 +99,9 @@ fn ended(c: Core, n: u16, edges: u8, p: Position) -> Core
     ensures { result ≡ R.ended c n edges p }
 {
     let k = c.carriage;
-    let pen = k.pen;
-    let g = k.polygon;
-    let moved = with_position(with_pen(k, lifted(pen)), p);
-    with_carriage(c, with_polygon(moved, ended_with(g, true, n, edges)))
+    let moved = with_position(with_pen(k, lifted(k.pen)), p);
+    let polygon = ended_with(k.polygon, true, n, edges);
+    with_carriage(c, with_polygon(moved, polygon))
 }
 
 // PM1 in polygon mode.
@@ -124,14 +113,12 @@ fn pm1_in(c: Core) -> Acted
     let g = k.polygon;
     if closes(c) {
         if g.bytes + MODE_AND_POINT <= POLYGON_BYTES {
-            let first = g.first;
-            return done(ended(c, MODE_AND_POINT, 1, first), edge_to(c, first));
+            return done(ended(c, MODE_AND_POINT, 1, g.first), edge_to(c, g.first));
         }
         return refuse(c, POLYGON_FULL);
     }
     if g.bytes + MODE_BYTES <= POLYGON_BYTES {
-        let position = k.position;
-        return done(ended(c, MODE_BYTES, 0, position), Action::Keep);
+        return done(ended(c, MODE_BYTES, 0, k.position), Action::Keep);
     }
     refuse(c, POLYGON_FULL)
 }
@@ -140,12 +127,11 @@ fn pm1(c: Core) -> Acted
     requires { ValidCore c }
     ensures { result ≡ R.pm1 c }
 {
-    let k = c.carriage;
-    let g = k.polygon;
-    if g.mode {
-        return pm1_in(c);
+    if c.carriage.polygon.mode {
+        pm1_in(c)
+    } else {
+        refuse(c, OUT_OF_RANGE)
     }
-    refuse(c, OUT_OF_RANGE)
 }
 
 // The core after PM2: position, mode and pen are those of PM0.
@@ -154,21 +140,19 @@ fn leave(c: Core, n: u16, edges: u8) -> Core
     ensures { result ≡ R.leave c n edges }
 {
     let k = c.carriage;
-    let pen = k.pen;
-    let g = k.polygon;
-    let saved = g.saved;
-    let position = saved.position;
-    let restored = Pen {
-        number: pen.number,
-        down: saved.down,
-        changed: false,
+    let saved = k.polygon.saved;
+    let left = Carriage {
+        position: saved.position,
+        pen: Pen {
+            down: saved.down,
+            changed: false,
+            ..k.pen
+        },
+        relative: saved.relative,
+        polygon: ended_with(k.polygon, false, n, edges),
+        ..k
     };
-    let mut r = k;
-    r.position = position;
-    r.pen = restored;
-    r.relative = saved.relative;
-    r.polygon = ended_with(g, false, n, edges);
-    with_carriage(c, r)
+    with_carriage(c, left)
 }
 
 // PM2 in polygon mode. Where the closing point has no room the polygon stays open.
@@ -177,11 +161,9 @@ fn pm2_in(c: Core) -> Acted
     ensures { result ≡ R.pm2_in c }
 {
     if closes(c) {
-        let k = c.carriage;
-        let g = k.polygon;
+        let g = c.carriage.polygon;
         if g.bytes + POINT_BYTES <= POLYGON_BYTES {
-            let first = g.first;
-            return done(leave(c, POINT_BYTES, 1), edge_to(c, first));
+            return done(leave(c, POINT_BYTES, 1), edge_to(c, g.first));
         }
         return refuse(leave(c, 0, 0), POLYGON_FULL);
     }
@@ -192,12 +174,11 @@ fn pm2(c: Core) -> Acted
     requires { ValidCore c }
     ensures { result ≡ R.pm2 c }
 {
-    let k = c.carriage;
-    let g = k.polygon;
-    if g.mode {
-        return pm2_in(c);
+    if c.carriage.polygon.mode {
+        pm2_in(c)
+    } else {
+        refuse(c, OUT_OF_RANGE)
     }
-    refuse(c, OUT_OF_RANGE)
 }
 
 // PM, page 6-14 of the DraftPro manual: 0 or none, 1, 2.
@@ -228,21 +209,23 @@ pub fn ep_rule(c: Core) -> Acted
     ensures { result ≡ R.ep_rule c }
 {
     if inked(c) {
-        return done(c, Action::Outline);
+        done(c, Action::Outline)
+    } else {
+        done(c, Action::Keep)
     }
-    done(c, Action::Keep)
 }
 
 // The polygon that a rectangle leaves.
 fn rectangular(g: Polygon) -> Polygon
     ensures { result ≡ R.rectangular g }
 {
-    let mut r = g;
-    r.mode = false;
-    r.bytes = RECTANGLE_BYTES;
-    r.edges = 4;
-    r.empty = true;
-    r
+    Polygon {
+        mode: false,
+        bytes: RECTANGLE_BYTES,
+        edges: 4,
+        empty: true,
+        ..g
+    }
 }
 
 // The rectangle between the current position and the opposite corner, if that is in range.
@@ -250,19 +233,15 @@ fn rectangle_to(c: Core, p: Position) -> Acted
     requires { ValidCore c × LocatablePosition c.settings p }
     ensures { result ≡ R.rectangle_to c p }
 {
-    let s = c.settings;
-    let corner = located(s, p);
+    let corner = located(c.settings, p);
     if reachable(corner) {
         let k = c.carriage;
-        let g = k.polygon;
-        let position = k.position;
-        let changed = with_carriage(c, with_polygon(k, rectangular(g)));
-        return done(
-            changed,
-            Action::Rectangle(located(s, position), corner, inked(c)),
-        );
+        let changed = with_carriage(c, with_polygon(k, rectangular(k.polygon)));
+        let here = located(c.settings, k.position);
+        done(changed, Action::Rectangle(here, corner, inked(c)))
+    } else {
+        refuse(c, TOO_FAR)
     }
-    refuse(c, TOO_FAR)
 }
 
 // EA, page 5-16: the corner in absolute sense.
@@ -270,8 +249,7 @@ pub fn ea_rule(c: Core, n: Numbers) -> Acted
     requires { ValidCore c × Small n }
     ensures { result ≡ R.ea_rule c n }
 {
-    let s = c.settings;
-    rectangle_to(c, absolute_position(s, first_two(n)))
+    rectangle_to(c, absolute_position(c.settings, first_two(n)))
 }
 
 // ER, page 5-18: the corner in relative sense.
@@ -279,7 +257,6 @@ pub fn er_rule(c: Core, n: Numbers) -> Acted
     requires { ValidCore c × Small n }
     ensures { result ≡ R.er_rule c n }
 {
-    let k = c.carriage;
-    let position = k.position;
-    rectangle_to(c, relative_position(position, first_two(n)))
+    let here = c.carriage.position;
+    rectangle_to(c, relative_position(here, first_two(n)))
 }

@@ -14,5 +14,5 @@ returns-then-p-q c =
     let qy : SFits w64 c.args.q.y = search rules in
     rw (lt?-is (arg w64 px) (arg w64 qx) c.if-p-q.true) (sym (lt?-is (arg w64 py) (arg w64 qy) refl))
 
-pub returns : goal.returns
-returns c = search (rules, signed64)
+pub returns-else-p-q : goal.returns-else-p-q
+returns-else-p-q c = search (rules, signed64)

@@ -9,7 +9,7 @@ use Rattle.settings.proofs.iw_rule.Goals as goal
 pub returns-then-n-eq0 : goal.returns-then-n-eq0
 unfolding iw_rule
 returns-then-n-eq0 c =
-    simp (c.done.ensures, c.with_settings.ensures, c.with_window.ensures, c.no_window.ensures, eq-eqb _ _ c.if-n-eq0.true) refl
+    simp (c.done.ensures, c.with_settings.ensures, c.with_window-unlimited.ensures, c.no_window.ensures, eq-eqb _ _ c.if-n-eq0.true) refl
 
 pub absolute_position-requires : goal.absolute_position-requires
 absolute_position-requires c =

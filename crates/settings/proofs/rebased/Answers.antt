@@ -12,4 +12,4 @@ turned_back-requires c =
 pub returns : goal.returns
 unfolding rebased
 returns c =
-    simp (c.with_position-moved.ensures, c.rest_at-rest.ensures, c.turned_back.ensures, c.page_point-page.ensures) refl
+    simp (c.with_position.ensures, c.rest_at-rest.ensures, c.turned_back.ensures, c.page_point-page.ensures) refl

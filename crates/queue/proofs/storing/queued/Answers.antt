@@ -1,5 +1,5 @@
 -- The proof of `queued`: by its arms. A valid circle has at most 720 chords.
-use mathlib.Core.Path.{◌≡◌, refl, ap, ◌∙◌, subst}
+use mathlib.Core.Path.{◌≡◌, ap, ◌∙◌, subst}
 use Prim.Native.Nat.{ℕ, ◌≤◌}
 use native.Mathlib.Omega.{arith}
 use lib.IntN.{ℤ}
@@ -8,7 +8,6 @@ use mir.Val.{to_z, of_z}
 use Rattle.exact.specs.Fit.{val, sized}
 use Rattle.plane.specs.Arc.{parts_of}
 use Rattle.hpgl.specs.declared.Circle.{Circle}
-use Rattle.hpgl.specs.Machine as M
 use Rattle.hpgl.specs.Valid.{most_chords, ValidAction, WholeCircle}
 use Rattle.hpgl.proofs.ValidFacts.{chords-most}
 use Rattle.queue.proofs.storing.queued.Goals as goal
@@ -27,37 +26,3 @@ overflow_cast-result c =
     let w : WholeCircle c.in-Chords.o = subst (ValidAction 0) c.in-Chords.is c.requires in
     let k : c.parts.result ≤ most_chords = rw (count w c.parts.ensures) (chords-most w) in
     record { fits = omega (arith, k) }
-
-pub returns-then-inked : goal.returns-then-inked
-unfolding M.queued
-returns-then-inked c = λ t es. rw (c.in-Rectangle.is, c.if-inked.true) refl
-
-pub returns-in-Keep : goal.returns-in-Keep
-unfolding M.queued
-returns-in-Keep c = λ t es. rw c.in-Keep.is refl
-
-pub returns-in-Line : goal.returns-in-Line
-unfolding M.queued
-returns-in-Line c = λ t es. rw c.in-Line.is refl
-
-pub returns-in-Chords : goal.returns-in-Chords
-unfolding M.queued
-returns-in-Chords c = λ t es.
-    let w : WholeCircle c.in-Chords.o = subst (ValidAction 0) c.in-Chords.is c.requires in
-    rw (c.in-Chords.is, count w c.parts.ensures) refl
-
-pub returns-in-Join : goal.returns-in-Join
-unfolding M.queued
-returns-in-Join c = λ t es. rw c.in-Join.is refl
-
-pub returns-in-Outline : goal.returns-in-Outline
-unfolding M.queued
-returns-in-Outline c = λ t es. rw c.in-Outline.is refl
-
-pub returns-else-inked : goal.returns-else-inked
-unfolding M.queued
-returns-else-inked c = λ t es. rw (c.in-Rectangle.is, c.if-inked.false) refl
-
-pub returns-in-Answer : goal.returns-in-Answer
-unfolding M.queued
-returns-in-Answer c = λ t es. rw c.in-Answer.is refl

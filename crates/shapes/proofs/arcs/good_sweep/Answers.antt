@@ -41,8 +41,8 @@ returns-then-from_to c =
     let a = c.before in
     rw (sym (tested a) ∙ c.if-from_to.true) (ap not (zero s))
 
-pub returns : goal.returns
+pub returns-else-from_to : goal.returns-else-from_to
 unfolding good_sweep
-returns c =
+returns-else-from_to c =
     let a = c.before in
-    rw (sym (tested a) ∙ c.if-from_to.false) refl
+    rw (sym (tested a) ∙ c.if-from_to.false) c.if-from_to.false

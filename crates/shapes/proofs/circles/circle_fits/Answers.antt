@@ -1,93 +1,63 @@
 -- The proof of `circle_fits`: the four ways, one after the other.
-use mathlib.Core.Path.{◌≡◌, refl, sym, ◌∙◌}
-use mathlib.Core.Bool.{Bool}
-use lib.IntN.{pos, neg_ℤ, ◌-ℤ◌}
+use Rattle.std.proofs.Common.{refl, sym, ap, ◌∙◌, Bool}
+use lib.IntN.{ℤ, pos, neg_ℤ, ◌-ℤ◌}
 use mir.Syntax.{w64}
-use Rattle.exact.specs.Fit.{Num, m64, val, neg, put, fit, sized}
-use Rattle.reader.specs.declared.Coordinates.{Coordinates}
+use Rattle.exact.specs.Fit.{Num, Bd, m64, val, neg, put, sized}
 use Rattle.plane.specs.Bounds.{most_number}
+use Rattle.hpgl.specs.declared.Core.{Core}
 use Rattle.hpgl.specs.Place.{location, in_range, relative_position}
 use Rattle.hpgl.specs.Rules.{circle_fits}
 use Rattle.hpgl.proofs.ValidFacts.{along-x, along-y}
 use Rattle.shapes.proofs.circles.circle_fits.Goals as goal
-use Rattle.shapes.proofs.circles.circle_fits.Lts
-use Rattle.shapes.proofs.circles.circle_fits.Tie
-use Rattle.shapes.proofs.circles.circle_fits.Reads
+use Rattle.shapes.proofs.circles.circle_fits.Goals.{then-way_fits, else-way_fits, then-way_fits-2, else-way_fits-2}
 
-abbrev After-way_fits : Type 0
-After-way_fits = Lts.After-way_fits Tie.the-claims Reads.Pre Reads.Post
+-- what `way_fits` answers of a way along x, and of one along y
+abbrev across : Core → ℤ → Bool
+across c n = in_range (location c.settings (relative_position c.carriage.position (record { x = n; y = pos 0 })))
 
-abbrev After-way_fits-then-way_fits : Type 0
-After-way_fits-then-way_fits = Lts.After-way_fits2 Tie.the-claims Reads.Pre Reads.Post
+abbrev upward : Core → ℤ → Bool
+upward c n = in_range (location c.settings (relative_position c.carriage.position (record { x = pos 0; y = n })))
 
-abbrev After-way_fits-then-way_fits-2 : Type 0
-After-way_fits-then-way_fits-2 = Lts.After-way_fits3 Tie.the-claims Reads.Pre Reads.Post
+there : {r : ℤ} → Bd r most_number → Num (m64 r) r most_number
+there h = val w64 h tt
 
-abbrev Start : Type 0
-Start = Lts.Start Tie.the-claims Reads.Pre Reads.Post
-
--- what `way_fits` answers
-abbrev way_fits : Start → Coordinates → Bool
-way_fits s n = in_range (location s.args.c.settings (relative_position s.args.c.carriage.position n))
-
-radius : (s : Start) → Num (m64 s.args.radius) s.args.radius most_number
-radius s = val w64 s.requires.1 tt
-
-back : (s : Start) → Num (m64 (pos 0 -ℤ m64 s.args.radius)) (neg_ℤ s.args.radius) most_number
-back s = put w64 (neg (radius s)) tt
-
-right : (c : After-way_fits) → c.way_fits.result ≡ way_fits c.before (record { x = c.args.radius; y = pos 0 })
-right c = c.way_fits.ensures ∙ (λ i. way_fits c.before (record { x = (radius c.before).is i; y = pos 0 }))
-
-abbrev start2 : After-way_fits-then-way_fits → Start
-start2 c = search
-
-up : (c : After-way_fits-then-way_fits) → let s = start2 c in c.way_fits-then-way_fits.result ≡ way_fits s (record { x = pos 0; y = s.args.radius })
-up c = let s = start2 c in c.way_fits-then-way_fits.ensures ∙ (λ i. way_fits s (record { x = pos 0; y = (radius s).is i }))
-
-abbrev start3 : After-way_fits-then-way_fits-2 → Start
-start3 c = search
-
-left : (c : After-way_fits-then-way_fits-2) → let s = start3 c in c.way_fits-then-way_fits-2.result ≡ way_fits s (record { x = neg_ℤ s.args.radius; y = pos 0 })
-left c = let s = start3 c in c.way_fits-then-way_fits-2.ensures ∙ (λ i. way_fits s (record { x = (back s).is i; y = pos 0 }))
-
-pub overflow_sub-radius : goal.overflow_sub-radius
-overflow_sub-radius c = let s = c.before.before.before.before in fit w64 (neg (radius s)) tt
+back : {r : ℤ} → Bd r most_number → Num (m64 (pos 0 -ℤ m64 r)) (neg_ℤ r) most_number
+back h = put w64 (neg (there h)) tt
 
 pub way_fits-requires-then-way_fits-2 : goal.way_fits-requires-then-way_fits-2
-way_fits-requires-then-way_fits-2 c = let s = c.before.before.before.before in (s.requires.0, along-x (sized (back s) tt))
-
-pub overflow_sub-radius-then-way_fits-3 : goal.overflow_sub-radius-then-way_fits-3
-overflow_sub-radius-then-way_fits-3 c = let s = c.before.before.before.before.before.before in fit w64 (neg (radius s)) tt
+way_fits-requires-then-way_fits-2 c = (c.requires.0, along-x (sized (back c.requires.1) tt))
 
 pub way_fits-requires-then-way_fits-3 : goal.way_fits-requires-then-way_fits-3
-way_fits-requires-then-way_fits-3 c = let s = c.before.before.before.before.before.before in (s.requires.0, along-y (sized (back s) tt))
+way_fits-requires-then-way_fits-3 c = (c.requires.0, along-y (sized (back c.requires.1) tt))
 
 pub returns-then-way_fits-3 : goal.returns-then-way_fits-3
 unfolding circle_fits
 returns-then-way_fits-3 c =
-    let s = c.before.before.before.before.before.before.before in
-    let a = c.before.before.before.before.before.before in
-    let b = c.before.before.before.before in
-    let d = c.before.before in
-    rw (sym (right a) ∙ c.if-way_fits.true, sym (up b) ∙ c.if-way_fits-2.true, sym (left d) ∙ c.if-way_fits-3.true)
-    (c.way_fits-then-way_fits-3.ensures ∙ (λ i. way_fits s (record { x = pos 0; y = (back s).is i })))
+    let right = c.way_fits.ensures ∙ ap (across c.args.c) (there c.requires.1).is in
+    let down = c.way_fits-then-way_fits-3.ensures ∙ ap (upward c.args.c) (back c.requires.1).is in
+    elim c.if-way_fits-2.branch [
+      | then-way_fits-2 v ↦ elim c.if-way_fits.branch [
+        | then-way_fits w ↦
+            let up = w.way_fits-then-way_fits.ensures ∙ ap (upward c.args.c) (there c.requires.1).is in
+            let left = v.way_fits-then-way_fits-2.ensures ∙ ap (across c.args.c) (back c.requires.1).is in
+            rw (sym right ∙ w.if-way_fits.true, sym up ∙ sym w.value-is ∙ v.if-way_fits-2.true, sym left ∙ sym v.value-is ∙ c.if-way_fits-3.true) down
+        | else-way_fits w ↦ cc
+      ]
+      | else-way_fits-2 v ↦ cc
+    ]
 
-pub returns-then-way_fits-2 : goal.returns-then-way_fits-2
+pub returns-else-way_fits-3 : goal.returns-else-way_fits-3
 unfolding circle_fits
-returns-then-way_fits-2 c =
-    let a = c.before.before.before.before.before in
-    let b = c.before.before.before in
-    let d = c.before in
-    rw (sym (right a) ∙ c.if-way_fits.true, sym (up b) ∙ c.if-way_fits-2.true, sym (left d) ∙ c.if-way_fits-3.false) refl
-
-pub returns-then-way_fits : goal.returns-then-way_fits
-unfolding circle_fits
-returns-then-way_fits c =
-    let a = c.before.before.before in
-    let b = c.before in
-    rw (sym (right a) ∙ c.if-way_fits.true, sym (up b) ∙ c.if-way_fits-2.false) refl
-
-pub returns : goal.returns
-unfolding circle_fits
-returns c = let a = c.before in rw (sym (right a) ∙ c.if-way_fits.false) refl
+returns-else-way_fits-3 c =
+    let right = c.way_fits.ensures ∙ ap (across c.args.c) (there c.requires.1).is in
+    c.if-way_fits-3.false ∙ elim c.if-way_fits.branch [
+      | then-way_fits w ↦
+          let up = w.way_fits-then-way_fits.ensures ∙ ap (upward c.args.c) (there c.requires.1).is in
+          elim c.if-way_fits-2.branch [
+            | then-way_fits-2 v ↦
+                let left = v.way_fits-then-way_fits-2.ensures ∙ ap (across c.args.c) (back c.requires.1).is in
+                rw (sym right ∙ w.if-way_fits.true, sym up ∙ sym w.value-is ∙ v.if-way_fits-2.true, sym left ∙ sym v.value-is ∙ c.if-way_fits-3.false) refl
+            | else-way_fits-2 v ↦ rw (sym right ∙ w.if-way_fits.true, sym up ∙ sym w.value-is ∙ v.if-way_fits-2.false) refl
+          ]
+      | else-way_fits w ↦ rw (sym right ∙ w.if-way_fits.false) refl
+    ]

@@ -8,6 +8,6 @@ pub returns-then-least-n : goal.returns-then-least-n
 returns-then-least-n c =
     rw (le?-is (arg w64 c.ranges.least) (arg w64 c.ranges.n) c.if-least-n.true) (sym (le?-is (arg w64 c.ranges.n) (arg w64 c.ranges.most) refl))
 
-pub returns : goal.returns
-returns c =
-    rw (le?-is (arg w64 c.ranges.least) (arg w64 c.ranges.n) c.if-least-n.false) refl
+pub returns-else-least-n : goal.returns-else-least-n
+returns-else-least-n c =
+    rw (le?-is (arg w64 c.ranges.least) (arg w64 c.ranges.n) c.if-least-n.false) c.if-least-n.false

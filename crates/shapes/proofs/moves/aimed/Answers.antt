@@ -9,6 +9,6 @@ pub returns-then-h : goal.returns-then-h
 unfolding aimed
 returns-then-h c = λ s g e. simp (c.relative_position.ensures, c.if-h.true) refl
 
-pub returns : goal.returns
+pub returns-else-h : goal.returns-else-h
 unfolding aimed absolute_position frame_of
-returns c = λ s g e. simp (c.absolute_on.ensures, c.if-h.false, e) refl
+returns-else-h c = λ s g e. simp (c.absolute_on.ensures, c.if-h.false, e) refl

@@ -1,50 +1,25 @@
--- The proof of `letters`: by its tests of the instruction.
-use mathlib.Core.Path.{refl}
-use borrow.Author.Tests.{eq-eqb, ne_eqb}
+-- The proof of `letters`: by the instruction.
+use Rattle.std.proofs.Common.{refl, arith}
+use Rattle.std.proofs.lemmas.Bool.Decides.{nat_tests}
 use Rattle.hpgl.specs.Rules.{letters}
 use Rattle.shapes.proofs.moves.letters.Goals as goal
 
-pub returns-then-op-eq-PU : goal.returns-then-op-eq-PU
+pub returns-in-0 : goal.returns-in-0
 unfolding letters
-returns-then-op-eq-PU c = λ g. simp (eq-eqb _ _ c.if-op-eq-PU.true) refl
+returns-in-0 c = λ g. simp (c.in-0.is) refl
 
-pub returns-then-op-eq-PD : goal.returns-then-op-eq-PD
+pub returns-in-1 : goal.returns-in-1
 unfolding letters
-returns-then-op-eq-PD c = λ g. simp (ne_eqb _ _ c.if-op-eq-PU.false, eq-eqb _ _ c.if-op-eq-PD.true) refl
+returns-in-1 c = λ g. simp (c.in-1.is) refl
 
-pub returns-then-op-eq-PA : goal.returns-then-op-eq-PA
+pub returns-in-2 : goal.returns-in-2
 unfolding letters
-returns-then-op-eq-PA c =
-    λ g.
-    simp (
-      ne_eqb _ _ c.if-op-eq-PU.false,
-      ne_eqb _ _ c.if-op-eq-PD.false,
-      eq-eqb _ _ c.if-op-eq-PA.true,
-      c.spent-r.ensures,
-    )
-    refl
+returns-in-2 c = λ g. simp (c.in-2.is, c.spent.ensures) refl
 
-pub returns-then-op-eq-PR : goal.returns-then-op-eq-PR
+pub returns-in-3 : goal.returns-in-3
 unfolding letters
-returns-then-op-eq-PR c =
-    λ g.
-    simp (
-      ne_eqb _ _ c.if-op-eq-PU.false,
-      ne_eqb _ _ c.if-op-eq-PD.false,
-      ne_eqb _ _ c.if-op-eq-PA.false,
-      eq-eqb _ _ c.if-op-eq-PR.true,
-      c.spent-r-then-op-eq-PR.ensures,
-    )
-    refl
+returns-in-3 c = λ g. simp (c.in-3.is, c.spent-in-3.ensures) refl
 
-pub returns : goal.returns
+pub returns-in_default : goal.returns-in_default
 unfolding letters
-returns c =
-    λ g.
-    simp (
-      ne_eqb _ _ c.if-op-eq-PU.false,
-      ne_eqb _ _ c.if-op-eq-PD.false,
-      ne_eqb _ _ c.if-op-eq-PA.false,
-      ne_eqb _ _ c.if-op-eq-PR.false,
-    )
-    refl
+returns-in_default c = λ g. grind (arith, nat_tests)

@@ -7,6 +7,6 @@ pub returns-then-g : goal.returns-then-g
 unfolding longer
 returns-then-g c = simp c.if-g.true refl
 
-pub returns : goal.returns
+pub returns-else-g : goal.returns-else-g
 unfolding longer
-returns c = simp c.if-g.false refl
+returns-else-g c = simp c.if-g.false refl

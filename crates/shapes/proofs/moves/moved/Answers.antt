@@ -3,4 +3,4 @@ use mathlib.Core.Path.{refl}
 use Rattle.shapes.proofs.moves.moved.Goals as goal
 
 pub returns : goal.returns
-returns c = simp c.spent-r.ensures refl
+returns c = simp c.spent.ensures refl

@@ -7,6 +7,6 @@ pub returns-then-p : goal.returns-then-p
 unfolding point_cost
 returns-then-p c = simp c.if-p.true refl
 
-pub returns : goal.returns
+pub returns-else-p : goal.returns-else-p
 unfolding point_cost
-returns c = simp c.if-p.false refl
+returns-else-p c = simp c.if-p.false refl

@@ -4,14 +4,10 @@ use Rattle.exact.specs.Fit.{signed64}
 use Rattle.hpgl.specs.Rules.{differ}
 use Rattle.shapes.proofs.polygons.differ.Goals as goal
 
-pub returns-then-p-q-2 : goal.returns-then-p-q-2
-unfolding differ
-returns-then-p-q-2 c = search (rules, signed64)
-
 pub returns-then-p-q : goal.returns-then-p-q
 unfolding differ
 returns-then-p-q c = search (rules, signed64)
 
-pub returns : goal.returns
+pub returns-else-p-q : goal.returns-else-p-q
 unfolding differ
-returns c = search (rules, signed64)
+returns-else-p-q c = search (rules, signed64)

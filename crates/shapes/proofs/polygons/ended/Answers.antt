@@ -9,7 +9,7 @@ returns c =
     simp (
       c.with_carriage.ensures,
       c.with_polygon.ensures,
-      ← c.ended_with.ensures,
+      ← c.ended_with-polygon.ensures,
       c.with_position-moved.ensures,
       c.with_pen.ensures,
       c.lifted.ensures,

@@ -7,6 +7,6 @@ pub returns-then-inked : goal.returns-then-inked
 unfolding ep_rule
 returns-then-inked c = simp (c.done.ensures, c.if-inked.true, ← c.inked.ensures) refl
 
-pub returns : goal.returns
+pub returns-else-inked : goal.returns-else-inked
 unfolding ep_rule
-returns c = simp (c.done-2.ensures, c.if-inked.false, ← c.inked.ensures) refl
+returns-else-inked c = simp (c.done-else-inked.ensures, c.if-inked.false, ← c.inked.ensures) refl

@@ -5,4 +5,4 @@ use Rattle.shapes.proofs.polygons.leave.Goals as goal
 
 pub returns : goal.returns
 unfolding leave
-returns c = simp (c.with_carriage.ensures, ← c.ended_with-r.ensures) refl
+returns c = simp (c.with_carriage.ensures, ← c.ended_with.ensures) refl

@@ -3,18 +3,18 @@ use mathlib.Core.Path.{refl}
 use Rattle.hpgl.specs.Rules.{pm0}
 use Rattle.shapes.proofs.polygons.pm0.Goals as goal
 
-pub returns-then-g : goal.returns-then-g
+pub returns-then-k : goal.returns-then-k
 unfolding pm0
-returns-then-g c = simp (c.refuse.ensures, c.if-g.true) refl
+returns-then-k c = simp (c.refuse.ensures, c.if-k.true) refl
 
-pub returns : goal.returns
+pub returns-else-k : goal.returns-else-k
 unfolding pm0
-returns c =
+returns-else-k c =
     simp (
       c.done.ensures,
       c.with_carriage.ensures,
       c.with_polygon.ensures,
       ← c.begun.ensures,
-      c.if-g.false,
+      c.if-k.false,
     )
     refl

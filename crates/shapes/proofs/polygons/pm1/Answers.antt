@@ -3,10 +3,10 @@ use mathlib.Core.Path.{refl}
 use Rattle.hpgl.specs.Rules.{pm1}
 use Rattle.shapes.proofs.polygons.pm1.Goals as goal
 
-pub returns-then-g : goal.returns-then-g
+pub returns-then-c : goal.returns-then-c
 unfolding pm1
-returns-then-g c = simp (c.pm1_in.ensures, c.if-g.true) refl
+returns-then-c c = simp (c.pm1_in.ensures, c.if-c.true) refl
 
-pub returns : goal.returns
+pub returns-else-c : goal.returns-else-c
 unfolding pm1
-returns c = simp (c.refuse.ensures, c.if-g.false) refl
+returns-else-c c = simp (c.refuse.ensures, c.if-c.false) refl

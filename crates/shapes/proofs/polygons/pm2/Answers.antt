@@ -3,10 +3,10 @@ use mathlib.Core.Path.{refl}
 use Rattle.hpgl.specs.Rules.{pm2}
 use Rattle.shapes.proofs.polygons.pm2.Goals as goal
 
-pub returns-then-g : goal.returns-then-g
+pub returns-then-c : goal.returns-then-c
 unfolding pm2
-returns-then-g c = simp (c.pm2_in.ensures, c.if-g.true) refl
+returns-then-c c = simp (c.pm2_in.ensures, c.if-c.true) refl
 
-pub returns : goal.returns
+pub returns-else-c : goal.returns-else-c
 unfolding pm2
-returns c = simp (c.refuse.ensures, c.if-g.false) refl
+returns-else-c c = simp (c.refuse.ensures, c.if-c.false) refl

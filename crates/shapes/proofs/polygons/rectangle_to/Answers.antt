@@ -4,8 +4,8 @@ use Rattle.hpgl.specs.Rules.{rectangle_to}
 use Rattle.rulekit.specs.Locating.{here-locatable}
 use Rattle.shapes.proofs.polygons.rectangle_to.Goals as goal
 
-pub located-requires : goal.located-requires
-located-requires c =
+pub located-here-requires : goal.located-here-requires
+located-here-requires c =
     (c.requires.0.settings, here-locatable c.requires.0)
 
 pub returns-then-reachable : goal.returns-then-reachable
@@ -14,7 +14,7 @@ returns-then-reachable c =
     simp (
       c.done.ensures,
       ← c.inked.ensures,
-      ← c.located.ensures,
+      ← c.located-here.ensures,
       c.with_carriage-changed.ensures,
       c.with_polygon.ensures,
       ← c.rectangular.ensures,
@@ -24,7 +24,7 @@ returns-then-reachable c =
     )
     refl
 
-pub returns : goal.returns
+pub returns-else-reachable : goal.returns-else-reachable
 unfolding rectangle_to
-returns c =
+returns-else-reachable c =
     simp (c.refuse.ensures, c.if-reachable.false, ← c.reachable.ensures, ← c.located-corner.ensures) refl
