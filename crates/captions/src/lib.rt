@@ -6,7 +6,7 @@ use counting::refusals::{Refusals, kind_of, name_in, number_of};
 use counting::verdict::total;
 use measure::centimetres;
 use noting::Inks;
-use output::{natural_then, put_byte, put_bytes, put_natural, put_words};
+use output::{natural_then, put_byte, put_bytes, put_natural};
 use sheets::{Grid, Sheet, below};
 use words::{harmless, of_kind};
 
@@ -179,8 +179,7 @@ fn group(
     end = put_natural(rt, text, end, first);
     end = put_bytes(rt, text, end, b"): ");
     end = harm(rt, text, end, kind);
-    let words = of_kind(kind);
-    put_words(rt, text, end, &words)
+    put_bytes(rt, text, end, of_kind(kind).as_bytes())
 }
 
 // How far the lines are: how many bytes of text are gathered, where the next line stands, and how many refusals have one.

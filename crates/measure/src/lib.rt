@@ -6,33 +6,19 @@ ghost use Rattle.measure.specs.Root.{Root, most, across, squares, tenths_of, cen
 
 use console::apart;
 
-// The whole part of a root, by halves: it lies from low on, and before high.
+// The whole part of a root.
 pub fn root(n: u64) -> u64
     requires { n < most * most }
     ensures { Root n result × (result < most) }
 {
-    let mut low: u64 = 0;
-    let mut high: u64 = 2097152;
-    while low + 1 < high {
-        let middle = (low + high) / 2;
-        if n < middle * middle {
-            high = middle;
-            continue;
-        }
-        low = middle;
-    }
-    low
+    n.isqrt()
 }
 
 // From one coordinate to another, at most 65,535 as no sheet is wider.
 pub fn side(a: i64, b: i64) -> u64
     ensures { result ≡ across a b }
 {
-    let n = apart(a, b);
-    if n < 65535 {
-        return n;
-    }
-    65535
+    apart(a, b).min(65535)
 }
 
 // The length of a stroke, in tenths of a unit.

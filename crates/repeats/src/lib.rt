@@ -8,7 +8,8 @@ use console::sum;
 use decimals::size;
 use rows::{Row, put_row, row_at};
 
-// What is kept, in a lent list. First the last 4096 lines, in rows of five numbers (pen, x0, y0, x1, y1): the n-th in slot n modulo 4096, over the one that
+// What is kept, in a lent list and no map: nothing is allocated, painted and told promise what the list holds (docs/CONTRACTS.md), and the edits
+// first_over_a_mark and mark_of_one_end hold its places. First the last 4096 lines, in rows of five numbers (pen, x0, y0, x1, y1): the n-th in slot n modulo 4096, over the one that
 // was 4096 lines ago. Then how many lines there were, and how many of them were painted before; the first of these; and for each mark the last line that has
 // it, counted from 1.
 const KEPT: usize = 4096;
@@ -25,7 +26,8 @@ const MARKS: usize = 32749;
 
 pub const ROOM: usize = MARKED + MARKS;
 
-// How many lines were painted a second time, and the first of these.
+// How many lines were painted a second time, and the first of these. It stands beside the count and is no Option: told-first says that the first of none is a
+// row of zeros.
 #[derive(Clone, Copy)]
 pub struct Repeats {
     pub twice: u64,
@@ -36,57 +38,29 @@ pub struct Repeats {
 fn same_way(l: Row, m: Row) -> bool
     ensures { result ≡ S.same_way l m }
 {
-    if l.b != m.b {
-        return false;
-    }
-    if l.c != m.c {
-        return false;
-    }
-    if l.d != m.d {
-        return false;
-    }
-    if l.e != m.e {
-        return false;
-    }
-    true
+    l.b == m.b && l.c == m.c && l.d == m.d && l.e == m.e
 }
 
 // Whether one begins where the other ends, and ends where it begins.
 fn other_way(l: Row, m: Row) -> bool
     ensures { result ≡ S.other_way l m }
 {
-    if l.b != m.d {
-        return false;
-    }
-    if l.c != m.e {
-        return false;
-    }
-    if l.d != m.b {
-        return false;
-    }
-    if l.e != m.c {
-        return false;
-    }
-    true
+    l.b == m.d && l.c == m.e && l.d == m.b && l.e == m.c
 }
 
+#[tactic(auto, unfolding(crate::specs::Repeats::same))]
 fn same(l: Row, m: Row) -> bool
     ensures { result ≡ S.same l m }
 {
-    if same_way(l, m) {
-        return true;
-    }
-    other_way(l, m)
+    same_way(l, m) || other_way(l, m)
 }
 
 // How many lines are kept of so many.
+#[tactic(auto, unfolding(crate::specs::Repeats::kept_of))]
 fn kept(count: u64) -> usize
     ensures { result ≡ S.kept_of count }
 {
-    if count < 4096 {
-        return count as usize;
-    }
-    KEPT
+    count.min(4096) as usize
 }
 
 // Whether one of so many slots has the ends of a line.
@@ -94,9 +68,7 @@ fn among(lines: &[i64], count: usize, l: Row) -> bool
     requires { (count ≤ S.most) × (S.room ≤ length lines.now) }
     ensures { result ≡ S.among lines.now count l }
 {
-    let mut i = count;
-    while i > 0 {
-        i -= 1;
+    for i in (0..count).rev() {
         if same(l, row_at(lines, i * 5)) {
             return true;
         }
@@ -133,29 +105,22 @@ fn mark(l: Row) -> usize
 }
 
 // Whether a line was painted before. It is looked for only if one of its mark is still kept: most lines are new, and to look through all takes long.
+#[tactic(auto, unfolding(crate::specs::Repeats::sought_in, crate::specs::Repeats::sought_of))]
 fn sought(lines: &[i64], l: Row) -> bool
     requires { S.room ≤ length lines.now }
     ensures { result ≡ S.sought_in lines.now l }
 {
     let count = size_at(lines, COUNT);
     let last = size_at(lines, MARKED + mark(l));
-    if last == 0 {
-        return false;
-    }
-    if count < sum(last, 4096) {
-        return among(lines, kept(count), l);
-    }
-    false
+    last != 0 && count < sum(last, 4096) && among(lines, kept(count), l)
 }
 
 // A count as a number of the list.
+#[tactic(auto, unfolding(crate::specs::Repeats::number_of))]
 fn number(n: u64) -> i64
     ensures { result ≡ S.number_of n }
 {
-    if n <= 0x7FFF_FFFF_FFFF_FFFF {
-        return n as i64;
-    }
-    0x7FFF_FFFF_FFFF_FFFF
+    i64::try_from(n).unwrap_or(i64::MAX)
 }
 
 // A line is kept, and is the last one of its mark.
@@ -184,13 +149,11 @@ fn again(lines: &mut [i64], l: Row)
 }
 
 // One stroke more; a dot is no line. A list without room keeps nothing.
+#[tactic(auto, unfolding(crate::specs::Repeats::painted_of))]
 pub fn painted(lines: &mut [i64], l: Row)
     ensures { lines.new ≡ S.painted_of lines.old l }
 {
-    if lines.len() < ROOM {
-        return;
-    }
-    if other_way(l, l) {
+    if lines.len() < ROOM || other_way(l, l) {
         return;
     }
     let found = sought(lines, l);
@@ -201,6 +164,7 @@ pub fn painted(lines: &mut [i64], l: Row)
 }
 
 // What the list tells.
+#[tactic(auto, unfolding(crate::specs::Repeats::told_of))]
 pub fn told(lines: &[i64]) -> Repeats
     ensures { result ≡ S.told_of lines.now }
 {
@@ -216,10 +180,8 @@ pub fn told(lines: &[i64]) -> Repeats
             },
         };
     }
-    let twice = size_at(lines, TWICE);
-    let first = row_at(lines, FIRST);
     Repeats {
-        twice: twice,
-        first: first,
+        twice: size_at(lines, TWICE),
+        first: row_at(lines, FIRST),
     }
 }

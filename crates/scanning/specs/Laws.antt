@@ -1,11 +1,14 @@
 -- One byte after another.
-use Rattle.std.specs.Prelude.{Bool, true, false, cond, List, [], ◌∷◌, ◌≡◌, ℕ, zero, suc, ◌+◌, ◌≤◌, ◌<◌, eqb, ltb, length, get_or, drop}
+use Rattle.std.specs.Prelude.{Bool, true, false, not, cond, List, [], ◌∷◌, ◌≡◌, ℕ, zero, suc, ◌+◌, ◌≤◌, ◌<◌, eqb, ltb, length, get_or, drop}
 use Rattle.std.proofs.Math.Path.{refl}
-use Rattle.std.proofs.Common.{add-one, arith, ne_eqb, drop_of_length-le, drop-cons}
+use Rattle.std.specs.List.{prefix_len, take_while}
+use Rattle.std.proofs.lemmas.List.Folds.{length-prefix_len}
+use Rattle.std.proofs.Common.{◌∙◌, add-one, arith, ne_eqb, drop_of_length-le, drop-cons}
 use Rattle.scanning.specs.Escapes.{after, one_more, escapes_from}
 use Rattle.scanning.specs.Pieces.{stops, up_to, one_at_least, piece_of}
 use Rattle.scanning.specs.Types.{type_after, types_from}
 use Rattle.scanning.specs.Types as T
+use Rattle.scanning.specs.declared.Name.{Name}
 
 module _ (text : List ℕ) (i : ℕ) where
   pub stop-here : i < length text → stops (get_or text i 0) ≡ true → up_to (drop i text) ≡ 0
@@ -30,7 +33,7 @@ module _ (text : List ℕ) (i : ℕ) where
     unfolding escapes_from
     escapes-end h = rw (drop_of_length-le text h) refl
 
-  module _ (mode count : ℕ) where
+  module _ (mode : Name) (count : ℕ) where
     pub types-one : i < length text
         → types_from mode count (drop i text) ≡ types_from (type_after mode (get_or text i 0)) (T.one_more count (type_after mode (get_or text i 0))) (drop (i + 1) text)
     unfolding types_from
@@ -39,6 +42,19 @@ module _ (text : List ℕ) (i : ℕ) where
     pub types-end : length text ≤ i → types_from mode count (drop i text) ≡ record { mode = mode; count = count }
     unfolding types_from
     types-end h = rw (drop_of_length-le text h) refl
+
+-- the bytes before the first stop, counted
+pub up_to_taken : (bytes : List ℕ) → length (take_while (λ b. not (stops b)) bytes) ≡ up_to bytes
+unfolding up_to
+up_to_taken bytes = length-prefix_len (λ b. not (stops b)) bytes ∙ go bytes
+  where
+    more : (t : Bool) {m n : ℕ} → m ≡ n → cond (not t) (1 + m) 0 ≡ cond t 0 (suc n)
+    more true e = refl
+    more false e = omega (arith, e)
+
+    go : (bytes : List ℕ) → prefix_len (λ b. not (stops b)) bytes ≡ up_to bytes
+    go [] = refl
+    go (b ∷ bs) = more (stops b) (go bs)
 
 -- ---- a piece is not empty, and within the bytes
 

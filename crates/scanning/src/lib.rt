@@ -1,191 +1,175 @@
 // What bytes say without a machine: pieces within which no other pen is taken and no escape sequence begins or ends, and line types that have numbers.
 #![tactic(auto)]
 
-ghost use Rattle.std.specs.Prelude.{◌≡◌, drop};
+ghost use Rattle.std.specs.Prelude.{◌≡◌, drop, length, not};
+ghost use Rattle.std.specs.List.{take_while};
 ghost use Rattle.scanning.specs.Pieces as P;
 ghost use Rattle.scanning.specs.Types as T;
 
 use console::sum;
+use escapes::ESC;
 use numerals::bytes::{Class, class_of};
 
 pub mod escapes;
 
+// How far a name is read: no letter of it; a first letter other than L; an L; LT, and blanks; the first byte of LT's first number.
+#[derive(Clone, Copy)]
+pub enum Name {
+    Outside,
+    First,
+    L,
+    Lt,
+    Number,
+}
+
 // Line types that have numbers: how far a name is read, and how many there are.
 #[derive(Clone, Copy)]
 pub struct Types {
-    pub mode: u8,
+    pub mode: Name,
     pub count: u64,
 }
 
+#[tactic(auto, unfolding(crate::specs::Pieces::is_s))]
 fn is_s(byte: u8) -> bool
     ensures { result ≡ P.is_s byte }
 {
-    if byte == b'S' {
-        return true;
-    }
-    byte == b's'
+    byte == b'S' || byte == b's'
 }
 
 // Whether a byte ends an instruction.
+#[tactic(auto, unfolding(crate::specs::Pieces::ends_of, crate::specs::Pieces::ends_class))]
 fn ends(byte: u8) -> bool
     ensures { result ≡ P.ends_of byte }
 {
-    let class = class_of(byte);
-    match class {
-        Class::Blank => false,
-        Class::Semicolon => true,
-        Class::Letter(_) => true,
-        Class::Digit(_) => false,
-        Class::Sign(_) => false,
-        Class::Point => false,
-        Class::Other => false,
-    }
+    matches!(class_of(byte), Class::Semicolon | Class::Letter(_))
 }
 
+// A mode is a number and no enum: mode_after and piece answer for every number (docs/CONTRACTS.md).
 // How the next piece is read after a byte: 0 before an S, 1 and 2 byte by byte, from an S to the end of its instruction.
+#[tactic(auto, unfolding(crate::specs::Pieces::mode_after))]
 pub fn mode_after(mode: u8, byte: u8) -> u8
     ensures { result ≡ P.mode_after mode byte }
 {
     if is_s(byte) {
         return 1;
     }
-    if mode == 0 {
-        return 0;
+    match mode {
+        0 => 0,
+        1 => 2,
+        _ if ends(byte) => 0,
+        _ => 2,
     }
-    if mode == 1 {
-        return 2;
-    }
-    if ends(byte) {
-        return 0;
-    }
-    2
 }
 
 // Whether a byte begins what is read byte by byte: the name of SP, or an escape sequence.
+#[tactic(auto, unfolding(crate::specs::Pieces::stops))]
 fn stops(byte: u8) -> bool
     ensures { result ≡ P.stops byte }
 {
-    if is_s(byte) {
-        return true;
-    }
-    byte == 27
+    is_s(byte) || byte == ESC
 }
 
-// How many bytes from a place on there are before the next of these, or to the end.
+// How many bytes from a place on there are before the first of these, or to the end.
 fn up_to_stop(bytes: &[u8], from: usize) -> usize
-    ensures { result ≡ P.up_to (drop from bytes.now) }
+    ensures { result ≡ length (take_while (λ b. not (P.stops b)) (drop from bytes.now)) }
 {
-    let mut at = from;
-    while at < bytes.len() {
-        if stops(bytes[at]) {
-            return at - from;
-        }
-        at += 1;
-    }
-    at - from
-}
-
-fn one_at_least(n: usize) -> usize
-    ensures { result ≡ P.one_at_least n }
-{
-    if n == 0 {
-        return 1;
-    }
-    n
+    bytes.iter().skip(from).take_while(|b| !stops(**b)).count()
 }
 
 // How many bytes the next piece has: many where neither an SP nor an escape sequence is open.
+#[tactic(auto, unfolding(crate::specs::Pieces::piece_of, crate::specs::Pieces::one_at_least))]
 pub fn piece(mode: u8, escape: u8, bytes: &[u8], from: usize) -> usize
     ensures { result ≡ P.piece_of mode escape (drop from bytes.now) }
 {
-    if mode != 0 {
+    if mode != 0 || escape > 1 {
         return 1;
     }
-    if escape > 1 {
-        return 1;
-    }
-    one_at_least(up_to_stop(bytes, from))
+    up_to_stop(bytes, from).max(1)
 }
 
 pub fn no_types() -> Types
     ensures { result ≡ T.no_types }
 {
-    Types { mode: 0, count: 0 }
+    Types {
+        mode: Name::Outside,
+        count: 0,
+    }
 }
 
 // How far a name is read after its first letter, and after its second.
-fn first_letter(letter: u8) -> u8
+#[tactic(auto, unfolding(crate::specs::Types::first_letter))]
+fn first_letter(letter: u8) -> Name
     ensures { result ≡ T.first_letter letter }
 {
     if letter == b'L' {
-        return 2;
+        return Name::L;
     }
-    1
+    Name::First
 }
 
-fn second_letter(letter: u8) -> u8
+#[tactic(auto, unfolding(crate::specs::Types::second_letter))]
+fn second_letter(letter: u8) -> Name
     ensures { result ≡ T.second_letter letter }
 {
     if letter == b'T' {
-        return 3;
+        return Name::Lt;
     }
-    0
+    Name::Outside
 }
 
-fn letter_after(mode: u8, letter: u8) -> u8
+#[tactic(auto, unfolding(crate::specs::Types::letter_after))]
+fn letter_after(mode: Name, letter: u8) -> Name
     ensures { result ≡ T.letter_after mode letter }
 {
-    if mode == 1 {
-        return 0;
+    match mode {
+        Name::First => Name::Outside,
+        Name::L => second_letter(letter),
+        Name::Outside | Name::Lt | Name::Number => first_letter(letter),
     }
-    if mode == 2 {
-        return second_letter(letter);
-    }
-    first_letter(letter)
 }
 
 // After LT: a blank changes nothing, and a number is its first.
-fn blank_after(mode: u8) -> u8
+#[tactic(auto, unfolding(crate::specs::Types::blank_after))]
+fn blank_after(mode: Name) -> Name
     ensures { result ≡ T.blank_after mode }
 {
-    if mode == 3 {
-        return 3;
+    match mode {
+        Name::Lt => Name::Lt,
+        _ => Name::Outside,
     }
-    0
 }
 
-fn number_after(mode: u8) -> u8
+#[tactic(auto, unfolding(crate::specs::Types::number_after))]
+fn number_after(mode: Name) -> Name
     ensures { result ≡ T.number_after mode }
 {
-    if mode == 3 {
-        return 4;
+    match mode {
+        Name::Lt => Name::Number,
+        _ => Name::Outside,
     }
-    0
 }
 
-fn type_after(mode: u8, byte: u8) -> u8
+#[tactic(auto, unfolding(crate::specs::Types::type_after, crate::specs::Types::class_after))]
+fn type_after(mode: Name, byte: u8) -> Name
     ensures { result ≡ T.type_after mode byte }
 {
-    let class = class_of(byte);
-    match class {
+    match class_of(byte) {
         Class::Blank => blank_after(mode),
-        Class::Semicolon => 0,
         Class::Letter(letter) => letter_after(mode, letter),
-        Class::Digit(_) => number_after(mode),
-        Class::Sign(_) => number_after(mode),
-        Class::Point => number_after(mode),
-        Class::Other => 0,
+        Class::Digit(_) | Class::Sign(_) | Class::Point => number_after(mode),
+        Class::Semicolon | Class::Other => Name::Outside,
     }
 }
 
 // One more, where the first number of a line type begins.
-fn one_more(count: u64, mode: u8) -> u64
+#[tactic(auto, unfolding(crate::specs::Types::one_more))]
+fn one_more(count: u64, mode: Name) -> u64
     ensures { result ≡ T.one_more count mode }
 {
-    if mode == 4 {
-        return sum(count, 1);
+    match mode {
+        Name::Number => sum(count, 1),
+        _ => count,
     }
-    count
 }
 
 // The line types with numbers among these bytes.
@@ -194,14 +178,9 @@ pub fn types_in(t: Types, bytes: &[u8]) -> Types
 {
     let mut mode = t.mode;
     let mut count = t.count;
-    let mut i = 0;
-    while i < bytes.len() {
-        mode = type_after(mode, bytes[i]);
+    for &byte in bytes {
+        mode = type_after(mode, byte);
         count = one_more(count, mode);
-        i += 1;
     }
-    Types {
-        mode: mode,
-        count: count,
-    }
+    Types { mode, count }
 }

@@ -4,7 +4,7 @@ use counting::refusals::{GROUPS, PLACES, Refusals, kind_of, name_in, number_of};
 use counting::tally::{Extent, Paint, Tally};
 use counting::verdict::{cut_off, fit, harms, little, total};
 use measure::{centimetres, ice};
-use output::{finish, natural_then, put_byte, put_bytes, put_natural, put_words, whole_then};
+use output::{finish, natural_then, put_byte, put_bytes, put_natural, whole_then};
 use repeats::Repeats;
 use surveying::Surveyed;
 use words::{harmless, of_kind};
@@ -267,8 +267,7 @@ fn mark(rt: &HostRuntime, text: &mut [u8; 65536], used: usize, kind: u8) -> usiz
 
 // What becomes of a group, in words.
 fn fate(rt: &HostRuntime, text: &mut [u8; 65536], used: usize, kind: u8) -> usize {
-    let words = of_kind(kind);
-    put_words(rt, text, used, &words)
+    put_bytes(rt, text, used, of_kind(kind).as_bytes())
 }
 
 // A group: name, number, count and places, and below it what becomes of it.

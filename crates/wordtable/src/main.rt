@@ -1,18 +1,16 @@
 // Prints the table of refusals as docs/USERS.md has it: number, cause, what to do.
 #![tactic(auto)]
 
-use output::{finish, natural_then, put_bytes, put_words};
+use output::{finish, natural_then, put_bytes};
 use words::{advice, cause};
 
 fn row(rt: &HostRuntime, text: &mut [u8; 65536], used: usize, number: u8) -> usize {
     let mut end = put_bytes(rt, text, used, b"| ");
     end = natural_then(rt, text, end, number as u64, b' ');
     end = put_bytes(rt, text, end, b"| ");
-    let why = cause(number);
-    end = put_words(rt, text, end, &why);
+    end = put_bytes(rt, text, end, cause(number).as_bytes());
     end = put_bytes(rt, text, end, b" | ");
-    let what = advice(number);
-    end = put_words(rt, text, end, &what);
+    end = put_bytes(rt, text, end, advice(number).as_bytes());
     put_bytes(rt, text, end, b" |\n")
 }
 

@@ -10,17 +10,13 @@ use Rattle.measure.proofs.side.Lts
 use Rattle.measure.proofs.side.Tie
 use Rattle.measure.proofs.side.Reads
 
-abbrev After-apart-n : Type 0
-After-apart-n = Lts.After-apart Tie.the-claims Reads.Pre Reads.Post
+abbrev After-apart : Type 0
+After-apart = Lts.After-apart Tie.the-claims Reads.Pre Reads.Post
 
 -- how far the two are apart
-far : (c : After-apart-n) → c.apart-n.result ≡ nat_abs (c.args.a -ℤ c.args.b)
-far c = c.apart-n.ensures ∙ (λ i. nat_abs ((arg w64 c.ranges.a).is i -ℤ (arg w64 c.ranges.b).is i))
-
-pub returns-then-n-lt65535 : goal.returns-then-n-lt65535
-unfolding across
-returns-then-n-lt65535 c = let p = c.before in omega (arith, far p)
+far : (c : After-apart) → c.apart.result ≡ nat_abs (c.args.a -ℤ c.args.b)
+far c = c.apart.ensures ∙ (λ i. nat_abs ((arg w64 c.ranges.a).is i -ℤ (arg w64 c.ranges.b).is i))
 
 pub returns : goal.returns
 unfolding across
-returns c = let p = c.before in omega (arith, far p)
+returns c = omega (arith, c.min.ensures, far c.before)

@@ -1,7 +1,5 @@
 -- None of the slots that are passed has these ends.
-use mathlib.Core.Path.{◌≡◌, refl, sym, ap, ◌∙◌}
-use Prim.Native.Nat.{ℕ}
-use native.Mathlib.Omega.{arith}
+use Rattle.std.proofs.Common.{◌≡◌, refl, sym, ap, ◌∙◌, ℕ, arith}
 use Rattle.repeats.specs.Repeats.{among}
 use Rattle.repeats.specs.Laws.{among-here, among_later, among_none}
 use Rattle.repeats.proofs.among.Goals as goal
@@ -9,23 +7,9 @@ use Rattle.repeats.proofs.among.Goals as goal
 pub loop-i-init : goal.loop-i-init
 loop-i-init c = (omega arith, refl)
 
-pub overflow_sub-i : goal.overflow_sub-i
-overflow_sub-i c = omega arith
-
-pub overflow_mul-i : goal.overflow_mul-i
-overflow_mul-i c =
-    omega (arith, c.requires.0, c.loop-i.invariant.0)
-
-pub row_at-requires : goal.row_at-requires
-row_at-requires c =
-    omega (arith, c.requires.0, c.requires.1, c.loop-i.invariant.0, c.loop-i-test.true)
-
 pub returns-then-same : goal.returns-then-same
 returns-then-same c =
     sym (c.loop-i.invariant.1 ∙ among-here c.args.lines.now c.loop-i.i c.args.l c.loop-i-test.true c.row_at.ensures (sym c.same.ensures ∙ c.if-same.true))
-
-pub loop-i-smaller : goal.loop-i-smaller
-loop-i-smaller c = omega arith
 
 pub loop-i-preserved : goal.loop-i-preserved
 loop-i-preserved c =

@@ -4,22 +4,10 @@ use Rattle.exact.specs.Fit.{signed64}
 use Rattle.repeats.specs.Repeats.{other_way}
 use Rattle.repeats.proofs.other_way.Goals as goal
 
-pub returns-then-l-m : goal.returns-then-l-m
-unfolding other_way
-returns-then-l-m c = search (rules, signed64)
-
-pub returns-then-l-m-2 : goal.returns-then-l-m-2
-unfolding other_way
-returns-then-l-m-2 c = search (rules, signed64)
-
 pub returns-then-l-m-3 : goal.returns-then-l-m-3
 unfolding other_way
 returns-then-l-m-3 c = search (rules, signed64)
 
-pub returns-then-l-m-4 : goal.returns-then-l-m-4
+pub returns-else-l-m-3 : goal.returns-else-l-m-3
 unfolding other_way
-returns-then-l-m-4 c = search (rules, signed64)
-
-pub returns : goal.returns
-unfolding other_way
-returns c = search (rules, signed64)
+returns-else-l-m-3 c = search (rules, signed64)

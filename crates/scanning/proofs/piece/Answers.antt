@@ -1,15 +1,16 @@
-use Rattle.exact.proofs.Rules.{rules}
-use Rattle.scanning.specs.Pieces.{piece_of}
+-- Many bytes, and at least one.
+use Rattle.std.proofs.Common.{◌≡◌, refl, ap, ◌∙◌, ℕ, zero, suc, max, drop, eq-eqb, ne_eqb, le-ltb, arith}
+use Rattle.scanning.specs.Pieces.{one_at_least, piece_of}
+use Rattle.scanning.specs.Laws.{up_to_taken}
 use Rattle.scanning.proofs.piece.Goals as goal
 
-pub returns-then-mode-ne0 : goal.returns-then-mode-ne0
-unfolding piece_of
-returns-then-mode-ne0 c = search rules
-
-pub returns-then-escape-gt1 : goal.returns-then-escape-gt1
-unfolding piece_of
-returns-then-escape-gt1 c = search rules
+least : (n : ℕ) → max n 1 ≡ one_at_least n
+unfolding one_at_least
+least zero = refl
+least (suc n) = rw (ne_eqb (suc n) 0 (λ z. omega arith)) (omega arith)
 
 pub returns : goal.returns
 unfolding piece_of
-returns c = search (rules, ← c.one_at_least.ensures, ← c.up_to_stop.ensures)
+returns c =
+    rw (eq-eqb _ _ c.if-mode-ne0.false, le-ltb _ _ c.if-escape-gt1.false)
+    (c.max.ensures ∙ ap (λ (n : ℕ). max n 1) (c.up_to_stop.ensures ∙ up_to_taken (drop c.args.from c.args.bytes.now)) ∙ least _)
