@@ -1,104 +1,62 @@
-// The text of what the calls answer, as the program vectors prints it. Each function takes how many bytes of the buffer hold text, and answers how many do after it.
+// The text of what the calls answer, as the program vectors prints it.
 #![tactic(auto)]
 
 use clip::Rect;
 use hpgl::{Drawn, Look, Stroke};
-use output::{put_byte, put_bytes, put_natural, put_whole};
+use output::Text;
+use std::fmt;
+use std::fmt::Write;
 
 pub mod moves;
 pub mod records;
 pub mod replies;
 
-// A name and a number: x=5.
-pub fn put_number(
-    rt: &HostRuntime,
-    out: &mut [u8; 65536],
-    used: usize,
-    name: &[u8],
-    value: i64,
-) -> usize {
-    let end = put_bytes(rt, out, used, name);
-    put_whole(rt, out, end, value)
-}
-
 // Limits, and the number that fresh answers for them.
-pub fn put_limits(
-    rt: &HostRuntime,
-    out: &mut [u8; 65536],
-    used: usize,
-    limits: Rect,
-    number: u8,
-) -> usize {
-    let end = put_number(rt, out, used, b"limits ", limits.left);
-    let end = put_number(rt, out, end, b" ", limits.bottom);
-    let end = put_number(rt, out, end, b" ", limits.right);
-    let end = put_number(rt, out, end, b" ", limits.top);
-    put_number(rt, out, end, b" | ", number as i64)
+pub fn put_limits(out: &mut Text<'_>, limits: Rect, number: u8) -> fmt::Result {
+    let Rect {
+        left,
+        bottom,
+        right,
+        top,
+    } = limits;
+    write!(out, "limits {left} {bottom} {right} {top} | {number}")
 }
 
 // A refusal: its number, and the byte, counted from 1. The number 0 is none.
-pub fn put_refusal(
-    rt: &HostRuntime,
-    out: &mut [u8; 65536],
-    used: usize,
-    number: u8,
-    byte: u64,
-) -> usize {
+pub fn put_refusal(out: &mut Text<'_>, number: u8, byte: u64) -> fmt::Result {
     if number == 0 {
-        return used;
+        return Ok(());
     }
-    let end = put_bytes(rt, out, used, b" E");
-    let end = put_natural(rt, out, end, number as u64);
-    let end = put_byte(rt, out, end, b'@');
-    put_natural(rt, out, end, byte)
+    write!(out, " E{number}@{byte}")
 }
 
-// A stroke: its pen, and the two ends.
-pub fn put_stroke(rt: &HostRuntime, out: &mut [u8; 65536], used: usize, s: Stroke) -> usize {
-    let end = put_number(rt, out, used, b" ", s.pen as i64);
-    let end = put_number(rt, out, end, b":", s.x0);
-    let end = put_number(rt, out, end, b",", s.y0);
-    let end = put_number(rt, out, end, b"-", s.x1);
-    put_number(rt, out, end, b",", s.y1)
-}
-
-// What a draw answered. "Idle" is no outcome.
-pub fn put_drawn(rt: &HostRuntime, out: &mut [u8; 65536], used: usize, drawn: Drawn) -> usize {
+// What a draw answered. "Idle" is no outcome; of a stroke its pen and the two ends are.
+pub fn put_drawn(out: &mut Text<'_>, drawn: Drawn) -> fmt::Result {
     match drawn {
-        Drawn::Idle => used,
-        Drawn::Hidden => put_bytes(rt, out, used, b" hid"),
-        Drawn::Stroke(s) => put_stroke(rt, out, used, s),
+        Drawn::Idle => Ok(()),
+        Drawn::Hidden => write!(out, " hid"),
+        Drawn::Stroke(
+            Stroke {
+                pen,
+                x0,
+                y0,
+                x1,
+                y1,
+            },
+        ) => write!(out, " {pen}:{x0},{y0}-{x1},{y1}"),
     }
 }
 
 // What look answers, and whether a segment waits.
-pub fn put_look(
-    rt: &HostRuntime,
-    out: &mut [u8; 65536],
-    used: usize,
-    look: Look,
-    waits: bool,
-) -> usize {
-    let location = look.location;
-    let end = put_number(rt, out, used, b" x=", location.x);
-    let end = put_number(rt, out, end, b" y=", location.y);
-    let end = put_number(rt, out, end, b" pen=", look.pen as i64);
-    let end = put_number(rt, out, end, b" by=", look.bytes as i64);
-    let end = put_word(rt, out, end, look.down, b" dn", b" up");
-    put_word(rt, out, end, waits, b" waits", b" idle")
-}
-
-// One of two words.
-fn put_word(
-    rt: &HostRuntime,
-    out: &mut [u8; 65536],
-    used: usize,
-    first: bool,
-    yes: &[u8],
-    no: &[u8],
-) -> usize {
-    if first {
-        return put_bytes(rt, out, used, yes);
-    }
-    put_bytes(rt, out, used, no)
+pub fn put_look(out: &mut Text<'_>, look: Look, waits: bool) -> fmt::Result {
+    let Look {
+        location,
+        pen,
+        down,
+        bytes,
+    } = look;
+    let hand = if down { "dn" } else { "up" };
+    let queue = if waits { "waits" } else { "idle" };
+    write!(out, " x={} y={}", location.x, location.y)?;
+    write!(out, " pen={pen} by={bytes} {hand} {queue}")
 }

@@ -1,50 +1,36 @@
 // Drive moves, with their places as the bits of two f32.
-use crate::put_number;
 use drive::{Move, Moves, Place};
-use output::{put_byte, put_bytes};
-
-fn wide(bits: u32) -> u64 {
-    bits as u64
-}
+use output::Text;
+use std::fmt;
+use std::fmt::Write;
 
 // The eight hexadecimal digits of a float's bits. Those of a NaN cannot be read.
-fn put_float(rt: &HostRuntime, out: &mut [u8; 65536], used: usize, x: f32) -> usize {
-    let end = put_byte(rt, out, used, b' ');
-    if x != x {
-        return put_bytes(rt, out, end, b"NaN");
+fn put_float(out: &mut Text<'_>, x: f32) -> fmt::Result {
+    if x.is_nan() {
+        return write!(out, " NaN");
     }
-    let mut digits = [0u8; 16];
-    let n = io::hex(wide(f32::to_bits(x)), 8, &mut digits);
-    put_bytes(rt, out, end, &digits[..n])
+    write!(out, " {:08x}", x.to_bits())
 }
 
-fn put_place(
-    rt: &HostRuntime,
-    out: &mut [u8; 65536],
-    used: usize,
-    name: &[u8],
-    place: Place,
-) -> usize {
-    let end = put_bytes(rt, out, used, name);
-    let end = put_float(rt, out, end, place.x);
-    put_float(rt, out, end, place.y)
+fn put_move(out: &mut Text<'_>, step: Move) -> fmt::Result {
+    let (name, place) = match step {
+        Move::Travel(place) => ("travel", place),
+        Move::Paint(place) => ("paint", place),
+        Move::Dot(place) => ("dot", place),
+    };
+    let Place { x, y } = place;
+    write!(out, " {name}")?;
+    put_float(out, x)?;
+    put_float(out, y)
 }
 
-fn put_move(rt: &HostRuntime, out: &mut [u8; 65536], used: usize, step: Move) -> usize {
-    match step {
-        Move::Travel(place) => put_place(rt, out, used, b" travel", place),
-        Move::Paint(place) => put_place(rt, out, used, b" paint", place),
-        Move::Dot(place) => put_place(rt, out, used, b" dot", place),
-    }
-}
-
-pub fn put_moves(rt: &HostRuntime, out: &mut [u8; 65536], used: usize, moves: Moves) -> usize {
+pub fn put_moves(out: &mut Text<'_>, moves: Moves) -> fmt::Result {
     match moves {
         Moves::Two(first, second) => {
-            let end = put_move(rt, out, used, first);
-            put_move(rt, out, end, second)
+            put_move(out, first)?;
+            put_move(out, second)
         }
-        Moves::One(dot) => put_move(rt, out, used, dot),
-        Moves::Refused(number) => put_number(rt, out, used, b" E", number as i64),
+        Moves::One(dot) => put_move(out, dot),
+        Moves::Refused(number) => write!(out, " E{number}"),
     }
 }

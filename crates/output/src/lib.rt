@@ -13,6 +13,10 @@ ghost use Rattle.output.specs.Words.{trimmed};
 use std::io::writer;
 use streams::{Stream, tell, write_all};
 
+mod text;
+
+pub use text::Text;
+
 const ROOM: usize = 65536;
 
 const FAILED: usize = 65537;

@@ -1,290 +1,187 @@
 // A sequence as a list of codes: its bytes, with escapes and repetitions written out, and the marks that stand between them.
 ghost use Rattle.std.specs.Prelude.{◌<◌, ◌≤◌, length};
 
-use crate::fields::natural_at;
-use crate::scan::find;
+use crate::fields::natural;
+use arrayvec::ArrayVec;
 
 // Room for the codes of the longest sequence.
-pub const ROOM: usize = 160000;
+const ROOM: usize = 160000;
 
-// The codes below this one are bytes.
-pub const MARKS: u16 = 256;
+// The most bytes of a line that is fed.
+const BYTES: usize = 4096;
 
-// The kind of these codes: a code divided by 256.
-pub const PLAIN: u16 = 0;
-
-// A mark: from here on neither a fetch nor draws follow a byte.
-pub const HOLD: u16 = 256;
-
-// A mark: one draw.
-pub const DRAW: u16 = 257;
-
-// A mark: one look.
-pub const LOOK: u16 = 258;
-
-// A mark: the end of a sequence.
-const END: u16 = 259;
-
-// A mark and the 64 after it: one fetch, with a buffer of none to 64 bytes.
-pub const FETCH: u16 = 300;
-
-// A mark and the 16 after it: one feed into a list of none to 16 records. Its bytes come after it.
-pub const FEED: u16 = 400;
-
-// The codes from this one on are the bytes of a feed, which no take gets; they are of kind 2.
-pub const FED: u16 = 512;
-
-// How far a sequence is written out: the codes so far, and the place of what follows.
-#[derive(Clone, Copy)]
-struct Written {
-    count: usize,
-    next: usize,
+// A byte, or a mark that stands between bytes.
+#[derive(Clone, Copy, Default)]
+pub enum Code {
+    // A byte that is taken.
+    Plain(u8),
+    // From here on neither a fetch nor draws follow a byte.
+    #[default]
+    Hold,
+    Draw,
+    Look,
+    // One fetch, with a buffer of so many bytes, at most 64.
+    Fetch(u8),
+    // One feed, into a list of so many records, at most 16. Its bytes come after it.
+    Feed(u8),
+    // A byte of a feed, which no take gets.
+    Fed(u8),
 }
+
+impl Code {
+    pub fn plain(self) -> Option<u8> {
+        match self {
+            Code::Plain(byte) => Some(byte),
+            _ => None,
+        }
+    }
+
+    pub fn fed(self) -> Option<u8> {
+        match self {
+            Code::Fed(byte) => Some(byte),
+            _ => None,
+        }
+    }
+}
+
+pub type Codes = ArrayVec<Code, ROOM>;
+
+pub type Bytes = ArrayVec<u8, BYTES>;
 
 // One more code. Where there is no room it is left out, and the outcome tells.
-fn put_code(codes: &mut [u16; ROOM], count: usize, code: u16) -> usize {
-    if count < codes.len() {
-        codes[count] = code;
-        return count + 1;
-    }
-    count
+fn put_code(codes: &mut Codes, code: Code) {
+    let _ = codes.try_push(code);
 }
 
-fn wide(byte: u8) -> u16
-    ensures { result < 256 }
-{
-    byte as u16
+fn put_text(codes: &mut Codes, text: &[u8]) {
+    let _ = codes.extend(text.iter().map(|byte| Code::Plain(*byte)));
 }
 
-// What a byte's code begins at: a plain one's, or that of one of a feed.
-fn base_of(fed: bool) -> u16
-    ensures { result ≤ 512 }
-{
-    if fed {
-        return FED;
-    }
-    0
-}
-
-// The bytes of a text, plain or of a feed.
-fn put_bytes_as(codes: &mut [u16; ROOM], count: usize, text: &[u8], fed: bool) -> usize {
-    let base = base_of(fed);
-    let mut end = count;
-    for i in 0..text.len() {
-        end = put_code(codes, end, base + wide(text[i]));
-    }
-    end
-}
-
-fn put_text(codes: &mut [u16; ROOM], count: usize, text: &[u8]) -> usize {
-    put_bytes_as(codes, count, text, false)
-}
-
-// A text so many times.
-fn put_repeated(codes: &mut [u16; ROOM], count: usize, text: &[u8], times: u64) -> usize {
-    let mut end = count;
-    for _ in 0..times {
-        end = put_text(codes, end, text);
-    }
-    end
-}
-
-fn put_decimal(codes: &mut [u16; ROOM], count: usize, number: u64) -> usize {
+fn put_decimal(codes: &mut Codes, number: u64) {
     let mut digits = [0u8; 20];
     let n = io::decimal(number, &mut digits);
-    put_text(codes, count, &digits[..n])
+    put_text(codes, &digits[..n]);
 }
 
 // The points 1,0 to k,0.
-fn put_points(codes: &mut [u16; ROOM], count: usize, k: u64) -> usize {
-    let mut end = count;
-    for i in 0..k {
-        if 0 < i {
-            end = put_code(codes, end, wide(b','));
+fn put_points(codes: &mut Codes, k: u64) {
+    for i in 1..=k {
+        if 1 < i {
+            put_text(codes, b",");
         }
-        end = put_decimal(codes, end, i + 1);
-        end = put_text(codes, end, b",0");
+        put_decimal(codes, i);
+        put_text(codes, b",0");
     }
-    end
-}
-
-// The byte at a place of a text, or 0 past its end.
-fn byte_at(text: &[u8], at: usize) -> u8 {
-    if at < text.len() {
-        return text[at];
-    }
-    0
 }
 
 // The value of a hexadecimal digit, A to F in either case.
-fn nibble(digit: u8) -> u16
+fn nibble(digit: u8) -> u8
     ensures { result < 16 }
 {
     if digit < b'A' {
-        return wide(digit) % 16;
+        return digit % 16;
     }
-    (wide(digit) + 9) % 16
+    (digit % 16 + 9) % 16
 }
 
-// The byte that a backslash writes: \n, \s (a blank), or \x and two hexadecimal digits.
-fn put_escape(codes: &mut [u16; ROOM], count: usize, text: &[u8], at: usize) -> Written
-    requires { at < length text.now }
-    ensures { at < result.next }
+// The byte that the digits of \x write; those past the end of the text count as zeros.
+fn hexadecimal(text: &[u8]) -> u8 {
+    let high = text.get(1).copied().unwrap_or(0);
+    let low = text.get(2).copied().unwrap_or(0);
+    nibble(high) * 16 + nibble(low)
+}
+
+// What follows so many bytes of a text, or nothing.
+fn after(text: &[u8], n: usize) -> &[u8]
+    ensures { length result.now ≤ length text.now }
 {
-    let letter = byte_at(text, at + 1);
-    if letter == b'n' {
-        let end = put_code(codes, count, 10);
-        return Written {
-            count: end,
-            next: at + 2,
-        };
-    }
-    if letter == b's' {
-        let end = put_code(codes, count, 32);
-        return Written {
-            count: end,
-            next: at + 2,
-        };
-    }
-    let code = nibble(byte_at(text, at + 2)) * 16 + nibble(byte_at(text, at + 3));
-    let end = put_code(codes, count, code);
-    Written {
-        count: end,
-        next: at + 4,
-    }
+    text.get(n..).unwrap_or_default()
+}
+
+// The byte that a backslash before this text writes: \n, \s (a blank), or \x and two hexadecimal digits. Answers what follows it.
+fn put_escape<'a>(codes: &mut Codes, text: &'a [u8]) -> &'a [u8]
+    ensures { length result.now ≤ length text.now }
+{
+    let (byte, size) = match text {
+        [b'n', ..] => (b'\n', 1),
+        [b's', ..] => (b' ', 1),
+        _ => (hexadecimal(text), 3),
+    };
+    put_code(codes, Code::Plain(byte));
+    after(text, size)
 }
 
 // {rep k text}: the text k times.
-fn put_rep(codes: &mut [u16; ROOM], count: usize, text: &[u8], at: usize, end: usize) -> usize
-    requires { (at < length text.now) × (end ≤ length text.now) }
-{
-    let times = natural_at(text, at + 5);
-    let blank = times.next;
-    if blank < end {
-        let from = blank + 1;
-        return put_repeated(codes, count, &text[from..end], times.value);
+fn put_rep(codes: &mut Codes, inside: &[u8]) {
+    let (times, rest) = natural(after(inside, 4));
+    if let Some((_, text)) = rest.split_first() {
+        for _ in 0..times {
+            put_text(codes, text);
+        }
     }
-    count
-}
-
-// A mark that tells a number: the number after the mark, or the last that there is one for.
-fn counted(mark: u16, number: u64, most: u16) -> u16
-    requires { (mark ≤ 400) × (most ≤ 64) }
-{
-    if number < most as u64 {
-        return mark + number as u16;
-    }
-    mark + most
 }
 
 // {feed k text}: a feed of the text into k records.
-fn put_feed(codes: &mut [u16; ROOM], count: usize, text: &[u8], at: usize, end: usize) -> usize
-    requires { (at < length text.now) × (end ≤ length text.now) }
-{
-    let room = natural_at(text, at + 6);
-    let written = put_code(codes, count, counted(FEED, room.value, 16));
-    let blank = room.next;
-    if blank < end {
-        let from = blank + 1;
-        return put_bytes_as(codes, written, &text[from..end], true);
-    }
-    written
-}
-
-// {fill k}, {fetch k} or {feed k text}.
-fn put_f(codes: &mut [u16; ROOM], count: usize, text: &[u8], at: usize, end: usize) -> usize
-    requires { (at < length text.now) × (end ≤ length text.now) }
-{
-    if byte_at(text, at + 2) == b'i' {
-        let last = natural_at(text, at + 6);
-        return put_points(codes, count, last.value);
-    }
-    if byte_at(text, at + 3) == b't' {
-        let room = natural_at(text, at + 7);
-        return put_code(codes, count, counted(FETCH, room.value, 64));
-    }
-    put_feed(codes, count, text, at, end)
-}
-
-// What stands between braces: hold, draw, look, rep k text, or one that begins with f.
-fn put_mark(codes: &mut [u16; ROOM], count: usize, text: &[u8], at: usize, end: usize) -> usize
-    requires { (at < length text.now) × (end ≤ length text.now) }
-{
-    let letter = byte_at(text, at + 1);
-    if letter == b'h' {
-        return put_code(codes, count, HOLD);
-    }
-    if letter == b'd' {
-        return put_code(codes, count, DRAW);
-    }
-    if letter == b'l' {
-        return put_code(codes, count, LOOK);
-    }
-    if letter == b'f' {
-        return put_f(codes, count, text, at, end);
-    }
-    put_rep(codes, count, text, at, end)
-}
-
-// What stands in braces.
-fn put_braces(codes: &mut [u16; ROOM], count: usize, text: &[u8], at: usize) -> Written
-    requires { at < length text.now }
-    ensures { at < result.next }
-{
-    let end = find(text, at, text.len(), b'}');
-    let written = put_mark(codes, count, text, at, end);
-    Written {
-        count: written,
-        next: end + 1,
+fn put_feed(codes: &mut Codes, text: &[u8], inside: &[u8]) {
+    let (room, _) = natural(after(text, 5));
+    put_code(codes, Code::Feed(room.min(16) as u8));
+    let (_, rest) = natural(after(inside, 5));
+    if let Some((_, fed)) = rest.split_first() {
+        let _ = codes.extend(fed.iter().map(|byte| Code::Fed(*byte)));
     }
 }
 
-// A byte, an escape or braces.
-fn put_piece(codes: &mut [u16; ROOM], count: usize, text: &[u8], at: usize) -> Written
-    requires { at < length text.now }
-    ensures { at < result.next }
-{
-    let byte = text[at];
-    if byte == b'\\' {
-        return put_escape(codes, count, text, at);
-    }
-    if byte == b'{' {
-        return put_braces(codes, count, text, at);
-    }
-    let end = put_code(codes, count, wide(byte));
-    Written {
-        count: end,
-        next: at + 1,
-    }
-}
-
-// Writes out a sequence, and answers how many codes it has, one for its end included.
-pub fn write_out(text: &[u8], codes: &mut [u16; ROOM]) -> usize {
-    let mut count = 0;
-    let mut at = 0;
-    while at < text.len() {
-        let w = put_piece(codes, count, text, at);
-        count = w.count;
-        at = w.next;
-    }
-    put_code(codes, count, END)
-}
-
-// The bytes that a sequence has from a place on, up to a code of another kind: plain ones, or those of a feed. Those past the room that there is are left out, and the outcome tells.
-pub fn bytes_of(codes: &[u16; ROOM], from: usize, kind: u16, bytes: &mut [u8]) -> usize
-    ensures { result ≤ length bytes.new }
-{
-    let mut at = from;
-    for i in 0..bytes.len() {
-        if codes.len() <= at {
-            return i;
+// What stands between braces: hold, draw, look, fill k, fetch k, feed k text, or rep k text. The text goes on past the braces, as does a number of fewer letters.
+fn put_mark(codes: &mut Codes, text: &[u8], inside: &[u8]) {
+    match text {
+        [b'h', ..] => put_code(codes, Code::Hold),
+        [b'd', ..] => put_code(codes, Code::Draw),
+        [b'l', ..] => put_code(codes, Code::Look),
+        [b'f', b'i', ..] => {
+            let (last, _) = natural(after(text, 5));
+            put_points(codes, last);
         }
-        let code = codes[at];
-        if code / 256 != kind {
-            return i;
+        [b'f', _, b't', ..] => {
+            let (room, _) = natural(after(text, 6));
+            put_code(codes, Code::Fetch(room.min(64) as u8));
         }
-        bytes[i] = (code % 256) as u8;
-        at += 1;
+        [b'f', ..] => put_feed(codes, text, inside),
+        _ => put_rep(codes, inside),
     }
-    bytes.len()
+}
+
+// What stands in braces, of which the first is before this text. Answers what follows them.
+fn put_braces<'a>(codes: &mut Codes, text: &'a [u8]) -> &'a [u8]
+    ensures { length result.now ≤ length text.now }
+{
+    let end = text.iter().position(|byte| *byte == b'}');
+    let (inside, rest) = text.split_at(end.unwrap_or(text.len()));
+    put_mark(codes, text, inside);
+    after(rest, 1)
+}
+
+// A sequence, written out.
+pub fn written_out(text: &[u8]) -> Codes {
+    let mut codes = Codes::new();
+    let mut rest = text;
+    while let Some((byte, next)) = rest.split_first() {
+        rest = match *byte {
+            b'\\' => put_escape(&mut codes, next),
+            b'{' => put_braces(&mut codes, next),
+            byte => {
+                put_code(&mut codes, Code::Plain(byte));
+                next
+            }
+        };
+    }
+    codes
+}
+
+// The bytes that codes begin with, of one kind: plain ones, or those of a feed. Those past the room that there is are left out, and the outcome tells.
+pub fn bytes_of<F: Fn(Code) -> Option<u8>>(codes: &[Code], kind: F) -> Bytes
+    requires { F.IsAlwaysCallable kind }
+{
+    let mut bytes = Bytes::new();
+    let _ = bytes.extend(codes.iter().map_while(|code| kind(*code)));
+    bytes
 }

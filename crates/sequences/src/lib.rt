@@ -1,35 +1,25 @@
 // What a line of the program vectors says, as text alone: its fields, the numbers in them, and a sequence of bytes and marks. It knows of no machine.
 #![tactic(auto)]
 
-ghost use Rattle.std.specs.Prelude.{◌≤◌, length};
-
 pub mod codes;
 pub mod fields;
-pub mod scan;
 
-use codes::{PLAIN, ROOM, bytes_of, write_out};
-use fields::{field, natural_at};
+use codes::{Bytes, Code, Codes, bytes_of, written_out};
+use fields::{field, natural};
 
 // The number of a field.
 pub fn number_of(line: &[u8], n: usize) -> u64 {
-    let span = field(line, n);
-    let number = natural_at(line, span.from);
-    number.value
+    let (number, _) = natural(field(line, n));
+    number
 }
 
 // The sequence of a field, written out.
-pub fn codes_of(line: &[u8], n: usize, codes: &mut [u16; ROOM]) -> usize {
-    let span = field(line, n);
-    let from = span.from;
-    let to = span.to;
-    write_out(&line[from..to], codes)
+pub fn codes_of(line: &[u8], n: usize) -> Codes {
+    written_out(field(line, n))
 }
 
 // The bytes that the sequence of a field begins with.
-pub fn plain_of(line: &[u8], n: usize, bytes: &mut [u8]) -> usize
-    ensures { result ≤ length bytes.new }
-{
-    let mut codes = [0u16; ROOM];
-    codes_of(line, n, &mut codes);
-    bytes_of(&codes, 0, PLAIN, bytes)
+pub fn plain_of(line: &[u8], n: usize) -> Bytes {
+    let codes = codes_of(line, n);
+    bytes_of(&codes, Code::plain)
 }
