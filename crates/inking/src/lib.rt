@@ -3,7 +3,6 @@
 
 ghost use Rattle.std.specs.Prelude.{◌≡◌, length};
 ghost use Rattle.hpgl.specs.Machine.{waiting};
-ghost use Rattle.hpgl.specs.Valid.{Usable};
 ghost use Rattle.saved.specs.Saved.{state_numbers};
 ghost use Rattle.inking.specs.Inked.{inked_state};
 
@@ -23,8 +22,8 @@ fn room() -> [i64; NUMBERS]
 
 // The same machine with pen 1. Its fields are the machine's own, so that it is saved and loaded.
 pub fn inked(machine: Machine) -> Machine
-    requires { Usable machine.state × (waiting machine.state.work ≡ 0) }
-    ensures { (result.state ≡ inked_state machine.state) × Usable result.state }
+    requires { waiting machine.state.work ≡ 0 }
+    ensures { result.state ≡ inked_state machine.state }
 {
     let mut space = room();
     let numbers: &mut [i64] = &mut space;

@@ -21,12 +21,9 @@ start l = l.before
 pub load-machine-requires : goal.load-machine-requires
 load-machine-requires c = c.requires.0
 
-pub look-look-requires : goal.look-look-requires
-look-look-requires c = c.load-machine.ensures.1
-
 pub returns : goal.returns
 unfolding look_numbers over with_row
 returns c =
     let l = c.before.before.before.before.before in
     let seen = (start l).args.seen.now in
-    c.put_row.ensures ∙ ap (λ (row : Row). with_row row 0 seen) (c.look_row.ensures ∙ ap look_row (c.look-look.ensures ∙ ap look_at l.load-machine.ensures.0))
+    c.put_row.ensures ∙ ap (λ (row : Row). with_row row 0 seen) (c.look_row.ensures ∙ ap look_row (c.look-look.ensures ∙ ap look_at l.load-machine.ensures))

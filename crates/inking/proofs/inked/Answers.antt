@@ -10,8 +10,8 @@ use Rattle.inking.proofs.inked.Goals as goal
 
 pub load-requires : goal.load-requires
 load-requires c =
-    subst (λ (l : List ℤ). Loadable (set l 40 (pos 1))) (sym c.save.ensures) (inked-loadable c.args.machine.state c.requires.0 c.requires.1)
+    subst (λ (l : List ℤ). Loadable (set l 40 (pos 1))) (sym c.save.ensures) (inked-loadable c.args.machine.state c.args.machine.usable c.requires)
 
 pub returns : goal.returns
 returns c =
-    (c.load.ensures.0 ∙ ap (λ (k : List ℤ). loaded_of (set k 40 (pos 1))) c.save.ensures ∙ inked-back c.args.machine.state c.requires.0 c.requires.1, c.load.ensures.1)
+    c.load.ensures ∙ ap (λ (k : List ℤ). loaded_of (set k 40 (pos 1))) c.save.ensures ∙ inked-back c.args.machine.state c.args.machine.usable c.requires
