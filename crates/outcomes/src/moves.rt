@@ -1,6 +1,6 @@
 // Drive moves, with their places as the bits of two f32.
 use crate::put_number;
-use drive::{Move, Moves, Place};
+use drive::{Move, Moves, Place, Refusal};
 use output::{put_byte, put_bytes};
 
 fn wide(bits: u32) -> u64 {
@@ -38,13 +38,18 @@ fn put_move(rt: &HostRuntime, out: &mut [u8; 65536], used: usize, step: Move) ->
     }
 }
 
-pub fn put_moves(rt: &HostRuntime, out: &mut [u8; 65536], used: usize, moves: Moves) -> usize {
+pub fn put_moves(
+    rt: &HostRuntime,
+    out: &mut [u8; 65536],
+    used: usize,
+    moves: Result<Moves, Refusal>,
+) -> usize {
     match moves {
-        Moves::Two(first, second) => {
+        Ok(Moves::Two(first, second)) => {
             let end = put_move(rt, out, used, first);
             put_move(rt, out, end, second)
         }
-        Moves::One(dot) => put_move(rt, out, used, dot),
-        Moves::Refused(number) => put_number(rt, out, used, b" E", number as i64),
+        Ok(Moves::One(dot)) => put_move(rt, out, used, dot),
+        Err(why) => put_number(rt, out, used, b" E", u8::from(why) as i64),
     }
 }
