@@ -1,6 +1,6 @@
 -- Drive moves: what document 01 asks for a stroke, in exact numbers, and what an answer of floats must be to give it. Definitions only:
 -- Laws.antt has what follows from them, Floats.antt why no product loses anything.
-use Rattle.std.specs.Prelude.{◌≡◌, Bool, true, false, not, ◌&&◌, cond, ℕ, zero, suc, ltb, ℤ, pos, negsuc, nat_abs, ◌*ℤ◌, Float}
+use Rattle.std.specs.Prelude.{◌≡◌, Bool, true, false, not, ◌&&◌, cond, ℕ, zero, suc, ltb, ℤ, pos, negsuc, nat_abs, ◌*ℤ◌, Float, Result, Ok, Err}
 use Rattle.std.specs.Float.{binary32}
 use Rattle.std.specs.Float.Ieee.{round}
 use Rattle.std.specs.Float.Ieee.Exact.{HasValue}
@@ -10,7 +10,9 @@ use Rattle.hpgl.specs.declared.Stroke.{Stroke}
 use Rattle.drive.specs.declared.Place.{Place}
 use Rattle.drive.specs.declared.Move.TheVariants.{Travel, Paint, Dot}
 use Rattle.drive.specs.declared.Moves.{Moves}
-use Rattle.drive.specs.declared.Moves.TheVariants.{Two, One, Refused}
+use Rattle.drive.specs.declared.Moves.TheVariants.{Two, One}
+use Rattle.drive.specs.declared.Refusal.{Refusal}
+use Rattle.drive.specs.declared.Refusal.TheVariants.{Pitch, End}
 
 -- ---- the answer, in exact numbers. A length is a whole number of eighths of a millimetre, as every pitch is
 
@@ -59,6 +61,11 @@ bad_pitch = 11
 abbrev pub bad_end : ℕ
 bad_end = 12
 
+-- the number of each
+abbrev pub number_of : Refusal → ℕ
+number_of Pitch = bad_pitch
+number_of End = bad_end
+
 -- "A stroke becomes a travel and a paint move, or one dot if its ends are equal. Travel holds its start, paint its end, a dot its place." And
 -- "11 before 12"
 unfoldable pub answer_of : Stroke → ℕ → Answer
@@ -91,7 +98,7 @@ abbrev pub ExactAt : Place → Spot → Type 0
 ExactAt p u = Exactly p.x u.x × Exactly p.y u.y
 
 -- Document 01's number and values for every case of the answer r: which moves they are, and that each place is exactly the one that is asked for
-abbrev pub Gives : Moves → Answer → Type 0
-Gives r (travel_paint u v) = (r ≡ Two (Travel (place_of u)) (Paint (place_of v))) × (ExactAt (place_of u) u × ExactAt (place_of v) v)
-Gives r (one_dot u) = (r ≡ One (Dot (place_of u))) × ExactAt (place_of u) u
-Gives r (refusal n) = r ≡ Refused n
+abbrev pub Gives : Result Moves Refusal → Answer → Type 0
+Gives r (travel_paint u v) = (r ≡ Ok (Two (Travel (place_of u)) (Paint (place_of v)))) × (ExactAt (place_of u) u × ExactAt (place_of v) v)
+Gives r (one_dot u) = (r ≡ Ok (One (Dot (place_of u)))) × ExactAt (place_of u) u
+Gives r (refusal n) = (why : Refusal) × (r ≡ Err why) × (number_of why ≡ n)

@@ -3,7 +3,7 @@
 
 ghost use Rattle.std.specs.Prelude.{◌≡◌, true, pos, ◌*ℤ◌, ◌≤◌};
 ghost use Rattle.exact.specs.Int16 as I;
-ghost use Rattle.drive.specs.Drive.{last_code, pitch_of, ends_inside_of, ends_equal_of, spot_of, answer_of, f32_of, place_of, Gives};
+ghost use Rattle.drive.specs.Drive.{last_code, pitch_of, ends_inside_of, ends_equal_of, number_of, spot_of, answer_of, f32_of, place_of, Gives};
 
 use exact::int16;
 use hpgl::Stroke;
@@ -11,11 +11,24 @@ use hpgl::Stroke;
 // Pitch codes are 0 to this one.
 const LAST_CODE: u8 = 3;
 
-// Refused: a pitch code that is none.
-const BAD_PITCH: u8 = 11;
+// Refused: a pitch code that is none, or an end of the stroke that is out of range.
+#[derive(Clone, Copy)]
+pub enum Refusal {
+    Pitch,
+    End,
+}
 
-// Refused: an end of the stroke that is out of range.
-const BAD_END: u8 = 12;
+// The number of a refusal.
+impl From<Refusal> for u8 {
+    ghost from_gives = { λ why n. n ≡ number_of why };
+
+    fn from(why: Refusal) -> u8 {
+        match why {
+            Refusal::Pitch => 11,
+            Refusal::End => 12,
+        }
+    }
+}
 
 // Two lengths in millimetres.
 #[derive(Clone, Copy)]
@@ -32,12 +45,11 @@ pub enum Move {
     Dot(Place),
 }
 
-// A travel and a paint move, one dot, or the number of the refusal.
+// A travel and a paint move, or one dot.
 #[derive(Clone, Copy)]
 pub enum Moves {
     Two(Move, Move),
     One(Move),
-    Refused(u8),
 }
 
 // The pitch of a code, in millimetres a unit.
@@ -57,29 +69,14 @@ fn pitch_of(code: u8) -> f32
 fn ends_inside(s: Stroke) -> bool
     ensures { result ≡ ends_inside_of s }
 {
-    if !int16(s.x0) {
-        return false;
-    }
-    if !int16(s.y0) {
-        return false;
-    }
-    if !int16(s.x1) {
-        return false;
-    }
-    int16(s.y1)
+    int16(s.x0) && int16(s.y0) && int16(s.x1) && int16(s.y1)
 }
 
 // The stroke is a dot.
 pub fn ends_equal(s: Stroke) -> bool
     ensures { result ≡ ends_equal_of s }
 {
-    if s.x0 != s.x1 {
-        return false;
-    }
-    if s.y0 != s.y1 {
-        return false;
-    }
-    true
+    s.x0 == s.x1 && s.y0 == s.y1
 }
 
 // Units times the pitch. The whole number is converted first, so that zero is plus zero.
@@ -101,20 +98,20 @@ fn place_at(x: i64, y: i64, code: u8) -> Place
     }
 }
 
-// The moves of a stroke at a pitch code, or 11 or 12. The pen is not looked at.
-pub fn drive(stroke: Stroke, pitch: u8) -> Moves
+// The moves of a stroke at a pitch code, or why there are none. The pen is not looked at.
+pub fn drive(stroke: Stroke, pitch: u8) -> Result<Moves, Refusal>
     ensures { Gives result (answer_of stroke pitch) }
 {
     if LAST_CODE < pitch {
-        return Moves::Refused(BAD_PITCH);
+        return Err(Refusal::Pitch);
     }
     if !ends_inside(stroke) {
-        return Moves::Refused(BAD_END);
+        return Err(Refusal::End);
     }
     let start = place_at(stroke.x0, stroke.y0, pitch);
     if ends_equal(stroke) {
-        return Moves::One(Move::Dot(start));
+        return Ok(Moves::One(Move::Dot(start)));
     }
     let end = place_at(stroke.x1, stroke.y1, pitch);
-    Moves::Two(Move::Travel(start), Move::Paint(end))
+    Ok(Moves::Two(Move::Travel(start), Move::Paint(end)))
 }

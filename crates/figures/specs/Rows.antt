@@ -1,5 +1,6 @@
 -- A row of the figures: calls of document 01 with their arguments, and what they answer. A constructor for each kind of call list.
-use Rattle.std.specs.Prelude.{ℕ, zero, suc, ◌≡◌, List, [], ◌∷◌, ◌++◌, map, ℤ, pos, neg_ℤ, length}
+use Rattle.std.specs.Prelude.{ℕ, zero, suc, ◌≡◌, List, [], ◌∷◌, ◌++◌, map, ℤ, pos, neg_ℤ, length, Result, Ok, Err}
+use Rattle.std.proofs.Common.{ap, ◌∙◌}
 use Prim.Native.String.{String}
 use Rattle.clip.specs.declared.Rect.{Rect}
 use Rattle.hpgl.specs.declared.State.{State}
@@ -12,9 +13,11 @@ use Rattle.hpgl.specs.Machine.{rect, hard_limits, fresh_state, fresh_number, wai
 use Rattle.feeding.specs.Feed.{Feed, feed_of, laid}
 use Rattle.hpgl.specs.Trace.{Out, drawn_values, look_values, bytes, draws, drawn_off, refusal, trace_from, trace}
 use Rattle.drive.specs.declared.Moves.{Moves}
-use Rattle.drive.specs.declared.Moves.TheVariants.{Two, One, Refused}
+use Rattle.drive.specs.declared.Moves.TheVariants as moves
+use Rattle.drive.specs.declared.Move.{Move}
 use Rattle.drive.specs.declared.Move.TheVariants.{Travel, Paint, Dot}
-use Rattle.drive.specs.Drive.{Answer, travel_paint, one_dot, refusal as noMove, answer_of, place_of, Gives}
+use Rattle.drive.specs.declared.Refusal.{Refusal}
+use Rattle.drive.specs.Drive.{Answer, travel_paint, one_dot, refusal as noMove, number_of, answer_of, place_of, Gives}
 
 -- a call of feed: bytes, and the records of the lent list
 pub data Lent : Type 0 where
@@ -37,6 +40,12 @@ pub data Told : Type 0 where
   fetched : ℕ → ℕ → List ℕ → Told
   gave : Fed → Told
 
+-- what drive answers: its moves, or the number of its refusal
+pub data Moved : Type 0 where
+  Two : Move → Move → Moved
+  One : Move → Moved
+  Refused : ℕ → Moved
+
 pub data Row : Type 0 where
   -- fresh with these hard limits; then each byte is taken, and all that waits is drawn: refusals, strokes, and what look sees at the end
   taken : Rect → String → List Out → Row
@@ -51,7 +60,7 @@ pub data Row : Type 0 where
   -- feed after feed, each with the machine that the one before it left
   feeds : List Lent → List Fed → Row
   -- a stroke and a pitch code
-  moved : Stroke → ℕ → Moves → Row
+  moved : Stroke → ℕ → Moved → Row
   -- calls one by one, what they answer, and what look sees at the end
   called : List Call → List Told → Row
   -- bytes as in the first, and the line type of each segment that they leave to be drawn
@@ -63,7 +72,7 @@ pub data RowAnswer : Type 0 where
   numbered : ℕ → List Out → RowAnswer
   many : ℕ → RowAnswer
   fed_as : List Fed → RowAnswer
-  moved_as : Moves → RowAnswer
+  moved_as : Moved → RowAnswer
   told_as : List Told → RowAnswer
   typed_as : List LineType → RowAnswer
 
@@ -115,16 +124,22 @@ called_all m (draw ∷ cs) = told (drawn_values (draw_answer m)) ∷ called_all 
 called_all m (feed l ∷ cs) = let f : Feed = feed_by m l in gave (fed_by f l) ∷ called_all f.state cs
 
 -- the moves that `Gives` asks for; there are no others (`moves-given`)
-unfoldable pub moves_of : Answer → Moves
+unfoldable pub moves_of : Answer → Moved
 moves_of (travel_paint u v) = Two (Travel (place_of u)) (Paint (place_of v))
 moves_of (one_dot u) = One (Dot (place_of u))
 moves_of (noMove n) = Refused n
 
-pub moves-given : (r : Moves) (a : Answer) → Gives r a → r ≡ moves_of a
-unfolding moves_of
-moves-given r (travel_paint u v) h = h.0
-moves-given r (one_dot u) h = h.0
-moves-given r (noMove n) h = h
+-- an answer of drive as a row has it
+unfoldable pub moved_by : Result Moves Refusal → Moved
+moved_by (Ok (moves.Two a b)) = Two a b
+moved_by (Ok (moves.One a)) = One a
+moved_by (Err why) = Refused (number_of why)
+
+pub moves-given : (r : Result Moves Refusal) (a : Answer) → Gives r a → moved_by r ≡ moves_of a
+unfolding moved_by moves_of
+moves-given r (travel_paint u v) h = ap moved_by h.0
+moves-given r (one_dot u) h = ap moved_by h.0
+moves-given r (noMove n) h = ap moved_by h.1 ∙ ap Refused h.2
 
 -- the types of a queue's segments, by their located ends; and after each byte, where all is drawn before the next
 unfoldable pub types_in : Rect → List ExactSegment → List LineType

@@ -9,8 +9,7 @@ use Rattle.hpgl.specs.Machine.{rect}
 use Rattle.hpgl.specs.Trace.{Out, refused, stroke, hidden, idle, seen, reply, bytes}
 use Rattle.drive.specs.declared.Place.{Place}
 use Rattle.drive.specs.declared.Move.TheVariants.{Travel, Paint, Dot}
-use Rattle.drive.specs.declared.Moves.TheVariants.{Two, One, Refused}
-use Rattle.figures.specs.Rows.{Row, taken, undrawn, started, filled, waits, feeds, moved, typed, called, lent, fed, Call, held, fetch, draw, feed, Told, told, fetched, gave, minus, wide}
+use Rattle.figures.specs.Rows.{Two, One, Refused, Row, taken, undrawn, started, filled, waits, feeds, moved, typed, called, lent, fed, Call, held, fetch, draw, feed, Told, told, fetched, gave, minus, wide}
 use Rattle.clip.specs.Types.{LineType, inside_to_inside, inside_to_outside, outside_to_inside, outside_to_outside}
 
 -- ---- how a row is written

@@ -1,5 +1,5 @@
 // Drive moves, with their places as the bits of two f32.
-use drive::{Move, Moves, Place};
+use drive::{Move, Moves, Place, Refusal};
 use output::Text;
 use std::fmt;
 use std::fmt::Write;
@@ -24,13 +24,13 @@ fn put_move(out: &mut Text<'_>, step: Move) -> fmt::Result {
     put_float(out, y)
 }
 
-pub fn put_moves(out: &mut Text<'_>, moves: Moves) -> fmt::Result {
+pub fn put_moves(out: &mut Text<'_>, moves: Result<Moves, Refusal>) -> fmt::Result {
     match moves {
-        Moves::Two(first, second) => {
+        Ok(Moves::Two(first, second)) => {
             put_move(out, first)?;
             put_move(out, second)
         }
-        Moves::One(dot) => put_move(out, dot),
-        Moves::Refused(number) => write!(out, " E{number}"),
+        Ok(Moves::One(dot)) => put_move(out, dot),
+        Err(why) => write!(out, " E{}", u8::from(why)),
     }
 }

@@ -91,11 +91,9 @@ fn pen_of(row: Row) -> Pen
 fn saved_of(row: Row, position: Row) -> Saved
     ensures { result ≡ S.pm0_of row position }
 {
-    let p = position_of(position);
-    let relative = flag_in(position);
     Saved {
-        position: p,
-        relative: relative,
+        position: position_of(position),
+        relative: flag_in(position),
         down: flag_of(row.d),
     }
 }
@@ -103,16 +101,13 @@ fn saved_of(row: Row, position: Row) -> Saved
 fn polygon_of(row: Row, first: Row, saved: Row) -> Polygon
     ensures { result ≡ S.polygon_of row first saved }
 {
-    let start = position_of(first);
-    let empty = flag_in(first);
-    let before = saved_of(row, saved);
     Polygon {
         mode: flag_of(row.a),
         bytes: short_of(row.b),
         edges: byte_of(row.c),
-        empty: empty,
-        first: start,
-        saved: before,
+        empty: flag_in(first),
+        first: position_of(first),
+        saved: saved_of(row, saved),
     }
 }
 
@@ -140,35 +135,26 @@ pub fn put_carriage(c: Carriage, numbers: &mut [i64])
     requires { work_place ≤ length numbers.old }
     ensures { numbers.new ≡ over numbers.old position_place (S.carriage_numbers c) }
 {
-    let position = c.position;
-    let pen = c.pen;
     let polygon = c.polygon;
-    let first = polygon.first;
     let saved = polygon.saved;
-    let before = saved.position;
-    let memory = c.memory;
-    put_row(numbers, POSITION, position_row(position, c.relative));
-    put_row(numbers, PEN, pen_row(pen));
+    put_row(numbers, POSITION, position_row(c.position, c.relative));
+    put_row(numbers, PEN, pen_row(c.pen));
     put_row(numbers, POLYGON, polygon_row(polygon));
-    put_row(numbers, FIRST, position_row(first, polygon.empty));
-    put_row(numbers, SAVED, position_row(before, saved.relative));
-    put_row(numbers, MEMORY, memory_row(memory));
+    put_row(numbers, FIRST, position_row(polygon.first, polygon.empty));
+    put_row(numbers, SAVED, position_row(saved.position, saved.relative));
+    put_row(numbers, MEMORY, memory_row(c.memory));
 }
 
 pub fn carriage_at(numbers: &[i64]) -> Carriage
     requires { work_place ≤ length numbers.now }
     ensures { result ≡ S.carriage_at numbers.now }
 {
-    let polygon = row_at(numbers, POLYGON);
-    let first = row_at(numbers, FIRST);
-    let saved = row_at(numbers, SAVED);
-    let memory = row_at(numbers, MEMORY);
     carriage_of(
         row_at(numbers, POSITION),
         row_at(numbers, PEN),
-        polygon,
-        first,
-        saved,
-        memory,
+        row_at(numbers, POLYGON),
+        row_at(numbers, FIRST),
+        row_at(numbers, SAVED),
+        row_at(numbers, MEMORY),
     )
 }

@@ -41,11 +41,8 @@ pub fn put_edges(s: Store, numbers: &mut [i64])
     requires { (length s.edges ≡ most_edges) × (length numbers.old ≡ S.state_numbers) }
     ensures { numbers.new ≡ over numbers.old edges_place (S.edges_numbers s.edges) }
 {
-    let mut i = 0;
-    while i < MOST_EDGES {
-        let e = s.edges[i];
-        put_row(numbers, EDGES + i * ROW, edge_row(e));
-        i += 1;
+    for (i, e) in s.edges.iter().enumerate() {
+        put_row(numbers, EDGES + i * ROW, edge_row(*e));
     }
 }
 
@@ -60,11 +57,8 @@ pub fn edges_at(numbers: &[i64]) -> Store
         down: false,
     };
     let mut edges = [none; MOST_EDGES];
-    let mut i = 0;
-    while i < MOST_EDGES {
-        let e = edge_of(row_at(numbers, EDGES + i * ROW));
-        edges[i] = e;
-        i += 1;
+    for (i, e) in edges.iter_mut().enumerate() {
+        *e = edge_of(row_at(numbers, EDGES + i * ROW));
     }
-    Store { edges: edges }
+    Store { edges }
 }

@@ -8,7 +8,7 @@ use numerals::number::Number;
 use reader::{Mode, Numbers, Reader};
 use rows::{Row, byte_of, flag_number, flag_of, place_number, put_row, row_at, whole, word_of};
 
-// The modes by number.
+// The modes by number, as they stand in the list that C keeps.
 const IDLE: u8 = 0;
 
 const FIRST: u8 = 1;
@@ -38,35 +38,24 @@ fn mode_tag(mode: Mode) -> u8
 fn mode_letter(mode: Mode) -> u8
     ensures { result ≡ mode_letter mode }
 {
-    match mode {
-        Mode::Idle => 0,
-        Mode::First(letter) => letter,
-        Mode::Parameters => 0,
-        Mode::InNumber => 0,
-        Mode::PassOver => 0,
-        Mode::Label => 0,
+    if let Mode::First(letter) = mode {
+        letter
+    } else {
+        0
     }
 }
 
 fn mode_of(tag: u8, letter: u8) -> Mode
     ensures { result ≡ mode_of tag letter }
 {
-    if tag == FIRST {
-        return Mode::First(letter);
+    match tag {
+        FIRST => Mode::First(letter),
+        PARAMETERS => Mode::Parameters,
+        IN_NUMBER => Mode::InNumber,
+        PASS_OVER => Mode::PassOver,
+        LABEL => Mode::Label,
+        _ => Mode::Idle,
     }
-    if tag == PARAMETERS {
-        return Mode::Parameters;
-    }
-    if tag == IN_NUMBER {
-        return Mode::InNumber;
-    }
-    if tag == PASS_OVER {
-        return Mode::PassOver;
-    }
-    if tag == LABEL {
-        return Mode::Label;
-    }
-    Mode::Idle
 }
 
 fn place_row(mode: Mode, op: usize) -> Row
@@ -134,27 +123,20 @@ pub fn put_reader(r: Reader, list: &mut [i64])
     requires { limits_place ≤ length list.old }
     ensures { list.new ≡ over list.old 0 (reader_numbers r) }
 {
-    let mode = r.mode;
-    let numbers = r.numbers;
-    let number = r.number;
-    put_row(list, 0, place_row(mode, r.op));
-    put_row(list, 5, numbers_row(numbers));
-    put_row(list, 10, number_row(number));
+    put_row(list, 0, place_row(r.mode, r.op));
+    put_row(list, 5, numbers_row(r.numbers));
+    put_row(list, 10, number_row(r.number));
 }
 
 // The reader of three rows.
 fn reader_of(place: Row, numbers: Row, number: Row) -> Reader
     ensures { result ≡ reader_of place numbers number }
 {
-    let mode = mode_of(byte_of(place.a), byte_of(place.b));
-    let op = byte_of(place.c) as usize;
-    let read = numbers_of(numbers);
-    let open = number_of(number);
     Reader {
-        mode: mode,
-        op: op,
-        numbers: read,
-        number: open,
+        mode: mode_of(byte_of(place.a), byte_of(place.b)),
+        op: byte_of(place.c) as usize,
+        numbers: numbers_of(numbers),
+        number: number_of(number),
     }
 }
 

@@ -1,5 +1,6 @@
 // The machine's state written out as numbers, and read back. A caller in another language keeps it between two calls as 129 rows of five.
 // The crate saved says which number stands where (Saved.antt), and proves that what is written is read back (SavedLaws.antt).
+// Functions and no From: a row is of the crate rows, and what it is made of is of hpgl and reader; an impl would have to stand in one of those.
 #![tactic(auto)]
 
 ghost use Rattle.std.specs.Prelude.{◌≡◌, length};
@@ -25,17 +26,11 @@ pub fn save(m: State, numbers: &mut [i64])
     requires { (length m.store.edges ≡ most_edges) × (length numbers.old ≡ state_numbers) }
     ensures { numbers.new ≡ saved_of m }
 {
-    let reader = m.reader;
-    let core = m.core;
-    let store = m.store;
-    let work = m.work;
-    let settings = core.settings;
-    let carriage = core.carriage;
-    put_reader(reader, numbers);
-    put_settings(settings, numbers);
-    put_carriage(carriage, numbers);
-    put_work(work, numbers);
-    put_edges(store, numbers);
+    put_reader(m.reader, numbers);
+    put_settings(m.core.settings, numbers);
+    put_carriage(m.core.carriage, numbers);
+    put_work(m.work, numbers);
+    put_edges(m.store, numbers);
 }
 
 // The state that a list holds.
@@ -43,18 +38,13 @@ pub fn load(numbers: &[i64]) -> State
     requires { length numbers.now ≡ state_numbers }
     ensures { result ≡ loaded_of numbers.now }
 {
-    let reader = reader_at(numbers);
-    let settings = settings_at(numbers);
-    let carriage = carriage_at(numbers);
-    let work = work_at(numbers);
-    let store = edges_at(numbers);
     State {
-        reader: reader,
+        reader: reader_at(numbers),
         core: Core {
-            settings: settings,
-            carriage: carriage,
+            settings: settings_at(numbers),
+            carriage: carriage_at(numbers),
         },
-        store: store,
-        work: work,
+        store: edges_at(numbers),
+        work: work_at(numbers),
     }
 }

@@ -139,15 +139,10 @@ pub fn put_settings(s: Settings, numbers: &mut [i64])
     requires { position_place ≤ length numbers.old }
     ensures { numbers.new ≡ over numbers.old limits_place (S.settings_numbers s) }
 {
-    let hard = s.hard;
-    let p1 = s.p1;
-    let p2 = s.p2;
-    let scale = s.scale;
-    let window = s.window;
-    put_row(numbers, LIMITS, limits_row(hard, s.turn));
-    put_row(numbers, CORNERS, corners_row(p1, p2));
-    put_row(numbers, SCALE, scale_row(scale));
-    put_row(numbers, WINDOW, window_row(window));
+    put_row(numbers, LIMITS, limits_row(s.hard, s.turn));
+    put_row(numbers, CORNERS, corners_row(s.p1, s.p2));
+    put_row(numbers, SCALE, scale_row(s.scale));
+    put_row(numbers, WINDOW, window_row(s.window));
 }
 
 pub fn settings_at(numbers: &[i64]) -> Settings

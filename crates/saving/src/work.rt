@@ -84,6 +84,7 @@ fn count_row(r: Reply) -> Row
     }
 }
 
+// A circle's two axes, each with its part of the radius: two functions, as the definition has two.
 fn across_row(o: Circle) -> Row
     ensures { result ≡ S.across_row o }
 {
@@ -125,53 +126,22 @@ fn start_row(o: Circle) -> Row
     }
 }
 
-// What waits, with its numbers.
-fn work_row(w: Work) -> Row
-    ensures { result ≡ S.work_row w }
+// What waits, with its numbers; the circle of chords that wait, on each axis, or the count of a reply; and the circle's start.
+fn work_rows(w: Work) -> (Row, Row, Row, Row)
+    ensures { result ≡ (S.work_row w, S.work_across w, S.work_along w, S.work_start w) }
 {
+    let blank = blank_row();
     match w {
-        Work::Nothing => blank_row(),
-        Work::Line(p, q) => line_row(p, q),
-        Work::Chords(o, i, n) => chords_row(o, i, n),
-        Work::Edges(i, n) => edges_row(i, n),
-        Work::Answer(r) => reply_row(r),
-    }
-}
-
-// The circle of chords that wait, on each axis; of a reply its count.
-fn work_across(w: Work) -> Row
-    ensures { result ≡ S.work_across w }
-{
-    match w {
-        Work::Nothing => blank_row(),
-        Work::Line(_, _) => blank_row(),
-        Work::Chords(o, _, _) => across_row(o),
-        Work::Edges(_, _) => blank_row(),
-        Work::Answer(r) => count_row(r),
-    }
-}
-
-fn work_along(w: Work) -> Row
-    ensures { result ≡ S.work_along w }
-{
-    match w {
-        Work::Nothing => blank_row(),
-        Work::Line(_, _) => blank_row(),
-        Work::Chords(o, _, _) => along_row(o),
-        Work::Edges(_, _) => blank_row(),
-        Work::Answer(_) => blank_row(),
-    }
-}
-
-fn work_start(w: Work) -> Row
-    ensures { result ≡ S.work_start w }
-{
-    match w {
-        Work::Nothing => blank_row(),
-        Work::Line(_, _) => blank_row(),
-        Work::Chords(o, _, _) => start_row(o),
-        Work::Edges(_, _) => blank_row(),
-        Work::Answer(_) => blank_row(),
+        Work::Nothing => (blank, blank, blank, blank),
+        Work::Line(p, q) => (line_row(p, q), blank, blank, blank),
+        Work::Chords(o, i, n) => (
+            chords_row(o, i, n),
+            across_row(o),
+            along_row(o),
+            start_row(o),
+        ),
+        Work::Edges(i, n) => (edges_row(i, n), blank, blank, blank),
+        Work::Answer(r) => (reply_row(r), count_row(r), blank, blank),
     }
 }
 
@@ -204,13 +174,10 @@ fn angle_in(row: Row) -> u16
 pub fn circle_of(chords: Row, across: Row, along: Row, start: Row) -> Circle
     ensures { result ≡ S.circle_of chords across along start }
 {
-    let x = centre_of(across);
-    let y = centre_of(along);
-    let radius = way_of(across, along);
     Circle {
-        x: x,
-        y: y,
-        radius: radius,
+        x: centre_of(across),
+        y: centre_of(along),
+        radius: way_of(across, along),
         angle: angle_in(chords),
         start: from_of(start),
         sweep: start.c,
@@ -232,34 +199,28 @@ pub fn reply_of(row: Row, across: Row) -> Reply
 fn work_of(row: Row, across: Row, along: Row, start: Row) -> Work
     ensures { result ≡ S.work_of row across along start }
 {
-    let tag = byte_of(row.e);
-    if tag == 1 {
-        return Work::Line(from_of(row), to_of(row));
-    }
-    if tag == 2 {
-        return Work::Chords(
+    match byte_of(row.e) {
+        1 => Work::Line(from_of(row), to_of(row)),
+        2 => Work::Chords(
             circle_of(row, across, along, start),
             short_of(row.a),
             short_of(row.b),
-        );
+        ),
+        3 => Work::Edges(byte_of(row.a), byte_of(row.b)),
+        4 => Work::Answer(reply_of(row, across)),
+        _ => Work::Nothing,
     }
-    if tag == 3 {
-        return Work::Edges(byte_of(row.a), byte_of(row.b));
-    }
-    if tag == 4 {
-        return Work::Answer(reply_of(row, across));
-    }
-    Work::Nothing
 }
 
 pub fn put_work(w: Work, numbers: &mut [i64])
     requires { edges_place ≤ length numbers.old }
     ensures { numbers.new ≡ over numbers.old work_place (S.work_numbers w) }
 {
-    put_row(numbers, WORK, work_row(w));
-    put_row(numbers, ACROSS, work_across(w));
-    put_row(numbers, ALONG, work_along(w));
-    put_row(numbers, START, work_start(w));
+    let (row, across, along, start) = work_rows(w);
+    put_row(numbers, WORK, row);
+    put_row(numbers, ACROSS, across);
+    put_row(numbers, ALONG, along);
+    put_row(numbers, START, start);
 }
 
 pub fn work_at(numbers: &[i64]) -> Work

@@ -9,6 +9,8 @@ use Rattle.exact.specs.Fit.{val, m64}
 use Rattle.drive.specs.declared.Place.{Place}
 use Rattle.drive.specs.declared.Move.TheVariants.{Travel, Paint, Dot}
 use Rattle.drive.specs.declared.Moves.TheVariants.{Two, One}
+use Rattle.drive.specs.declared.Refusal.TheVariants.{Pitch, End}
+use Rattle.std.proofs.Common.{Ok}
 use Rattle.exact.specs.Int16.{int16, int16-size}
 use Rattle.drive.specs.Drive.{ends_inside_of, spot_of, place_of}
 use Rattle.drive.proofs.Laws.{pitch-refused, end_refused, dot-answered, line-answered, Inside, ends-inside, spot-exact}
@@ -35,13 +37,13 @@ all-inside : (c : Else-not-ends_inside) → Inside c.args.stroke
 all-inside c = ends-inside _ (passed c)
 
 pub returns-then-pitch-gt-LAST_CODE : goal.returns-then-pitch-gt-LAST_CODE
-returns-then-pitch-gt-LAST_CODE c = let s = c.before in rw (pitch-refused s.args.stroke s.args.pitch c.if-pitch-gt-LAST_CODE.true) refl
+returns-then-pitch-gt-LAST_CODE c = let s = c.before in rw (pitch-refused s.args.stroke s.args.pitch c.if-pitch-gt-LAST_CODE.true) (Pitch, refl, refl)
 
 pub returns-then-not-ends_inside : goal.returns-then-not-ends_inside
 returns-then-not-ends_inside c =
     let d = c.before.before in
     let s = d.args in
-    rw (end_refused s.stroke s.pitch d.if-pitch-gt-LAST_CODE.false (sym c.ends_inside.ensures ∙ c.if-not-ends_inside.true)) refl
+    rw (end_refused s.stroke s.pitch d.if-pitch-gt-LAST_CODE.false (sym c.ends_inside.ensures ∙ c.if-not-ends_inside.true)) (End, refl, refl)
 
 pub place_at-start-requires : goal.place_at-start-requires
 place_at-start-requires c = search (rules, all-inside search)
@@ -53,7 +55,7 @@ returns-then-ends_equal c =
     let s = d.args in
     let i = all-inside d in
     rw (dot-answered s.stroke s.pitch d.if-pitch-gt-LAST_CODE.false (passed d) (sym c.ends_equal.ensures ∙ c.if-ends_equal.true))
-    (ap (λ (q : Place). One (Dot q)) (placed s.stroke.x0 s.stroke.y0 s.pitch i.x0 i.y0 p.place_at-start.ensures), spot-exact s.stroke.x0 s.stroke.y0 s.pitch i.x0 i.y0)
+    (ap (λ (q : Place). Ok (One (Dot q))) (placed s.stroke.x0 s.stroke.y0 s.pitch i.x0 i.y0 p.place_at-start.ensures), spot-exact s.stroke.x0 s.stroke.y0 s.pitch i.x0 i.y0)
 
 pub place_at-end-requires : goal.place_at-end-requires
 place_at-end-requires c = search (rules, all-inside search)
@@ -66,6 +68,6 @@ returns c =
     let s = d.args in
     let i = all-inside d in
     rw (line-answered s.stroke s.pitch d.if-pitch-gt-LAST_CODE.false (passed d) (sym e.ends_equal.ensures ∙ e.if-ends_equal.false)) (
-      ap₂ (λ (q r : Place). Two (Travel q) (Paint r)) (placed s.stroke.x0 s.stroke.y0 s.pitch i.x0 i.y0 p.place_at-start.ensures) (placed s.stroke.x1 s.stroke.y1 s.pitch i.x1 i.y1 c.place_at-end.ensures),
+      ap₂ (λ (q r : Place). Ok (Two (Travel q) (Paint r))) (placed s.stroke.x0 s.stroke.y0 s.pitch i.x0 i.y0 p.place_at-start.ensures) (placed s.stroke.x1 s.stroke.y1 s.pitch i.x1 i.y1 c.place_at-end.ensures),
       (spot-exact s.stroke.x0 s.stroke.y0 s.pitch i.x0 i.y0, spot-exact s.stroke.x1 s.stroke.y1 s.pitch i.x1 i.y1),
     )

@@ -1,62 +1,19 @@
 -- The proof of `ends_inside`: by its four tests.
-use mathlib.Core.Path.{◌≡◌, sym, ap, ◌∙◌}
-use mathlib.Core.Bool.{Bool, true}
-use borrow.Author.Rules.{rules}
-use lib.IntN.{ℤ}
-use mir.Syntax.{w64}
-use mir.Val.{SFits}
-use mir.Facts.{to_z-of_z}
-use Rattle.exact.specs.Fit.{m64}
-use Rattle.exact.specs.Int16.{int16}
+use Rattle.std.proofs.Common.{rules}
 use Rattle.drive.specs.Drive.{ends_inside_of}
 use Rattle.drive.proofs.ends_inside.Goals as goal
-use Rattle.drive.proofs.ends_inside.Lts
-use Rattle.drive.proofs.ends_inside.Tie
-use Rattle.drive.proofs.ends_inside.Reads
+use Rattle.drive.proofs.ends_inside.Goals.{then-int16, else-int16, then-int16-2, else-int16-2}
 
-abbrev Else-not-int16 : Type 0
-Else-not-int16 = Lts.Else1 Tie.the-claims Reads.Pre Reads.Post
-
-abbrev Else-not-int16-2 : Type 0
-Else-not-int16-2 = Lts.Else2 Tie.the-claims Reads.Pre Reads.Post
-
-abbrev Else-not-int16-3 : Type 0
-Else-not-int16-3 = Lts.Else3 Tie.the-claims Reads.Pre Reads.Post
-
--- what a call said of a field that it was passed by its bits
-told : (z : ℤ) (r : Bool) {b : Bool} → SFits w64 z → r ≡ int16 (m64 z) → r ≡ b → int16 z ≡ b
-told z r f e h = ap int16 (sym (to_z-of_z f)) ∙ sym e ∙ h
-
-x0-inside : (c : Else-not-int16) → int16 c.args.s.x0 ≡ true
-x0-inside c = let r = c.int16.result in told c.args.s.x0 r (search rules) c.int16.ensures (c.if-not-int16.false)
-
-y0-inside : (c : Else-not-int16-2) → int16 c.args.s.y0 ≡ true
-y0-inside c = let r = c.int16-2.result in told c.args.s.y0 r (search rules) c.int16-2.ensures (c.if-not-int16-2.false)
-
-x1-inside : (c : Else-not-int16-3) → int16 c.args.s.x1 ≡ true
-x1-inside c = let r = c.int16-3.result in told c.args.s.x1 r (search rules) c.int16-3.ensures (c.if-not-int16-3.false)
-
-pub returns-then-not-int16 : goal.returns-then-not-int16
+pub returns-then-int16-3 : goal.returns-then-int16-3
 unfolding ends_inside_of
-returns-then-not-int16 c =
-    let r = c.int16.result in
-    rw (told c.args.s.x0 r (search rules) c.int16.ensures (c.if-not-int16.true)) (search rules)
+returns-then-int16-3 c = elim c.if-int16-2.branch [
+  | then-int16-2 v ↦ elim c.if-int16.branch [ then-int16 w ↦ search rules | else-int16 w ↦ search rules ]
+  | else-int16-2 v ↦ search rules
+]
 
-pub returns-then-not-int16-2 : goal.returns-then-not-int16-2
+pub returns-else-int16-3 : goal.returns-else-int16-3
 unfolding ends_inside_of
-returns-then-not-int16-2 c =
-    let r = c.int16-2.result in
-    rw (x0-inside search, told c.args.s.y0 r (search rules) c.int16-2.ensures (c.if-not-int16-2.true)) (search rules)
-
-pub returns-then-not-int16-3 : goal.returns-then-not-int16-3
-unfolding ends_inside_of
-returns-then-not-int16-3 c =
-    let r = c.int16-3.result in
-    rw (x0-inside search, y0-inside search, told c.args.s.x1 r (search rules) c.int16-3.ensures (c.if-not-int16-3.true)) (search rules)
-
-pub returns : goal.returns
-unfolding ends_inside_of
-returns c =
-    let y1 = c.args.s.y1 in
-    let f : SFits w64 y1 = search rules in
-    rw (x0-inside search, y0-inside search, x1-inside search) (c.int16-4.ensures ∙ ap int16 (to_z-of_z f))
+returns-else-int16-3 c = elim c.if-int16-2.branch [
+  | then-int16-2 v ↦ elim c.if-int16.branch [ then-int16 w ↦ search rules | else-int16 w ↦ search rules ]
+  | else-int16-2 v ↦ elim c.if-int16.branch [ then-int16 w ↦ search rules | else-int16 w ↦ search rules ]
+]

@@ -12,18 +12,6 @@ use Rattle.hpgl.specs.Numbers.{most_edges}
 use Rattle.saved.specs.Saved.{state_numbers, settings_numbers, carriage_numbers, work_numbers, edges_numbers, saved_of}
 use Rattle.saved.proofs.SavedLaws.{saved-length}
 use Rattle.saving.proofs.save.Goals as goal
-use Rattle.saving.proofs.save.Lts
-use Rattle.saving.proofs.save.Tie
-use Rattle.saving.proofs.save.Reads
-
-abbrev After-put_reader : Type 0
-After-put_reader = Lts.After-put_reader Tie.the-claims Reads.Pre Reads.Post
-
-abbrev Start : Type 0
-Start = Lts.Start Tie.the-claims Reads.Pre Reads.Post
-
-abbrev start : After-put_reader → Start
-start c = c.before.before.before.before.before.before.before
 
 -- the parts, one written after the other, are the whole
 whole : (m : State) (zs : List ℤ) → length m.store.edges ≡ most_edges → length zs ≡ state_numbers →
@@ -33,14 +21,12 @@ whole m zs e h = over-all zs (saved_of m) (h ∙ sym (saved-length m e))
 
 pub returns : goal.returns
 returns c =
-    let r = c.before.before.before.before.before.before.before.before.before.before.before.before.before in
-    let s = start r in
-    let m = s.args.m in
+    let m = c.args.m in
     c.put_edges.ensures
     ∙ ap (λ (zs : List ℤ). over zs edges_place (edges_numbers m.store.edges))
     (c.put_work.ensures
     ∙ ap (λ (zs : List ℤ). over zs work_place (work_numbers m.work))
     (c.put_carriage.ensures
     ∙ ap (λ (zs : List ℤ). over zs position_place (carriage_numbers m.core.carriage))
-    (c.put_settings.ensures ∙ ap (λ (zs : List ℤ). over zs limits_place (settings_numbers m.core.settings)) r.put_reader.ensures)))
-    ∙ whole m s.args.numbers.now s.requires.0 s.requires.1
+    (c.put_settings.ensures ∙ ap (λ (zs : List ℤ). over zs limits_place (settings_numbers m.core.settings)) c.put_reader.ensures)))
+    ∙ whole m c.args.numbers.now c.requires.0 c.requires.1

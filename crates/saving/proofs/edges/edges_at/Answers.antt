@@ -4,7 +4,7 @@ use mathlib.Core.List.{List}
 use Prim.Native.Nat.{ℕ, zero, suc, ◌+◌, ◌*◌, ◌-◌, ◌≤◌, ◌<◌}
 use native.Mathlib.Omega.{arith}
 use lib.IntN.{ℤ}
-use lib.ListN.{length, set, length-set}
+use lib.ListN.{length, set}
 use Rattle.rows.specs.Rows.{row_at, over}
 use Rattle.rows.specs.RowLaws.{over-all}
 use Rattle.hpgl.specs.declared.Edge.{Edge}
@@ -35,26 +35,16 @@ module _ (zs : List ℤ) (edges : List Edge) (i : ℕ) where
 pub loop-i-init : goal.loop-i-init
 loop-i-init c =
     let zs = c.args.numbers.now in
-    (omega arith, (refl, over-all _ (edges_from zs edges_place 112) (sym (from-length zs edges_place 112))))
-
-pub row_at-requires : goal.row_at-requires
-row_at-requires c =
-    omega (arith, c.requires, c.loop-i-test.true)
+    over-all _ (edges_from zs edges_place 112) (sym (from-length zs edges_place 112))
 
 pub loop-i-preserved : goal.loop-i-preserved
 loop-i-preserved c =
-    let more = c.loop-i-test.true in
-    let read = c.edge_of-e.ensures ∙ ap edge_of c.row_at.ensures in (
-      omega (arith, more),
-      (
-        length-set c.loop-i.edges c.loop-i.i c.edge_of-e.result ∙ c.loop-i.invariant.1.0,
-        one_more c.args.numbers.now c.loop-i.edges c.loop-i.i more read ∙ c.loop-i.invariant.1.1,
-      ),
-    )
+    let read = c.edge_of.ensures ∙ ap edge_of c.row_at.ensures in
+    one_more c.args.numbers.now c.loop-i.e-items c.loop-i.i c.loop-i-test.true read ∙ c.loop-i.invariant
 
 pub returns : goal.returns
 unfolding store_at
 returns c =
     let l = c.loop-i in
-    let e = all c.args.numbers.now l.edges l.i (omega (arith, c.loop-i-test.false)) ∙ l.invariant.1.1 in
+    let e = all c.args.numbers.now l.e-items l.i c.loop-i-test.false ∙ l.invariant in
     λ j. record { edges = e j }

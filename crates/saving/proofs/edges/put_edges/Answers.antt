@@ -1,5 +1,5 @@
 -- The proof of `put_edges`: what is left to write over the list gives the whole.
-use mathlib.Core.Path.{◌≡◌, refl, sym, ap, ◌∙◌}
+use mathlib.Core.Path.{◌≡◌, sym, ap, ◌∙◌}
 use mathlib.Core.List.{List}
 use Prim.Native.Nat.{ℕ, suc, ◌+◌, ◌*◌, ◌≤◌, ◌<◌}
 use native.Mathlib.Numerals.{add-one}
@@ -30,23 +30,12 @@ module _ (es : List Edge) (i : ℕ) (numbers : List ℤ) where
   unfolding over edges_numbers
   all h e = ap (λ (l : List Edge). over numbers (edges_place + i * 5) (edges_numbers l)) (sym (drop_of_length-le es h)) ∙ e
 
-pub loop-i-init : goal.loop-i-init
-loop-i-init c = (omega arith, (refl, refl))
-
-pub put_row-requires : goal.put_row-requires
-put_row-requires c =
-    omega (arith, c.requires.1, c.loop-i.invariant.1.0, c.loop-i-test.true)
-
 pub loop-i-preserved : goal.loop-i-preserved
 loop-i-preserved c =
-    let more = c.loop-i-test.true in
     let stored = c.put_row.ensures ∙ ap (λ row. with_row row (edges_place + c.loop-i.i * 5) c.loop-i.numbers) c.edge_row.ensures in
-    (omega (arith, more), (c.put_row.auto.numbers ∙ c.loop-i.invariant.1.0, one_more c.args.s.edges c.loop-i.i c.loop-i.numbers _ (omega (arith, more, c.requires.0)) stored ∙ c.loop-i.invariant.1.1))
-
-pub shape_of-numbers : goal.shape_of-numbers
-shape_of-numbers c = c.loop-i.invariant.1.0
+    one_more c.args.s.edges c.loop-i.i c.loop-i.numbers _ (omega (arith, c.requires.0)) stored ∙ c.loop-i.invariant
 
 pub returns : goal.returns
 returns c =
     let l = c.loop-i in
-    all c.args.s.edges l.i l.numbers (omega (arith, c.requires.0, c.loop-i-test.false)) l.invariant.1.1
+    all c.args.s.edges l.i l.numbers (omega (arith, c.requires.0)) l.invariant
