@@ -50,46 +50,42 @@ fn gathered(
 {
     Stopped {
         state: State {
-            reader: reader,
-            core: core,
-            store: store,
-            work: work,
+            reader,
+            core,
+            store,
+            work,
         },
-        at: at,
+        at,
         stored: count,
-        number: number,
+        number,
     }
 }
 
 // Stores a record after `count` others, and answers how many there are then.
+#[tactic(auto, unfolding(crate::specs::Gather::with_stroke))]
 fn put_record(numbers: &mut [i64], count: usize, s: Stroke) -> usize
     requires { count * 5 + 5 ≤ length numbers.old }
     ensures value { result ≡ count + 1 }
     ensures numbers_after { numbers.new ≡ S.with_stroke s (count * 5) numbers.old }
 {
     let k = count * NUMBERS;
-    let pen = s.pen as i64;
-    let x0 = s.x0;
-    let y0 = s.y0;
-    let x1 = s.x1;
-    let y1 = s.y1;
-    numbers[k] = pen;
-    numbers[k + 1] = x0;
-    numbers[k + 2] = y0;
-    numbers[k + 3] = x1;
-    numbers[k + 4] = y1;
+    numbers[k] = s.pen as i64;
+    numbers[k + 1] = s.x0;
+    numbers[k + 2] = s.y0;
+    numbers[k + 3] = s.x1;
+    numbers[k + 4] = s.y1;
     count + 1
 }
 
 // Stores what was drawn after `count` records, and answers how many there are then.
+#[tactic(auto, unfolding(crate::specs::Gather::count_after, crate::specs::Gather::put_of))]
 fn put(numbers: &mut [i64], count: usize, d: Drawn) -> usize
     requires { S.count_after d count * 5 ≤ length numbers.old }
     ensures value { result ≡ S.count_after d count }
     ensures numbers_after { numbers.new ≡ S.put_of d (count * 5) numbers.old }
 {
     match d {
-        Drawn::Idle => count,
-        Drawn::Hidden => count,
+        Drawn::Idle | Drawn::Hidden => count,
         Drawn::Stroke(s) => put_record(numbers, count, s),
     }
 }
@@ -109,80 +105,65 @@ fn refusal_record(number: u8, at: usize) -> Stroke
 }
 
 // Whether there is anything left to do: a byte, of as many as `end`, or a segment.
+#[tactic(auto, unfolding(crate::specs::Gather::remains_of))]
 fn remains(w: Work, at: usize, end: usize) -> bool
     ensures { result ≡ S.remains_of w at end }
 {
-    if at < end {
-        return true;
-    }
-    0 < waiting(w)
+    at < end || 0 < waiting(w)
 }
 
 // 01's number where all records are used and what comes next needs one, or 0: segments that wait do, and, where refusals are stored, any byte.
+#[tactic(auto, unfolding(crate::specs::Gather::stuck_of))]
 fn full(on: bool, segments: u16, count: usize, room: usize) -> u8
     requires { count ≤ room }
     ensures { result ≡ S.full_of on segments count room }
 {
-    if count < room {
-        return 0;
+    if count == room && (on || 0 < segments) {
+        LIST_FULL
+    } else {
+        0
     }
-    if on {
-        return LIST_FULL;
-    }
-    if 0 < segments {
-        return LIST_FULL;
-    }
-    0
 }
 
 // The number that ends it before what comes next, or 0: where a reply waits no byte is taken. What waits is told once, so that a turn of the loop has one branch for it.
+#[tactic(auto, unfolding(hpgl::specs::Machine::replied, hpgl::specs::Machine::replying, hpgl::specs::Machine::waiting, crate::specs::Gather::halted_of))]
 fn halted(on: bool, w: Work, count: usize, room: usize) -> u8
     requires { count ≤ room }
     ensures { result ≡ S.halted_of on w count room }
 {
     match w {
         Work::Nothing => full(on, 0, count, room),
-        Work::Line(_, _) => full(on, 1, count, room),
+        Work::Line(..) => full(on, 1, count, room),
         Work::Chords(_, _, n) => full(on, n, count, room),
         Work::Edges(_, n) => full(on, n as u16, count, room),
         Work::Answer(r) => {
             if r.count != 0 {
-                return BUSY;
+                BUSY
+            } else {
+                full(on, 0, count, room)
             }
-            full(on, 0, count, room)
         }
     }
 }
 
 // Whether a segment may need a record, of which all are used.
+#[tactic(auto, unfolding(crate::specs::Gather::overflows_of))]
 fn overflows(s: Segment, count: usize, room: usize) -> bool
     ensures { result ≡ S.overflows_of s count room }
 {
-    match s {
-        Segment::Nothing => false,
-        Segment::PenUp => false,
-        Segment::Line(_, _) => count == room,
-    }
+    matches!(s, Segment::Line(..)) && count == room
 }
 
 // What EP leaves waiting: the stored edges, if the pen has paint.
+#[tactic(auto, unfolding(crate::specs::Gather::outline_of))]
 fn outline(pen: Pen, edges: u8) -> Work
     ensures { result ≡ S.outline_of pen edges }
 {
     if pen.number == 0 {
-        return Work::Nothing;
+        Work::Nothing
+    } else {
+        Work::Edges(0, edges)
     }
-    Work::Edges(0, edges)
-}
-
-// Chords that wait, from one on.
-fn chords_left(circle: Circle, next: u16, left: u16) -> Work
-    ensures { result ≡ S.chords_left circle next left }
-{
-    if left == 0 {
-        return Work::Nothing;
-    }
-    Work::Chords(circle, next, left)
 }
 
 // How far work was drawn: what still waits, and the count.
@@ -208,44 +189,36 @@ fn chords(
     ensures drew { (d : F.Batching numbers.old frame pen (Chords circle from many) before) → F.Drew d numbers.new result.work result.count }
 {
     let room = numbers.len() / NUMBERS;
-    let mut next = from;
-    let mut left = many;
     let mut count = before;
-    let mut corner = vertex(frame.rows, circle, next, sines);
-    while left > 0 {
+    let mut corner = vertex(frame.rows, circle, from, sines);
+    for k in 0..many {
         if count == room {
             return Progress {
-                work: chords_left(circle, next, left),
-                count: count,
+                work: Work::Chords(circle, from + k, many - k),
+                count,
             };
         }
-        next += 1;
-        left -= 1;
-        let end = vertex(frame.rows, circle, next, sines);
+        let end = vertex(frame.rows, circle, from + k + 1, sines);
         let drawn = drawn_of(frame.limits, pen, Segment::Line(corner, end));
         count = put(numbers, count, drawn);
         corner = end;
     }
     Progress {
-        work: chords_left(circle, next, left),
-        count: count,
+        work: Work::Nothing,
+        count,
     }
 }
 
 // Whether work is drawn by a loop of its own.
+#[tactic(auto, unfolding(crate::specs::Gather::batched_of))]
 fn batched(w: Work) -> bool
     ensures { result ≡ S.batched_of w }
 {
-    match w {
-        Work::Nothing => false,
-        Work::Line(_, _) => false,
-        Work::Chords(_, _, _) => true,
-        Work::Edges(_, _) => false,
-        Work::Answer(_) => false,
-    }
+    matches!(w, Work::Chords(..))
 }
 
 // Draws such work, up to its last segment, or one with no record left.
+#[tactic(auto, unfolding(crate::specs::Gather::batched_of))]
 fn batch(
     frame: Frame,
     pen: u8,
@@ -258,40 +231,22 @@ fn batch(
     ensures work_bound { waiting result.work < waiting w }
     ensures drew { (d : F.Batching numbers.old frame pen w before) → F.Drew d numbers.new result.work result.count }
 {
-    match w {
-        Work::Nothing => Progress {
+    if let Work::Chords(circle, i, n) = w {
+        chords(frame, pen, circle, i, n, sines, numbers, before)
+    } else {
+        Progress {
             work: w,
             count: before,
-        },
-        Work::Line(_, _) => Progress {
-            work: w,
-            count: before,
-        },
-        Work::Chords(circle, i, n) => chords(frame, pen, circle, i, n, sines, numbers, before),
-        Work::Edges(_, _) => Progress {
-            work: w,
-            count: before,
-        },
-        Work::Answer(_) => Progress {
-            work: w,
-            count: before,
-        },
+        }
     }
 }
 
 // Whether an action changes the store by more than one edge.
+#[tactic(auto, unfolding(crate::specs::Gather::heavy_of))]
 fn heavy(a: Action) -> bool
     ensures { result ≡ S.heavy_of a }
 {
-    match a {
-        Action::Keep => false,
-        Action::Line(_, _) => false,
-        Action::Chords(_) => false,
-        Action::Join(_) => false,
-        Action::Outline => false,
-        Action::Rectangle(_, _, _) => true,
-        Action::Answer(_) => false,
-    }
+    matches!(a, Action::Rectangle(..))
 }
 
 // The store after an action of a polygon that had `edges` edges, and what waits where it has `count`.

@@ -21,6 +21,7 @@ use rulekit::numbers::{LEAST_ANGLE, MOST_ANGLE, OUT_OF_RANGE, TENTH, TOO_FAR, WH
 use rulekit::places::{absolute_position, axis_x, axis_y, located, relative_position, rest_at};
 use sines::table;
 
+#[tactic(auto, unfolding(hpgl::specs::Rules::swept_angle))]
 fn swept_angle(n: Numbers) -> i64
     requires { Small n }
     ensures { result ≡ R.swept_angle n }
@@ -28,6 +29,7 @@ fn swept_angle(n: Numbers) -> i64
     nearest_div(n.third, TENTH)
 }
 
+#[tactic(auto, unfolding(hpgl::specs::Rules::arc_angle))]
 fn arc_angle(n: Numbers) -> i64
     requires { Small n }
     ensures { result ≡ R.arc_angle n }

@@ -102,6 +102,7 @@ pub fn angle_or(absent: bool, given: i64) -> i64
     nearest_div(given, TENTH)
 }
 
+#[tactic(auto, unfolding(hpgl::specs::Rules::chord_angle))]
 fn chord_angle(n: Numbers) -> i64
     requires { Small n }
     ensures { result ≡ R.chord_angle n }

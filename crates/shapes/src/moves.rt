@@ -31,6 +31,7 @@ fn spent(p: Pen) -> Pen
 }
 
 // The number of a name: unknown, or none.
+#[tactic(auto, unfolding(rulekit::specs::Hand::name_number))]
 pub fn name_number(mode: bool, op: usize) -> u8
     ensures { result ≡ name_number mode op }
 {
@@ -42,6 +43,7 @@ pub fn name_number(mode: bool, op: usize) -> u8
 }
 
 // What the second letter does to the hand: PA, PD, PR and PU, pages 4-8, 4-10, 4-12 and 4-14 of the DraftPro manual.
+#[tactic(auto, unfolding(hpgl::specs::Rules::letters))]
 pub fn letters(h: Hand, op: usize) -> Hand
     ensures { (g : Polygon) → carriage_of result g ≡ R.letters (carriage_of h g) op }
 {
@@ -85,6 +87,7 @@ fn paints(p: Pen) -> bool
 }
 
 // Whether the pen paints.
+#[tactic(auto, unfolding(hpgl::specs::Rules::inked))]
 pub fn inked(c: Core) -> bool
     ensures { result ≡ R.inked c }
 {
@@ -125,6 +128,7 @@ fn move_to(f: Frame, h: Hand, here: Point, p: Position, to: Point) -> Shifted
 }
 
 // The bytes of a point.
+#[tactic(auto, unfolding(hpgl::specs::Rules::point_cost))]
 fn point_cost(p: Pen) -> u16
     ensures { result ≡ R.point_cost p }
 {
@@ -136,6 +140,7 @@ fn point_cost(p: Pen) -> u16
 }
 
 // The polygon with one point more. The first of a subpolygon makes no edge.
+#[tactic(auto, unfolding(hpgl::specs::Rules::longer))]
 pub fn longer(g: Polygon, n: u16, p: Position) -> Polygon
     requires { (g.bytes + n ≤ polygon_bytes) × (g.edges ≤ most_edges) }
     ensures { result ≡ R.longer g n p }
@@ -158,6 +163,7 @@ pub fn longer(g: Polygon, n: u16, p: Position) -> Polygon
 }
 
 // The edge from the current position.
+#[tactic(auto, unfolding(hpgl::specs::Rules::edge_to))]
 pub fn edge_to(c: Core, p: Position) -> Action
     requires { ValidCore c × LocatablePosition c.settings p }
     ensures { result ≡ R.edge_to c p }
@@ -203,6 +209,7 @@ fn store_point(h: Hand, here: Point, bytes: u16, p: Position, to: Point) -> Poin
 }
 
 // The position of a pair, by the mode.
+#[tactic(auto, unfolding(hpgl::specs::Place::absolute_position, hpgl::specs::Rules::aimed, rulekit::specs::Hand::frame_of))]
 fn aimed(f: Frame, h: Hand, n: Coordinates) -> Position
     requires axis_bounds { AxisBounds f.x × AxisBounds f.y × SmallPair n }
     requires bd { Bd h.position.x.offset most_product × Bd h.position.y.offset most_product }
@@ -235,6 +242,7 @@ pub fn shift(f: Frame, h: Hand, here: Point, n: Coordinates) -> Shifted
 }
 
 // A line to draw waits as one.
+#[tactic(auto, unfolding(rulekit::specs::Hand::line_of))]
 pub fn line_of(s: Segment) -> Action
     ensures { result ≡ line_of s }
 {

@@ -22,6 +22,7 @@ const MODE_AND_POINT: u16 = MODE_BYTES + POINT_BYTES;
 // ---- PM
 
 // The polygon that PM0 begins at the current position.
+#[tactic(auto, unfolding(hpgl::specs::Rules::begun))]
 fn begun(k: Carriage) -> Polygon
     ensures { result ≡ R.begun k }
 {
@@ -39,6 +40,7 @@ fn begun(k: Carriage) -> Polygon
     }
 }
 
+#[tactic(auto, unfolding(hpgl::specs::Rules::pm0))]
 fn pm0(c: Core) -> Acted
     ensures { result ≡ R.pm0 c }
 {
@@ -70,6 +72,7 @@ fn closes(c: Core) -> bool
 }
 
 // The polygon after the end of a subpolygon that takes n bytes and k edges.
+#[tactic(auto, unfolding(hpgl::specs::Rules::ended_with))]
 fn ended_with(g: Polygon, mode: bool, n: u16, k: u8) -> Polygon
     requires { (g.bytes + n ≤ polygon_bytes) × (g.edges ≤ most_edges) × (k ≤ 1) }
     ensures { result ≡ R.ended_with g mode n k }
@@ -94,6 +97,7 @@ fn lifted(p: Pen) -> Pen
 }
 
 // The core after PM1.
+#[tactic(auto, unfolding(hpgl::specs::Rules::ended))]
 fn ended(c: Core, n: u16, edges: u8, p: Position) -> Core
     requires { (c.carriage.polygon.bytes + n ≤ polygon_bytes) × (c.carriage.polygon.edges ≤ most_edges) × (edges ≤ 1) }
     ensures { result ≡ R.ended c n edges p }
@@ -123,6 +127,7 @@ fn pm1_in(c: Core) -> Acted
     refuse(c, POLYGON_FULL)
 }
 
+#[tactic(auto, unfolding(hpgl::specs::Rules::pm1))]
 fn pm1(c: Core) -> Acted
     requires { ValidCore c }
     ensures { result ≡ R.pm1 c }
@@ -135,6 +140,7 @@ fn pm1(c: Core) -> Acted
 }
 
 // The core after PM2: position, mode and pen are those of PM0.
+#[tactic(auto, unfolding(hpgl::specs::Rules::leave))]
 fn leave(c: Core, n: u16, edges: u8) -> Core
     requires { (c.carriage.polygon.bytes + n ≤ polygon_bytes) × (c.carriage.polygon.edges ≤ most_edges) × (edges ≤ 1) }
     ensures { result ≡ R.leave c n edges }
@@ -170,6 +176,7 @@ fn pm2_in(c: Core) -> Acted
     done(leave(c, 0, 0), Action::Keep)
 }
 
+#[tactic(auto, unfolding(hpgl::specs::Rules::pm2))]
 fn pm2(c: Core) -> Acted
     requires { ValidCore c }
     ensures { result ≡ R.pm2 c }
@@ -205,6 +212,7 @@ pub fn pm_rule(c: Core, n: Numbers) -> Acted
 // ---- EP, EA, ER
 
 // EP, page 6-9.
+#[tactic(auto, unfolding(hpgl::specs::Rules::ep_rule))]
 pub fn ep_rule(c: Core) -> Acted
     ensures { result ≡ R.ep_rule c }
 {
@@ -216,6 +224,7 @@ pub fn ep_rule(c: Core) -> Acted
 }
 
 // The polygon that a rectangle leaves.
+#[tactic(auto, unfolding(hpgl::specs::Rules::rectangular))]
 fn rectangular(g: Polygon) -> Polygon
     ensures { result ≡ R.rectangular g }
 {
@@ -229,6 +238,7 @@ fn rectangular(g: Polygon) -> Polygon
 }
 
 // The rectangle between the current position and the opposite corner, if that is in range.
+#[tactic(auto, unfolding(hpgl::specs::Rules::rectangle_to))]
 fn rectangle_to(c: Core, p: Position) -> Acted
     requires { ValidCore c × LocatablePosition c.settings p }
     ensures { result ≡ R.rectangle_to c p }

@@ -1,158 +1,126 @@
--- The proof of `chords`. The invariant: for every feed or plot that was so far at the start, how far it is now, with the chords from `next` on waiting.
+-- The proof of `chords`. The invariant: for every feed or plot that was so far at the start, how far it is now, with the chords from one on waiting.
 use mathlib.Core.Path.{◌≡◌, refl, sym, ap, subst, ◌∙◌}
-use Prim.Native.Nat.{ℕ, ◌+◌, ◌/◌, ◌<◌}
+use Prim.Native.Nat.{ℕ, ◌+◌, ◌-◌, ◌/◌, ◌<◌}
 use native.Mathlib.Omega.{arith}
+use mathlib.Core.List.{List}
+use lib.IntN.{ℤ}
 use lib.ListN.{length}
 use Rattle.clip.specs.Reach.{SmallRect}
 use Rattle.turns.specs.Turn.{UnitRows}
 use Rattle.turns.proofs.TurnLaws.{rows-unit}
+use Rattle.hpgl.specs.declared.Circle.{Circle}
 use Rattle.hpgl.specs.declared.Work.{Work}
-use Rattle.hpgl.specs.declared.Work.TheVariants.{Chords}
+use Rattle.hpgl.specs.declared.Work.TheVariants.{Nothing, Chords}
 use Rattle.hpgl.specs.declared.Segment.TheVariants as segment
 use Rattle.hpgl.specs.Machine.{waiting}
 use Rattle.hpgl.specs.Segment.{drawn_of, SmallSegment}
 use Rattle.hpgl.proofs.SegmentLaws.{segment-small}
-use Rattle.hpgl.specs.Valid.{Valid}
 use Rattle.hpgl.proofs.ValidFacts.{limits-small, fewer}
-use Rattle.gathering.specs.Gather.{whole, chords_left}
+use Rattle.rulekit.specs.declared.places.Frame.{Frame}
+use Rattle.queue.specs.Corners.{vertex_at}
+use Rattle.gathering.specs.Gather.{chords_left}
 use Rattle.gathering.specs.Far.{Batching, Drew}
 use Rattle.gathering.proofs.Gathers.{far-fits, put-fits}
-use Rattle.gathering.proofs.Chording.{chord, chords-some, chords-waiting, chord-waits, far-chord, turned, limited, batched-chords}
+use Rattle.gathering.proofs.Chording.{chord, chords-some, chord-waits, far-chord, turned, limited, batched-chords}
 use Rattle.gathering.proofs.chords.Goals as goal
-use Rattle.gathering.proofs.chords.Lts
-use Rattle.gathering.proofs.chords.Tie
-use Rattle.gathering.proofs.chords.Reads
 
-abbrev After-vertex-end : Type 0
-After-vertex-end = Lts.After-vertex2 Tie.the-claims Reads.Pre Reads.Post goal.the-invariant-loop-left goal.the-decreases-loop-left Tie.handed_clauses
+chords-first : (o : Circle) (i n : ℕ) → 0 < n → chords_left o (i + 0) (n - 0) ≡ Chords o i n
+chords-first o i n h =
+    let a : i + 0 ≡ i = omega arith in
+    let b : n - 0 ≡ n = omega arith in
+    (λ j. chords_left o (a j) (b j)) ∙ chords-some o i n h
 
-abbrev At-loop-left : Type 0
-At-loop-left = Lts.At-loop Tie.the-claims Reads.Pre Reads.Post goal.the-invariant-loop-left goal.the-decreases-loop-left Tie.handed_clauses
+chords-none : (o : Circle) (i n : ℕ) → n ≡ 0 → chords_left o i n ≡ Nothing
+unfolding chords_left
+chords-none o i n e = rw e refl
 
-abbrev Else-count-room : Type 0
-Else-count-room = Lts.Else1 Tie.the-claims Reads.Pre Reads.Post goal.the-invariant-loop-left goal.the-decreases-loop-left Tie.handed_clauses
+chords-next : (o : Circle) (i n k : ℕ) → chords_left o (i + k + 1) (n - k - 1) ≡ chords_left o (i + (k + 1)) (n - (k + 1))
+chords-next o i n k =
+    let a : i + k + 1 ≡ i + (k + 1) = omega arith in
+    let b : n - k - 1 ≡ n - (k + 1) = omega arith in
+    λ j. chords_left o (a j) (b j)
 
-abbrev In-loop-left : Type 0
-In-loop-left = Lts.In-loop Tie.the-claims Reads.Pre Reads.Post goal.the-invariant-loop-left goal.the-decreases-loop-left Tie.handed_clauses
+-- some feed or plot that was so far at the start
+module _ {now : List ℤ} {f : Frame} {pen : ℕ} {o : Circle} {i n before : ℕ} (d : Batching now f pen (Chords o i n) before) where
+  rows-small : UnitRows f.rows
+  rows-small = rw (turned d) (rows-unit d.far.valid.core.settings.turn)
 
-abbrev Start : Type 0
-Start = Lts.Start Tie.the-claims Reads.Pre Reads.Post goal.the-invariant-loop-left goal.the-decreases-loop-left Tie.handed_clauses
+  -- and is so far after k chords
+  module _ {numbers : List ℤ} {count : ℕ} (k : ℕ) (far : Drew d numbers (chords_left o (i + k) (n - k)) count) where
+    free : (count ≡ length now / 5 → ⊥) → count < length d.entry / 5
+    free h = let room : length d.entry / 5 ≡ length now / 5 = ap (λ (n : ℕ). n / 5) (sym d.far.long) in omega (arith, h, far.room, room)
 
-abbrev Loop : Type 0
-Loop = At-loop-left
-
-abbrev entry : Loop → Start
-entry l = search
-
-abbrev Known : Start → Type 0
-Known s = let a = s.args in Batching a.numbers.now a.frame a.pen (Chords a.circle a.from a.many) a.before
-
-abbrev known : (s : Start) → Known s
-known s = s.requires.0
-
-far : (l : Loop) (d : Known (entry l)) → Drew d l.loop-left.numbers (chords_left (entry l).args.circle l.loop-left.next l.loop-left.left) l.loop-left.count
-far l d = l.loop-left.invariant.0 d
-
-long : (l : Loop) → length l.loop-left.numbers ≡ length (entry l).args.numbers.now
-long l = let d = known (entry l) in (far l d).long ∙ sym d.far.long
-
-rows-small : (s : Start) → UnitRows s.args.frame.rows
-rows-small s = rw (turned (known s)) (rows-unit (known s).far.valid.core.settings.turn)
-
--- a chord is left, and a record for it
-abbrev Turn : Type 0
-Turn = Else-count-room
-
-abbrev turn : Turn → Loop
-turn e = e.before.before
-
-some : (e : Turn) → 0 < (turn e).loop-left.left
-some e = let i : In-loop-left = search in i.loop-left-test.true
-
-free : (e : Turn) (d : Known (entry (turn e))) → (turn e).loop-left.count < length d.entry / 5
-free e d =
-    let l = turn e in
-    let n : length d.entry / 5 ≡ length (entry l).args.numbers.now / 5 = ap (λ (n : ℕ). n / 5) (sym d.far.long) in
-    omega (arith, e.if-count-room.false, (far l d).room, n)
-
--- the ends of the segment that is drawn
-drawn-chord : (v : After-vertex-end) → let l = turn v.before.before in segment.Line l.loop-left.corner v.vertex-end.result ≡ chord (entry l).args.frame.rows (entry l).args.circle l.loop-left.next
-drawn-chord v = let l = turn v.before.before in λ j. segment.Line (l.loop-left.invariant.1 j) (v.vertex-end.ensures j)
+    left : k < n → Drew d numbers (Chords o (i + k) (n - k)) count
+    left h = subst (λ (w : Work). Drew d numbers w count) (chords-some o (i + k) (n - k) (omega (arith, h))) far
 
 pub vertex-corner-requires : goal.vertex-corner-requires
-vertex-corner-requires c = let s = c.before.before.before in (rows-small s, fewer (known s).far.valid.work.0 _ 0 (omega arith) (omega arith), s.requires.2)
+vertex-corner-requires c =
+    let d = c.requires.0 in
+    (rows-small d, fewer d.far.valid.work.0 _ 0 (omega arith) (omega arith), c.requires.2)
 
--- what is left is less than there was
-left-off : (l : Loop) {w : Work} → let a = (entry l).args in
-    w ≡ chords_left a.circle l.loop-left.next l.loop-left.left → l.loop-left.left < a.many → (waiting w < a.many) × ((d : Known (entry l)) → Drew d l.loop-left.numbers w l.loop-left.count)
-left-off l e h = (
-  rw (e, chords-waiting (entry l).args.circle l.loop-left.next l.loop-left.left) h,
-  λ d. subst (λ (w : Work). Drew d l.loop-left.numbers w l.loop-left.count) (sym e) (far l d),
-)
-
-pub loop-left-init : goal.loop-left-init
-loop-left-init c =
-    let a = c.args in (
-      λ d. subst (λ (w : Work). Drew d a.numbers.now w a.before) (sym (chords-some a.circle a.from a.many (batched-chords d))) d.far,
-      c.vertex-corner.ensures,
-      refl,
-      omega arith,
+pub loop-k-init : goal.loop-k-init
+loop-k-init c =
+    let a = c.args in
+    let first : a.from ≡ a.from + 0 = omega arith in (
+      λ d. subst (λ (w : Work). Drew d a.numbers.now w a.before) (sym (chords-first a.circle a.from a.many (batched-chords d))) d.far,
+      c.vertex-corner.ensures ∙ ap (vertex_at a.frame.rows a.circle) first,
       λ e. refl,
     )
 
 pub returns-then-count-room : goal.returns-then-count-room
+unfolding waiting
 returns-then-count-room c =
-    let l : Loop = search in
-    let apart : l.loop-left.left ≡ (entry l).args.many → ⊥ = λ e. omega (arith, l.loop-left.invariant.4 e, c.if-count-room.true, (entry l).requires.1) in
-    let p = left-off l c.chords_left.ensures (omega (arith, apart, l.loop-left.invariant.3)) in
-    record { work_bound = p.0; drew = p.1 }
+    let apart : c.loop-k.k ≡ 0 → ⊥ = λ e. omega (arith, c.loop-k.invariant.2 e, c.if-count-room.true, c.requires.1) in
+    record { work_bound = omega (arith, apart, c.loop-k-test.true); drew = λ d. left d c.loop-k.k (c.loop-k.invariant.0 d) c.loop-k-test.true }
 
 pub vertex-end-requires : goal.vertex-end-requires
 vertex-end-requires c =
-    let e : Turn = search in
-    let l = turn e in
-    let s = entry l in
-    let w = (known s).far.valid.work.0 in
-    (rows-small s, fewer w (l.loop-left.next + 1) 0 (omega (arith, l.loop-left.invariant.2, l.loop-left.invariant.3)) (omega (arith, l.loop-left.invariant.2, some e)), s.requires.2)
+    let d = c.requires.0 in
+    (rows-small d, fewer d.far.valid.work.0 (c.args.from + c.loop-k.k + 1) 0 (omega arith) (omega (arith, c.loop-k-test.true)), c.requires.2)
 
 pub drawn_of-drawn-requires : goal.drawn_of-drawn-requires
 drawn_of-drawn-requires c =
-    let e : Turn = search in
-    let l = turn e in
-    let s = entry l in
-    let d = known s in
-    let i = l.loop-left.next in
-    let v = subst (λ (w : Work). Valid (whole d.reader d.core d.store w)) (chords-some s.args.circle i l.loop-left.left (some e)) (far l d).valid in (
+    let a = c.args in
+    let d = c.requires.0 in
+    let i = a.from + c.loop-k.k in
+    let n = a.many - c.loop-k.k in
+    let some : 0 < n = omega (arith, c.loop-k-test.true) in
+    let drawn : segment.Line c.loop-k.corner c.vertex-end.result ≡ chord a.frame.rows a.circle i = λ j. segment.Line (c.loop-k.invariant.1 j) (c.vertex-end.ensures j) in (
       subst SmallRect (sym (limited d)) (limits-small d.far.valid.core.settings),
-      subst SmallSegment (sym (drawn-chord c.before.before ∙ chord-waits d.reader d.core d.store (turned d) s.args.circle i l.loop-left.left (some e))) (segment-small v),
+      subst SmallSegment (sym (drawn ∙ chord-waits d.reader d.core d.store (turned d) a.circle i n some)) (segment-small (left d c.loop-k.k (c.loop-k.invariant.0 d) c.loop-k-test.true).valid),
     )
 
 pub put-count-requires : goal.put-count-requires
 put-count-requires c =
-    let e : Turn = search in
-    let d = known (entry (turn e)) in
-    put-fits _ _ _ (far-fits (far (turn e) d) (free e d))
+    let d = c.requires.0 in
+    let far = c.loop-k.invariant.0 d in
+    put-fits _ _ _ (far-fits far (free d c.loop-k.k far c.if-count-room.false))
 
-pub loop-left-preserved : goal.loop-left-preserved
-loop-left-preserved c =
-    let e : Turn = search in
-    let x = c.before.before.before.before in
-    let l = turn e in
-    let s = entry l in
-    let o = s.args.circle in
-    let i = l.loop-left.next in
-    let n = l.loop-left.left in (
+pub loop-k-preserved : goal.loop-k-preserved
+loop-k-preserved c =
+    let a = c.args in
+    let k = c.loop-k.k in
+    let i = a.from + k in
+    let n = a.many - k in
+    let some : 0 < n = omega (arith, c.loop-k-test.true) in
+    let next : a.from + k + 1 ≡ a.from + (k + 1) = omega arith in
+    let drawn : segment.Line c.loop-k.corner c.vertex-end.result ≡ chord a.frame.rows a.circle i = λ j. segment.Line (c.loop-k.invariant.1 j) (c.vertex-end.ensures j) in (
       λ d.
-          far-chord d.reader d.core d.store (turned d) (limited d) d.held o i n (some e) (far l d) (free e d)
-          (x.drawn_of-drawn.ensures ∙ ap (drawn_of s.args.frame.limits s.args.pen) (drawn-chord x.before.before)) c.put-count.ensures.numbers_after c.put-count.ensures.value,
-      x.vertex-end.ensures,
-      omega (arith, l.loop-left.invariant.2, some e),
-      omega (arith, l.loop-left.invariant.3),
-      λ h. absurd (omega (arith, h, l.loop-left.invariant.3, some e)),
+          let far = c.loop-k.invariant.0 d in
+          subst (λ (w : Work). Drew d c.put-count.new.numbers w c.put-count.result) (chords-next a.circle a.from a.many k)
+          (far-chord d.reader d.core d.store (turned d) (limited d) d.held a.circle i n some far (free d c.loop-k.k far c.if-count-room.false)
+          (c.drawn_of-drawn.ensures ∙ ap (drawn_of a.frame.limits a.pen) drawn) c.put-count.ensures.numbers_after c.put-count.ensures.value),
+      c.vertex-end.ensures ∙ ap (vertex_at a.frame.rows a.circle) next,
+      λ h. absurd (omega (arith, h)),
     )
 
 pub returns : goal.returns
+unfolding waiting
 returns c =
-    let l : Loop = search in
-    let p = left-off l c.chords_left-2.ensures (omega (arith, c.loop-left-test.false, batched-chords (known (entry l)))) in
-    record { work_bound = p.0; drew = p.1 }
+    let a = c.args in
+    let k = c.loop-k.k in
+    let none : a.many - k ≡ 0 = omega (arith, c.loop-k-test.false) in
+    record {
+      work_bound = batched-chords c.requires.0;
+      drew = λ d. subst (λ (w : Work). Drew d c.loop-k.numbers w c.loop-k.count) (chords-none a.circle (a.from + k) (a.many - k) none) (c.loop-k.invariant.0 d);
+    }
