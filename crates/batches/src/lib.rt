@@ -56,9 +56,9 @@ pub fn begin(machine: Machine) -> Batch
     Batch {
         count: 0,
         more: true,
-        list: list,
+        list,
         fed: Fed {
-            machine: machine,
+            machine,
             taken: 0,
             stored: 0,
             number: 0,
@@ -78,11 +78,11 @@ fn stroke_at(numbers: &[i64], i: usize) -> Stroke
     let x1 = numbers[k + 3];
     let y1 = numbers[k + 4];
     Stroke {
-        pen: pen,
-        x0: x0,
-        y0: y0,
-        x1: x1,
-        y1: y1,
+        pen,
+        x0,
+        y0,
+        x1,
+        y1,
     }
 }
 
@@ -92,11 +92,8 @@ fn records(numbers: &[i64], count: usize) -> [Stroke; 64]
     ensures { take count result ≡ strokes_of numbers.now count }
 {
     let mut list = blank();
-    let mut i = 0;
-    while i < count {
-        let s = stroke_at(numbers, i);
-        list[i] = s;
-        i += 1;
+    for i in 0..count {
+        list[i] = stroke_at(numbers, i);
     }
     list
 }
@@ -105,20 +102,14 @@ fn records(numbers: &[i64], count: usize) -> [Stroke; 64]
 fn batch_room(free: usize) -> usize
     ensures { (result ≤ 64) × ((result ≤ free) × (result < 64 → result ≡ free)) }
 {
-    if free < MOST {
-        return free;
-    }
-    MOST
+    free.min(MOST)
 }
 
 // Whether feed goes on after a batch that ended with a number: it was full, and the list is not.
 fn goes_on(number: u8, stored: usize, room: usize) -> bool
     ensures { result ≡ (eqb number list_full && ltb stored room) }
 {
-    if number == LIST_FULL {
-        return stored < room;
-    }
-    false
+    number == LIST_FULL && stored < room
 }
 
 // Room for the numbers of a batch.
@@ -140,15 +131,14 @@ pub fn next_batch(f: Fed, bytes: &[u8], room: usize) -> Batch
     let list = records(&numbers, g.stored);
     let stored = f.stored + g.stored;
     let more = goes_on(g.number, stored, room);
-    let next = g.machine;
     Batch {
         count: g.stored,
-        more: more,
-        list: list,
+        more,
+        list,
         fed: Fed {
-            machine: next,
+            machine: g.machine,
             taken: g.at,
-            stored: stored,
+            stored,
             number: g.number,
         },
     }

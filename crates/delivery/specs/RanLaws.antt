@@ -1,8 +1,8 @@
 -- Laws of a run: from block to block, and within a block from bufferful to bufferful.
-use Rattle.std.specs.Prelude.{◌≡◌, ℕ, ◌+◌, ◌%◌, ◌^◌, Bool, true, false, List, [], ◌++◌, length, take, drop, ◌≢◌}
-use Rattle.std.proofs.lemmas.Bool.{false≢true}
+use Rattle.std.specs.Prelude.{◌≡◌, ℕ, ◌+◌, ◌%◌, ◌^◌, false, List, [], ◌++◌, length, take, drop, ◌≢◌, Result, Ok, Err}
 use Rattle.std.proofs.Common.{append-nil, append_assoc, sym, ◌∙◌, subst, add-zero, zero-add, arith, length-append}
-use Rattle.std.proofs.Math.Path.{ap}
+use Rattle.std.proofs.lemmas.Result.{IfOk-at_ok}
+use Rattle.std.proofs.Math.Path.{refl, ap}
 use Rattle.std.proofs.Math.Nat.{mod-add-mod}
 use Rattle.std.proofs.Math.Seq.{drop-length, take-append_seam}
 use Rattle.std.proofs.lemmas.List.Edits.{sets-eq}
@@ -14,14 +14,13 @@ use Rattle.machine.specs.declared.Started.{Started}
 use Rattle.machine.specs.Calls.{started_of}
 use Rattle.decimals.specs.Puts.{Puts}
 use Rattle.plotting.specs.declared.Plot.{Plot}
-use Rattle.delivery.specs.declared.files.Finished.{Finished}
-use Rattle.delivery.specs.declared.files.End.{End}
-use Rattle.delivery.specs.declared.files.End.TheVariants.{Refused, Undelivered}
+use Rattle.delivery.specs.declared.edge.Tally.{Tally}
+use Rattle.delivery.specs.declared.files.Fault.{Fault}
+use Rattle.delivery.specs.declared.files.Fault.TheVariants.{Refused, Undelivered}
 use Rattle.printed.specs.Printed.{printed}
 use Rattle.printed.proofs.PlotPrinted.{idle-end}
 use Rattle.plotting.specs.Plotted.{due, begun_of, emptied_of, Ready, Plotted}
-use Rattle.delivery.specs.Tally.{read_of, handed_of, ended_of}
-use Rattle.delivery.specs.Ran.{Reached, Next, Begins, Leaves, Ran, Unbegun, Within}
+use Rattle.delivery.specs.Ran.{Reached, Next, Begins, Leaves, Ran, Unbegun, Within, End}
 
 -- a text that was put at the start of a buffer is what stands there
 pub puts_first : {text before after : List ℕ} {at end : ℕ} → at ≡ 0 → Puts text before after at end → take end after ≡ text
@@ -55,11 +54,10 @@ module _ {started : State} {read handed : ℕ} {block : List ℕ} where
   }
 
 -- a run ends where it has reached
-pub ran : {started : State} {block : List ℕ} {rest : List ℕ → List ℕ} {end : End} {f : Finished} (tally : List ℕ) → f ≡ ended_of tally end
-    → Reached started (read_of tally) (handed_of tally) block rest → ((end ≢ Undelivered) → rest [] ≡ []) → Ran started f
-ran {started} {block} {rest} tally e h w =
-    subst (Ran started) (sym e)
-    (record {
+pub ran : {started : State} {block : List ℕ} {rest : List ℕ → List ℕ} {end : End} (counted : Tally)
+    → Reached started counted.read counted.handed block rest → ((end ≢ Err Undelivered) → rest [] ≡ []) → Ran started counted end
+ran {started} {block} {rest} counted h w =
+    record {
       bytes = h.earlier ++ block;
       text = h.text;
       rest = rest [];
@@ -67,7 +65,7 @@ ran {started} {block} {rest} tally e h w =
       handed = h.count;
       prints = ap (λ (l : List ℕ). printed started l 0) (sym (append-nil (h.earlier ++ block))) ∙ h.prints [];
       whole = w;
-    })
+    }
 
 -- ---- a block, a bufferful at a time
 
@@ -100,11 +98,11 @@ module _ {started : State} {read handed : ℕ} {p : Plot} {block : List ℕ} (h 
           subst (λ (r : Plot). Midway started still next r block) (sym f)
           (record { place = ap (λ (n : ℕ). n + length block) k.earlier ∙ h.place ∙ sym s; reached = then })
 
-      pub leaves-part : Leaves started q.machine.state still next block false
-      leaves-part = record { rest = λ later. due q block later; reached = then; all = λ t. absurd (false≢true t) }
+      pub leaves-part : Leaves started still next block (Err Undelivered)
+      leaves-part = record { rest = λ later. due q block later; reached = then; all = tt; fault = refl }
 
-  pub leaves_all : Ready p block → p.more ≡ false → Leaves started p.machine.state read handed block true
-  leaves_all r f = record { rest = λ later. due p block later; reached = h.reached; all = λ t. (onward, sym (onward []) ∙ (r.ends f).1) }
+  pub leaves_all : Ready p block → p.more ≡ false → Leaves started read handed block (Ok p.machine)
+  leaves_all r f = record { rest = λ later. due p block later; reached = h.reached; all = (onward, sym (onward []) ∙ (r.ends f).1); fault = tt }
     where
       onward : (later : List ℕ) → due p block later ≡ printed p.machine.state later read
       onward later =
@@ -147,11 +145,11 @@ pub stands-still : {started m : State} {before read handed still n : ℕ} → St
 stands-still {started} {m} {before} {still} h e s z =
     subst (λ (n : ℕ). Stands started m n still) (sym (e ∙ ap (λ (k : ℕ). before + k) z ∙ add-zero before)) (subst (Stands started m before) (sym s) h)
 
-pub stands-next : {started m : State} {read handed : ℕ} {block : List ℕ} {good : Bool} → Leaves started m read handed block good → good ≡ true
-    → Stands started m read handed
-stands-next {started} {read} {block} h e =
+pub stands-next : {started : State} {read handed : ℕ} {block : List ℕ} {left : Result Machine Fault} (m : Machine) → Leaves started read handed block left
+    → left ≡ Ok m → Stands started m.state read handed
+stands-next {started} {read} {block} m h e =
     let r = h.reached in
-    let all = h.all e in
+    let all = IfOk-at_ok (λ (m : Machine). ((later : List ℕ) → h.rest later ≡ printed m.state later read) × (printed m.state [] read ≡ [])) e h.all in
     let same = append-nil (r.earlier ++ block) in
     record {
       reached = record {
@@ -176,8 +174,8 @@ module _ {s : Started} (hard : Rect) (e : s ≡ started_of hard) where
   unfolding started_of
   state = ap (λ (t : Started). t.machine.state) e
 
-  pub within-good : {f : Finished} → s.number ≡ 0 → Ran s.machine.state f → Within hard f
-  within-good {f} z r = record { good = λ _. subst (λ (m : State). Ran m f) state r; bad = λ n. absurd (n (sym number ∙ z)) }
+  pub within-good : {counted : Tally} {end : End} → s.number ≡ 0 → Ran s.machine.state counted end → Within hard counted end
+  within-good {counted} {end} z r = record { good = λ _. subst (λ (m : State). Ran m counted end) state r; bad = λ n. absurd (n (sym number ∙ z)) }
 
-  pub within-bad : {f : Finished} → (s.number ≢ 0) → Unbegun Refused f → Within hard f
+  pub within-bad : {counted : Tally} {end : End} → (s.number ≢ 0) → Unbegun Refused counted end → Within hard counted end
   within-bad n u = record { good = λ z. absurd (n (number ∙ z)); bad = λ _. u }

@@ -1,12 +1,12 @@
 // A machine over a file: the lines of its bytes, each reply among them, are handed over, block by block, to be written or compared.
 // What a block has made is handed over before the next read, so that who sent an instruction and waits for its reply gets it.
-ghost use Rattle.std.specs.Prelude.{◌≡◌, ◌+◌, ◌^◌, ◌<◌, false, length};
+ghost use Rattle.std.specs.Prelude.{◌≡◌, ◌+◌, ◌^◌, ◌<◌, false, length, IfOk};
 ghost use Rattle.hpgl.specs.Machine.{occupied};
 ghost use Rattle.hpgl.specs.Valid.{Usable};
-ghost use Rattle.delivery.specs.Ran.{Begins, Leaves, Ran, Unbegun, Answers};
-ghost use Rattle.delivery.specs.Tally.{read_of, handed_of, ended_of};
+ghost use Rattle.delivery.specs.Ran.{Begins, Leaves, Ran, Answers};
+ghost use Rattle.delivery.specs.Tally.{nothing_counted, error_of};
 
-use super::edge::{HANDED, READ, SAME, Tally, bytes_read, hand, read_block};
+use super::edge::{Tally, hand, read_block};
 use machine::Machine;
 use plotting::{begun, emptied, fill};
 use std::io::Stdout;
@@ -27,7 +27,9 @@ pub enum Sink {
 
 impl Sink {
     // The error of the write or the read that failed.
-    pub fn error(&self) -> i32 {
+    pub fn error(&self) -> i32
+        ensures { result ≡ error_of self.now }
+    {
         match self {
             Sink::Write(file) => file.error,
             Sink::Compare(file) => file.error,
@@ -35,10 +37,9 @@ impl Sink {
     }
 }
 
-// How a run ended.
+// Why a run came to no good end.
 #[derive(Clone, Copy)]
-pub enum End {
-    Done,
+pub enum Fault {
     // no limits were asked for
     NoLimits,
     // fresh refuses the limits
@@ -52,20 +53,11 @@ pub enum End {
 // What a run counted, and how it ended.
 #[derive(Clone, Copy)]
 pub struct Finished {
-    pub read: u64,
-    pub handed: u64,
-    pub same: u64,
-    pub end: End,
+    pub tally: Tally,
+    pub end: Result<(), Fault>,
 }
 
-// What a block leaves: the machine, and whether its lines were delivered.
-#[derive(Clone, Copy)]
-struct Left {
-    machine: Machine,
-    good: bool,
-}
-
-// The lines of a block, a bufferful at a time.
+// The lines of a block, a bufferful at a time. What is left is the machine, where all were delivered.
 fn deliver_block(
     started: Machine,
     machine: Machine,
@@ -74,105 +66,89 @@ fn deliver_block(
     text: &mut [u8],
     sink: &mut Sink,
     tally: &mut Tally,
-) -> Left
+) -> Result<Machine, Fault>
     requires usable { Usable machine.state }
     requires block_bound { before + length block.now < 2 ^ 64 }
     requires text_len { length text.old ≡ 65536 }
-    requires begins { Begins started.state machine.state before (read_of tally.old) (handed_of tally.old) block.now }
-    ensures usable_2 { Usable result.machine.state }
-    ensures tally_unchanged { read_of tally.new ≡ read_of tally.old }
-    ensures leaves { Leaves started.state result.machine.state (read_of tally.new) (handed_of tally.new) block.now result.good }
+    requires begins { Begins started.state machine.state before tally.old.read tally.old.handed block.now }
+    ensures usable_2 { IfOk result (λ m. Usable m.state) }
+    ensures tally_unchanged { tally.new.read ≡ tally.old.read }
+    ensures leaves { Leaves started.state tally.new.read tally.new.handed block.now result }
 {
     let mut p = begun(machine, before);
     while p.more {
         p = fill(p, block, text);
-        let n = p.length;
-        let good = hand(started, block, &text[..n], sink, tally);
-        if !good {
-            let next = p.machine;
-            return Left {
-                machine: next,
-                good: false,
-            };
+        if !hand(started, block, &text[..p.length], sink, tally) {
+            return Err(Fault::Undelivered);
         }
         p = emptied(p);
     }
-    let next = p.machine;
-    Left {
-        machine: next,
-        good: true,
-    }
-}
-
-// A run ends.
-fn ended(tally: &Tally, end: End) -> Finished
-    ensures { result ≡ ended_of tally.now end }
-{
-    Finished {
-        read: tally[READ],
-        handed: tally[HANDED],
-        same: tally[SAME],
-        end: end,
-    }
+    Ok(p.machine)
 }
 
 // Reads the input to its end. Neither a segment nor a reply waits at first.
-fn plot_file(started: Machine, file: &mut Stream<Source>, sink: &mut Sink) -> Finished
+fn plot_file(
+    started: Machine,
+    file: &mut Stream<Source>,
+    sink: &mut Sink,
+    tally: &mut Tally,
+) -> Result<(), Fault>
     requires usable { Usable started.state }
     requires work_value { occupied started.state.work ≡ false }
-    ensures { Ran started.state result }
+    requires nothing { tally.old ≡ nothing_counted }
+    ensures { Ran started.state tally.new result }
 {
     let mut block = io::large_buffer();
     let mut text = io::large_buffer();
     let mut machine = started;
-    let mut tally = [0; 3];
-    let mut turns = BLOCKS;
-    while turns > 0 {
-        let before = bytes_read(&tally);
-        let got = read_block(file, &mut block, &mut tally);
+    for turn in 0..BLOCKS {
+        let before = tally.read;
+        let got = read_block(file, &mut block, tally);
         if !got.good {
-            return ended(&tally, End::Unread);
+            return Err(Fault::Unread);
         }
         let n = got.count;
         if n == 0 {
-            return ended(&tally, End::Done);
+            return Ok(());
         }
-        let left = deliver_block(
+        machine = deliver_block(
             started,
             machine,
             before,
             &block[..n],
             &mut text,
             sink,
-            &mut tally,
-        );
-        machine = left.machine;
-        if !left.good {
-            return ended(&tally, End::Undelivered);
-        }
-        turns -= 1;
+            tally,
+        )?;
     }
-    ended(&tally, End::Done)
+    Ok(())
 }
 
-// Nothing is read and nothing is handed over.
-fn unbegun(end: End) -> Finished
-    ensures { Unbegun end result }
-{
-    ended(&[0; 3], end)
-}
-
-// The lines of a file, from a machine with these hard limits.
-pub fn run(asked: Limits, file: &mut Stream<Source>, sink: &mut Sink) -> Finished
-    ensures { Answers asked result }
+// The lines of a file, from a machine with these hard limits, where nothing is counted yet.
+fn plotted(
+    asked: Limits,
+    file: &mut Stream<Source>,
+    sink: &mut Sink,
+    tally: &mut Tally,
+) -> Result<(), Fault>
+    requires { tally.old ≡ nothing_counted }
+    ensures { Answers asked tally.new result }
 {
     let Limits::Four(left, bottom, right, top) = asked else {
-        return unbegun(End::NoLimits);
+        return Err(Fault::NoLimits);
     };
     let started = Machine::fresh(left, bottom, right, top);
     if started.number != 0 {
-        return unbegun(End::Refused);
+        return Err(Fault::Refused);
     }
-    let machine = started.machine;
-    plot_file(machine, file, sink)
+    plot_file(started.machine, file, sink, tally)
+}
+
+// The same, and what was counted.
+pub fn run(asked: Limits, file: &mut Stream<Source>, sink: &mut Sink) -> Finished
+    ensures { Answers asked result.tally result.end }
+{
+    let mut tally = Tally::default();
+    let end = plotted(asked, file, sink, &mut tally);
+    Finished { tally, end }
 }

@@ -3,74 +3,16 @@
 // The file list has a line of six words for each: the drawing, the file of its lines, and the hard limits left, bottom, right, top.
 #![tactic(auto)]
 
-ghost use Rattle.std.specs.Prelude.{◌≡◌, ◌+◌, ◌≤◌, length, drop};
-ghost use Rattle.drawings.specs.Part.{index_of, Within};
-
-use delivery::files::{End, Sink, run};
+use delivery::files::{Sink, run};
 use output::{finish, put_bytes, put_natural};
 use streams::{Source, Stream, number_of, read_full, tell};
-use textlines::word::{Limits, Whole, limits_of, whole_of};
+use textlines::word::{Limits, limits_of, whole_of};
 
-// Where a word of a line starts and ends.
-#[derive(Clone, Copy)]
-struct Part {
-    from: usize,
-    to: usize,
-}
-
-// The place of the next such byte, or the end.
-fn find(text: &[u8], from: usize, byte: u8) -> usize
-    requires { from ≤ length text.now }
-    ensures value { result ≡ from + index_of byte (drop from text.now) }
-    ensures upper_bound { result ≤ length text.now }
-{
-    let mut at = from;
-    while at < text.len() {
-        if text[at] == byte {
-            return at;
-        }
-        at += 1;
-    }
-    at
-}
-
-fn word_at(line: &[u8], from: usize) -> Part
-    requires { from ≤ length line.now }
-    ensures { Within result line.now }
-{
-    let to = find(line, from, b' ');
-    Part { from: from, to: to }
-}
-
-// The word after another, which is empty at the end of the line.
-fn word_after(line: &[u8], w: Part) -> Part
-    requires { Within w line.now }
-    ensures { Within result line.now }
-{
-    let to = w.to;
-    if to < line.len() {
-        return word_at(line, to + 1);
-    }
-    word_at(line, to)
-}
-
-fn limit(line: &[u8], w: Part) -> Whole
-    requires { Within w line.now }
-{
-    let from = w.from;
-    let to = w.to;
-    whole_of(&line[from..to])
-}
-
-fn open(rt: &HostRuntime, line: &[u8], w: Part) -> Option<Stream<Source>>
-    requires { Within w line.now }
-{
-    let from = w.from;
-    let to = w.to;
-    match streams::open(rt, &line[from..to]) {
+fn open(rt: &HostRuntime, name: &[u8]) -> Option<Stream<Source>> {
+    match streams::open(rt, name) {
         Ok(file) => Some(file),
         Err(error) => {
-            tell(rt.stderr(), &line[from..to], number_of(&error));
+            tell(rt.stderr(), name, number_of(&error));
             None
         }
     }
@@ -83,109 +25,76 @@ fn at_end(sink: &mut Sink) -> bool {
     };
     let mut byte = [0u8; 1];
     let got = streams::read(file, &mut byte);
-    if got.good {
-        return got.count == 0;
-    }
-    false
+    got.good && got.count == 0
 }
 
 // Prints a file's name, and what is said of so many lines.
-fn say(rt: &HostRuntime, line: &[u8], w: Part, what: &[u8], lines: u64, after: &[u8])
-    requires { Within w line.now }
-{
-    let from = w.from;
-    let to = w.to;
+fn say(rt: &HostRuntime, name: &[u8], what: &[u8], lines: u64, after: &[u8]) {
     let mut text = io::large_buffer();
-    let mut end = put_bytes(rt, &mut text, 0, &line[from..to]);
+    let mut end = put_bytes(rt, &mut text, 0, name);
     end = put_bytes(rt, &mut text, end, what);
     end = put_natural(rt, &mut text, end, lines);
     end = put_bytes(rt, &mut text, end, after);
     finish(rt, &text, end, b"drawings: standard output");
 }
 
-// Compares the lines of a drawing with those of a file, and says what came of it.
+// Compares the lines of a drawing with those of a file of this name, and says what came of it.
 fn compare(
     rt: &HostRuntime,
-    line: &[u8],
-    w: Part,
+    name: &[u8],
     asked: Limits,
     mut drawing: Stream<Source>,
     stored: Stream<Source>,
-)
-    requires { Within w line.now }
-{
+) {
     let mut sink = Sink::Compare(stored);
     let finished = run(asked, &mut drawing, &mut sink);
-    let end = finished.end;
-    let same = finished.same;
-    if let End::Done = end {
-        if at_end(&mut sink) {
-            say(rt, line, w, b": as stored, ", same, b" lines\n");
-            return;
-        }
+    let same = finished.tally.same;
+    if finished.end.is_ok() && at_end(&mut sink) {
+        say(rt, name, b": as stored, ", same, b" lines\n");
+    } else {
+        say(rt, name, b": differs at line ", same.wrapping_add(1), b"\n");
     }
-    say(
-        rt,
-        line,
-        w,
-        b": differs at line ",
-        std::num::wrapping_add_u64(same, 1),
-        b"\n",
-    );
 }
 
-fn check_files(rt: &HostRuntime, line: &[u8], drawn: Part, kept: Part, asked: Limits)
-    requires within { Within drawn line.now }
-    requires within_2 { Within kept line.now }
-{
-    let Some(drawing) = open(rt, line, drawn) else {
-        return;
-    };
-    let Some(stored) = open(rt, line, kept) else {
-        return;
-    };
-    compare(rt, line, kept, asked, drawing, stored);
-}
-
+// A line has its words between blanks. One that is missing is empty, as one between two blanks is.
 fn check_line(rt: &HostRuntime, line: &[u8]) {
-    let drawn = word_at(line, 0);
-    let kept = word_after(line, drawn);
-    let left = word_after(line, kept);
-    let bottom = word_after(line, left);
-    let right = word_after(line, bottom);
-    let top = word_after(line, right);
+    let mut words = line.split(|byte| *byte == b' ');
+    let mut word = || match words.next() {
+        Some(word) => word,
+        None => &[],
+    };
+    let drawn = word();
+    let kept = word();
     let asked = limits_of(
-        limit(line, left),
-        limit(line, bottom),
-        limit(line, right),
-        limit(line, top),
+        whole_of(word()),
+        whole_of(word()),
+        whole_of(word()),
+        whole_of(word()),
     );
-    check_files(rt, line, drawn, kept, asked);
+    let Some(drawing) = open(rt, drawn) else {
+        return;
+    };
+    let Some(stored) = open(rt, kept) else {
+        return;
+    };
+    compare(rt, kept, asked, drawing, stored);
 }
 
 fn check_list(rt: &HostRuntime, list: &[u8]) {
-    let mut from = 0;
-    while from < list.len() {
-        let to = find(list, from, b'\n');
-        check_line(rt, &list[from..to]);
-        from = to + 1;
+    for line in list.split_inclusive(|byte| *byte == b'\n') {
+        check_line(rt, line.strip_suffix(b"\n").unwrap_or(line));
     }
 }
 
 fn main(rt: HostRuntime) {
     let mut space = io::large_buffer();
-    let mut file = match streams::open(&rt, b"list") {
-        Ok(file) => file,
-        Err(error) => {
-            tell(rt.stderr(), b"list", number_of(&error));
-            return;
-        }
+    let Some(mut file) = open(&rt, b"list") else {
+        return;
     };
     let got = read_full(&mut file, &mut space);
     if !got.good {
         tell(rt.stderr(), b"list", file.error);
         return;
     }
-    let n = got.count;
-    check_list(&rt, &space[..n]);
+    check_list(&rt, &space[..got.count]);
 }

@@ -18,25 +18,16 @@ pub fn feed(machine: Machine, bytes: &[u8], out: &mut [Stroke]) -> Fed
     ensures out_after { out.new ≡ laid (feed_of machine.state bytes.now (length out.old)).strokes out.old }
 {
     let mut b = begin(machine);
-    let mut list = b.list;
-    let mut i = 0;
-    let mut at = 0;
-    loop {
-        if i < b.count {
-            out[at] = list[i];
-            at += 1;
-            i += 1;
-        } else if b.more {
-            b = next_batch(b.fed, bytes, out.len());
-            list = b.list;
-            i = 0;
-        } else {
-            return b.fed;
-        }
+    while b.more {
+        b = next_batch(b.fed, bytes, out.len());
+        let end = b.fed.stored;
+        let from = end - b.count;
+        out[from..end].copy_from_slice(&b.list[..b.count]);
     }
+    b.fed
 }
 
-// A list of records by value, and the answer of a feed into it.
+// A list of records by value, and the answer of a feed into it, which counts them: an array, since there is no heap.
 #[derive(Clone, Copy)]
 pub struct Listed {
     pub list: [Stroke; 64],
@@ -50,8 +41,5 @@ pub fn feed_list(machine: Machine, bytes: &[u8]) -> Listed
 {
     let mut list = blank();
     let fed = feed(machine, bytes, &mut list);
-    Listed {
-        list: list,
-        fed: fed,
-    }
+    Listed { list, fed }
 }

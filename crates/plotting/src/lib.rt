@@ -22,8 +22,8 @@ const NUMBERS: usize = MARKS * 5;
 // The bytes of their lines, and of a reply after them.
 const MOST: usize = MARKS * LONGEST + MOST_REPLY;
 
-// How far the printing of a block is: the machine; the bytes of the blocks before; the place in this one; the bytes of text in the buffer; and
-// whether some of the block is still to be printed.
+// How far the printing of a block is: the machine; the bytes of the blocks before; the place in this one; the bytes of text in the buffer, which
+// is lent anew for each part; and whether some of the block is still to be printed.
 #[derive(Clone, Copy)]
 pub struct Plot {
     pub machine: Machine,
@@ -38,8 +38,8 @@ pub fn begun(machine: Machine, before: u64) -> Plot
     ensures { result ≡ begun_of machine before }
 {
     Plot {
-        machine: machine,
-        before: before,
+        machine,
+        before,
         at: 0,
         length: 0,
         more: true,
@@ -50,14 +50,7 @@ pub fn begun(machine: Machine, before: u64) -> Plot
 pub fn emptied(p: Plot) -> Plot
     ensures { result ≡ emptied_of p }
 {
-    let machine = p.machine;
-    Plot {
-        machine: machine,
-        before: p.before,
-        at: p.at,
-        length: 0,
-        more: p.more,
-    }
+    Plot { length: 0, ..p }
 }
 
 // After a plot that got to a place of the block and a fetch, with so many bytes of text before the reply.
@@ -65,13 +58,12 @@ fn moved(p: Plot, at: usize, f: Fetched, end: usize, more: bool) -> Plot
     requires { end + f.length < 2 ^ 64 }
     ensures { result ≡ moved_of p at f end more }
 {
-    let machine = f.machine;
     Plot {
-        machine: machine,
-        before: p.before,
-        at: at,
+        machine: f.machine,
+        at,
         length: end + f.length,
-        more: more,
+        more,
+        ..p
     }
 }
 
@@ -98,8 +90,7 @@ fn step(p: Plot, block: &[u8], numbers: &mut [i64], text: &mut [u8]) -> Plot
     let machine = p.machine;
     let g = machine.plot(block, p.at, numbers);
     let end = mark_lines(text, p.length, numbers, g.stored, p.before);
-    let plotted = g.machine;
-    let f = put_reply(plotted, text, end);
+    let f = put_reply(g.machine, text, end);
     moved(p, g.at, f, end, g.number != 0)
 }
 
@@ -120,17 +111,8 @@ pub fn fill(p: Plot, block: &[u8], text: &mut [u8]) -> Plot
     let mut space = records();
     let numbers: &mut [i64] = &mut space;
     let mut q = p;
-    loop {
-        if !q.more {
-            return q;
-        }
-        if text.len() < MOST {
-            return q;
-        }
-        let length = q.length;
-        if text.len() - MOST < length {
-            return q;
-        }
+    while q.more && MOST <= text.len() - q.length {
         q = step(q, block, numbers, text);
     }
+    q
 }

@@ -3,25 +3,27 @@
 #![tactic(auto)]
 
 use arguments::desk::{asked, ready, unread};
-use delivery::files::{End, Sink, run};
+use delivery::files::{Fault, Sink, run};
 use streams::{Stream, write_all};
 use textlines::word::Limits;
 
 // Says what went wrong, if anything did, by the error of the read or of the write. Limits that are asked for are never refused.
-fn tell(rt: &HostRuntime, end: End, file: usize, read: i32, written: i32) {
-    match end {
-        End::Done => {}
-        End::NoLimits => {
+fn tell(rt: &HostRuntime, end: Result<(), Fault>, file: usize, read: i32, written: i32) {
+    let Err(fault) = end else {
+        return;
+    };
+    match fault {
+        Fault::NoLimits => {
             write_all(&mut Stream::new(rt.stderr()), b"strokes: no limits\n");
         }
-        End::Refused => {
+        Fault::Refused => {
             write_all(
                 &mut Stream::new(rt.stderr()),
                 b"strokes: limits refused with 10\n",
             );
         }
-        End::Unread => unread(rt, b"strokes", file, read),
-        End::Undelivered => streams::tell(rt.stderr(), b"strokes: standard output", written),
+        Fault::Unread => unread(rt, b"strokes", file, read),
+        Fault::Undelivered => streams::tell(rt.stderr(), b"strokes: standard output", written),
     }
 }
 
@@ -42,6 +44,5 @@ fn main(rt: HostRuntime) {
         &mut source,
         &mut sink,
     );
-    let end = finished.end;
-    tell(&rt, end, r.file, source.error, sink.error());
+    tell(&rt, finished.end, r.file, source.error, sink.error());
 }

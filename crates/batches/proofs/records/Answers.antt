@@ -22,26 +22,17 @@ grown list numbers i s h e f =
 
 pub loop-i-init : goal.loop-i-init
 unfolding strokes_of
-loop-i-init c = (omega arith, (ap length c.blank-list.ensures ∙ blanks-long, refl))
-
-pub stroke_at-s-requires : goal.stroke_at-s-requires
-stroke_at-s-requires c =
-    (omega (arith, c.loop-i-test.true, c.requires.1.0), c.requires.1.1 c.loop-i.i c.loop-i-test.true)
+loop-i-init c = (ap length c.blank-list.ensures ∙ blanks-long, refl)
 
 pub loop-i-preserved : goal.loop-i-preserved
 loop-i-preserved c =
-    let l = c.loop-i in
-    let more = c.loop-i-test.true in (
-      omega (arith, more),
-      (
-        length-set l.list l.i c.stroke_at-s.result ∙ l.invariant.1.0,
-        grown l.list c.args.numbers.now l.i c.stroke_at-s.result
-            (omega (arith, more, l.invariant.1.0, c.requires.0)) l.invariant.1.1 c.stroke_at-s.ensures,
-      ),
+    let l = c.loop-i in (
+      length-set l.list l.i c.stroke_at.result ∙ l.invariant.0,
+      grown l.list c.args.numbers.now l.i c.stroke_at.result (omega (arith, c.loop-i-test.true, l.invariant.0, c.requires.0)) l.invariant.1 c.stroke_at.ensures,
     )
 
 pub returns : goal.returns
 returns c =
     let l = c.loop-i in
-    let all : l.i ≡ c.args.count = omega (arith, l.invariant.0, c.loop-i-test.false) in
-    subst (λ (k : ℕ). take k l.list ≡ strokes_of c.args.numbers.now k) all l.invariant.1.1
+    let all : l.i ≡ c.args.count = omega (arith, l.auto.i-end, c.loop-i-test.false) in
+    subst (λ (k : ℕ). take k l.list ≡ strokes_of c.args.numbers.now k) all l.invariant.1

@@ -1,12 +1,7 @@
 -- The proof of `records`: strokes 0 to i - 1 stand at their places.
-use mathlib.Core.Path.{◌≡◌}
-use Prim.Native.Nat.{◌-◌, ◌≤◌}
-use lib.ListN.{length, take}
+use Rattle.std.proofs.Common.{◌≡◌, length, take}
 use Rattle.batches.specs.Records.{strokes_of}
 use Rattle.batches.proofs.records.Given as goal
 
 abbrev pub invariant-loop-i : goal.invariant-loop-i
-invariant-loop-i l = (l.i ≤ l.count) × ((length l.list ≡ 64) × (take l.i l.list ≡ strokes_of l.numbers l.i))
-
-abbrev pub decreases-loop-i : goal.decreases-loop-i
-decreases-loop-i l = l.count - l.i
+invariant-loop-i l = (length l.list ≡ 64) × (take l.i l.list ≡ strokes_of l.numbers l.i)

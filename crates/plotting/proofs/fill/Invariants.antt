@@ -1,8 +1,5 @@
 -- From p to q some text was printed; each turn makes it longer, or leaves no more.
-use mathlib.Core.Bool.{cond}
-use mathlib.Core.Path.{◌≡◌}
-use Prim.Native.Nat.{◌+◌, ◌-◌, ◌*◌}
-use lib.ListN.{length}
+use Rattle.std.proofs.Common.{◌≡◌, ◌+◌, ◌-◌, ◌*◌, cond, length}
 use Rattle.plotting.specs.Plotted.{Plotted, most_marks}
 use Rattle.plotting.proofs.fill.Given as goal
 

@@ -1,9 +1,0 @@
--- Each turn passes a line.
-use Rattle.std.proofs.Common.{◌-◌, length}
-use Rattle.drawings.proofs.check_list.Given as goal
-
-abbrev pub invariant-loop-from : goal.invariant-loop-from
-invariant-loop-from l = Unit {0}
-
-abbrev pub decreases-loop-from : goal.decreases-loop-from
-decreases-loop-from l = length l.list - l.from

@@ -1,2 +1,0 @@
-pub mod Part
-pub mod PartLaws
