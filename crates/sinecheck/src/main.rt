@@ -5,32 +5,36 @@
 ghost use Rattle.std.specs.Prelude.{◌≡◌};
 ghost use Rattle.sines.specs.Table as S;
 
+use output::Text;
+use sines::{cosine, sine};
+use std::fmt;
+use std::fmt::Write;
+
 const TURN: u16 = 3600;
 
-fn put_line(
-    rt: &HostRuntime,
-    buffer: &mut [u8; 65536],
-    used: usize,
-    table: &[u32],
-    tenths: u16,
-) -> usize
+fn put_line(out: &mut Text<'_>, table: &[u32], tenths: u16) -> fmt::Result
     requires { table.now ≡ S.sines }
 {
-    let angle = tenths as i64;
-    let angle_end = output::put_whole(rt, buffer, used, angle);
-    let sine_start = output::put_byte(rt, buffer, angle_end, b' ');
-    let sine_end = output::put_whole(rt, buffer, sine_start, sines::sine(table, angle));
-    let cosine_start = output::put_byte(rt, buffer, sine_end, b' ');
-    let cosine_end = output::put_whole(rt, buffer, cosine_start, sines::cosine(table, angle));
-    output::put_byte(rt, buffer, cosine_end, b'\n')
+    let angle = i64::from(tenths);
+    writeln!(
+        out,
+        "{angle} {} {}",
+        sine(table, angle),
+        cosine(table, angle)
+    )
+}
+
+fn put_lines(out: &mut Text<'_>) -> fmt::Result {
+    let table = sines::table();
+    for tenths in 0..TURN {
+        put_line(out, &table, tenths)?;
+    }
+    Ok(())
 }
 
 fn main(rt: HostRuntime) {
-    let table = sines::table();
-    let mut buffer = io::large_buffer();
-    let mut used = 0;
-    for tenths in 0..TURN {
-        used = put_line(&rt, &mut buffer, used, &table, tenths);
-    }
-    output::finish(&rt, &buffer, used, b"sinecheck: standard output");
+    let mut out = Text::new(&rt);
+    // a write that failed is told at the end
+    let _ = put_lines(&mut out);
+    out.finish(b"sinecheck: standard output");
 }
