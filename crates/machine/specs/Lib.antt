@@ -1,5 +1,6 @@
 pub mod UsableOnce
 pub mod Calls
+pub mod Machines
 pub mod Loadable
 pub mod Run
 pub mod RunLaws

@@ -1,6 +1,5 @@
 -- Printing by blocks: how far it is, and what a part of it does. From fresh on, the parts put together are the lines of the whole input.
 use Rattle.std.specs.Prelude.{Bool, true, false, List, [], ◌++◌, ◌≡◌, ℕ, ◌+◌, ◌*◌, ◌^◌, ◌≤◌, ◌<◌, length, drop}
-use Rattle.hpgl.specs.Valid.{Usable}
 use Rattle.machine.specs.declared.Machine.{Machine}
 use Rattle.machine.specs.declared.Fetched.{Fetched}
 use Rattle.textlines.specs.Text.{longest}
@@ -23,10 +22,9 @@ emptied_of p = record { machine = p.machine; before = p.before; at = p.at; lengt
 abbrev pub moved_of : Plot → ℕ → Fetched → ℕ → Bool → Plot
 moved_of p at f end more = record { machine = f.machine; before = p.before; at = at; length = end + f.length; more = more }
 
--- a plot that may go on with a block of bytes: its machine may be used, its place is in the block, no count of bytes leaves 64 bits, and
--- where there is no more all of the block is printed
+-- a plot that may go on with a block of bytes: its place is in the block, no count of bytes leaves 64 bits, and where there is no more all of
+-- the block is printed
 pub record Ready (p : Plot) (block : List ℕ) : Type 0 where
-  pub usable : Usable p.machine.state
   pub place : p.at ≤ length block
   pub count : p.before + length block < 2 ^ 64
   pub ends : p.more ≡ false → (p.at ≡ length block) × (due p block [] ≡ [])

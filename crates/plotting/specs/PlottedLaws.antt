@@ -19,13 +19,15 @@ use Rattle.feeding.specs.Plot.{plot_from, numbers_of}
 use Rattle.feeding.specs.Plot.{Plot as Marked}
 use Rattle.feeding.proofs.WhatMarksTell.{plot-told}
 use Rattle.hpgl.specs.Valid.{Usable}
-use Rattle.hpgl.proofs.ValidKept.{usable-fresh, usable-fetch}
+use Rattle.hpgl.proofs.ValidKept.{usable-fetch}
 use Rattle.hpgl.proofs.ReplyLaws.{reply-short}
 use Rattle.hpgl.proofs.FetchLaws.{fetch-some}
 use Rattle.feeding.proofs.PlotLaws.{plot-place, plot-usable}
 use Rattle.machine.specs.declared.Machine.{Machine}
+use Rattle.machine.specs.declared.Fetched.{Fetched}
 use Rattle.machine.specs.declared.Started.{Started}
-use Rattle.machine.specs.Calls.{started_of, fetched_from}
+use Rattle.machine.specs.Calls.{Numbered, started_by, started_of, fetched_from}
+use Rattle.machine.specs.Machines.{fetched_as}
 use Rattle.textlines.specs.Text.{marks_below}
 use Rattle.decimals.specs.Puts.{Puts, puts-nothing, puts_then}
 use Rattle.plotting.specs.declared.Plot.{Plot}
@@ -46,15 +48,10 @@ plotted-then {r} {block} h k = record {
   earlier = k.earlier ∙ h.earlier;
 }
 
--- fresh makes a machine that may be used
-pub started-usable : {s : Started} (r : Rect) → s ≡ started_of r → Usable s.machine.state
-unfolding started_of
-started-usable r e = subst (λ (s : Started). Usable s.machine.state) (sym e) (usable-fresh r)
-
--- and nothing waits
-pub started-free : {s : Started} (r : Rect) → s ≡ started_of r → occupied s.machine.state.work ≡ false
+-- in the machine that fresh makes nothing waits
+pub started-free : (s : Started) (r : Rect) → started_by s ≡ started_of r → occupied s.machine.state.work ≡ false
 unfolding started_of fresh_state occupied waiting replying replied
-started-free r e = ap (λ (s : Started). occupied s.machine.state.work) e
+started-free s r e = ap (λ (t : Numbered). occupied t.state.work) e
 
 -- ---- a block, a bufferful at a time
 
@@ -63,16 +60,16 @@ pub record Between (p : Plot) (block : List ℕ) : Type 0 where
   pub ready : Ready p block
   pub empty : p.length ≡ 0
 
-pub begins : {p : Plot} {m : Machine} {n : ℕ} {block : List ℕ} → p ≡ begun_of m n → Usable m.state → n + length block < 2 ^ 64
+pub begins : {p : Plot} {m : Machine} {n : ℕ} {block : List ℕ} → p ≡ begun_of m n → n + length block < 2 ^ 64
     → Between p block
-begins {block} e h c =
+begins {block} e c =
     subst (λ (p : Plot). Between p block) (sym e)
-    (record { ready = record { usable = h; place = omega arith; count = c; ends = λ z. absurd (false≢true (sym z)) }; empty = refl })
+    (record { ready = record { place = omega arith; count = c; ends = λ z. absurd (false≢true (sym z)) }; empty = refl })
 
 pub empties : {p q : Plot} {block : List ℕ} → q ≡ emptied_of p → Ready p block → Between q block
 empties {block} e h =
     subst (λ (q : Plot). Between q block) (sym e)
-    (record { ready = record { usable = h.usable; place = h.place; count = h.count; ends = h.ends }; empty = refl })
+    (record { ready = record { place = h.place; count = h.count; ends = h.ends }; empty = refl })
 
 -- what a block still asks for: lines, or to be told that there is no more
 abbrev pub left : Plot → List ℕ → ℕ
@@ -168,7 +165,11 @@ module _ (p : Plot) (block : List ℕ) (r : ℕ) (h : Ready p block) where
   nothing-due z = rw (ended.taken z ∙ rest) (rw (drop-length block) (fetched-end got.state (p.before + length block) (ended.idle z)))
 
   pub usable-got : Usable got.state
-  usable-got = plot-usable p.machine.state (drop p.at block) p.at r h.usable
+  usable-got = plot-usable p.machine.state (drop p.at block) p.at r p.machine.usable
+
+  pub usable-after : Usable (fetched_from got.state most_reply).state
+  unfolding fetched_from
+  usable-after = usable-fetch most_reply usable-got
 
   -- a plot that stops before the end has marks, or a reply waits after it
   some-text : 0 < r → (got.number ≡ 0 → ⊥) → 0 < length (mark_lines p.before got.marks) + length (fetch_text got.state most_reply)
@@ -182,11 +183,15 @@ module _ (p : Plot) (block : List ℕ) (r : ℕ) (h : Ready p block) where
   pub marks-lines : (xs : List ℤ) → marks_below p.before (numbers_of got.marks ++ xs) (length got.marks) ≡ mark_lines p.before got.marks
   marks-lines xs =
       numbers-lines p.before (length block) h.count xs got.marks
-      (plot-told (length block) p.machine.state (drop p.at block) p.at r (omega (arith, rest)) h.usable)
+      (plot-told (length block) p.machine.state (drop p.at block) p.at r (omega (arith, rest)) p.machine.usable)
+
+  -- the answer of the fetch
+  abbrev pub reply-fetched : Fetched
+  reply-fetched = fetched_as (fetched_from got.state most_reply) usable-after
 
   -- what the code makes of it: there is more where the number is not 0
   pub steps : {q : Plot} {before after : List ℕ} (end : ℕ)
-      → q ≡ moved_of p got.taken (fetched_from got.state most_reply) end (not (eqb got.number 0)) → 0 < r
+      → q ≡ moved_of p got.taken reply-fetched end (not (eqb got.number 0)) → 0 < r
       → Puts (mark_lines p.before got.marks ++ fetch_text got.state most_reply) before after p.length (end + length (fetch_text got.state most_reply))
       → Steps p q block before after
   unfolding fetched_from
@@ -199,7 +204,6 @@ module _ (p : Plot) (block : List ℕ) (r : ℕ) (h : Ready p block) where
           ∙ sym (append_assoc lines reply _);
       puts = puts;
       ready = record {
-        usable = usable-fetch most_reply usable-got;
         place = omega (arith, rest, (plot-place p.machine.state (drop p.at block) p.at r).1);
         count = h.count;
         ends = λ z. let n = eqb-true got.number 0 (not-false _ z) in (ended.taken n ∙ rest, nothing-due n);

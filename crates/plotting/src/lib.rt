@@ -5,9 +5,8 @@
 ghost use Rattle.std.specs.Prelude.{true, ◌≡◌, ◌+◌, ◌*◌, ◌^◌, ◌≤◌, ◌<◌, length};
 ghost use Rattle.hpgl.specs.Numbers.{most_reply};
 ghost use Rattle.hpgl.specs.Machine.{fetch_text};
-ghost use Rattle.hpgl.specs.Valid.{Usable};
 ghost use Rattle.decimals.specs.Puts.{Puts};
-ghost use Rattle.machine.specs.Calls.{fetched_from};
+ghost use Rattle.machine.specs.Calls.{fetched_by, fetched_from};
 ghost use Rattle.plotting.specs.Plotted.{Ready, Plotted, begun_of, emptied_of, moved_of, most_marks, most};
 
 use hpgl::MOST_REPLY;
@@ -69,9 +68,8 @@ fn moved(p: Plot, at: usize, f: Fetched, end: usize, more: bool) -> Plot
 
 // The reply that waits, if one does, into a text from a place on.
 fn put_reply(machine: Machine, text: &mut [u8], at: usize) -> Fetched
-    requires usable { Usable machine.state }
-    requires most_reply_in_bounds { at + most_reply ≤ length text.old }
-    ensures value { result ≡ fetched_from machine.state most_reply }
+    requires { at + most_reply ≤ length text.old }
+    ensures value { fetched_by result ≡ fetched_from machine.state most_reply }
     ensures puts { Puts (fetch_text machine.state most_reply) text.old text.new at (at + result.length) }
     ensures length_bound { at + result.length < 2 ^ 64 }
 {

@@ -4,8 +4,7 @@ use Prim.Native.Nat.{ℕ, ◌+◌, ◌-◌}
 use native.Mathlib.Omega.{arith}
 use lib.ListN.{length}
 use Rattle.hpgl.specs.Machine.{fetch_text}
-use Rattle.machine.specs.declared.Fetched.{Fetched}
-use Rattle.machine.specs.Calls.{fetched_from}
+use Rattle.machine.specs.Calls.{Told, fetched_from}
 use Rattle.plotting.specs.PlottedLaws.{reply-fits, puts-at, part_length, reply-put}
 use Rattle.hpgl.specs.Numbers.{most_reply}
 use Rattle.plotting.proofs.put_reply.Goals as goal
@@ -17,10 +16,10 @@ returns c =
     let text = c.args.text.now in
     let at = c.args.at in
     let n : at + most_reply - at ≡ most_reply = omega arith in
-    let is = c.fetch.ensures.value ∙ ap (fetched_from m) (part_length m text at _ c.requires.most_reply_in_bounds n) in
-    let long : c.fetch.result.length ≡ length (fetch_text m most_reply) = ap (λ (r : Fetched). r.length) is in
+    let is = c.fetch.ensures.value ∙ ap (fetched_from m) (part_length m text at _ c.requires n) in
+    let long : c.fetch.result.length ≡ length (fetch_text m most_reply) = ap (λ (r : Told). r.length) is in
     record {
       value = is;
-      puts = puts-at (ap (λ (k : ℕ). at + k) (sym long)) (reply-put m text at _ c.requires.most_reply_in_bounds n c.fetch.ensures.out_after);
+      puts = puts-at (ap (λ (k : ℕ). at + k) (sym long)) (reply-put m text at _ c.requires n c.fetch.ensures.out_after);
       length_bound = omega (arith, long, reply-fits m);
     }
