@@ -1,12 +1,10 @@
 -- A run over an input: all that its reads gave, and all the text that was handed over. No contract of the kit says which bytes a read gives or a write
 -- takes. So these are lists that exist, as long as the code has counted at its edge, the last block among them as it lies in memory; and no text is
 -- handed over but the next part of what is printed of all these bytes, with places counted from the first of them.
-use Rattle.std.specs.Prelude.{◌≡◌, ℕ, ◌+◌, ◌%◌, ◌^◌, List, [], ◌++◌, length, ◌≢◌, Result, Err, IfOk, IfErr}
+use Rattle.std.specs.Prelude.{◌≡◌, ℕ, ◌+◌, ◌%◌, ◌^◌, List, [], ◌++◌, length, ◌≢◌, Option, Some, None, Result, Err, IfOk, IfErr}
 use Rattle.clip.specs.declared.Rect.{Rect}
 use Rattle.hpgl.specs.declared.State.{State}
-use Rattle.hpgl.specs.Machine.{rect, fresh_state, fresh_number}
-use Rattle.textlines.specs.declared.word.Limits.{Limits}
-use Rattle.textlines.specs.declared.word.Limits.TheVariants as limits
+use Rattle.hpgl.specs.Machine.{fresh_state, fresh_number}
 use Rattle.machine.specs.declared.Machine.{Machine}
 use Rattle.delivery.specs.declared.edge.Tally.{Tally}
 use Rattle.delivery.specs.declared.files.Fault.{Fault}
@@ -63,6 +61,6 @@ pub record Within (hard : Rect) (counted : Tally) (end : End) : Type 0 where
   pub bad : (fresh_number hard ≢ 0) → Unbegun Refused counted end
 
 -- what the program answers to the limits that it is asked for
-abbrev pub Answers : Limits → Tally → End → Type 0
-Answers (limits.Four left bottom right top) counted end = Within (rect left bottom right top) counted end
-Answers limits.Nothing counted end = Unbegun NoLimits counted end
+abbrev pub Answers : Option Rect → Tally → End → Type 0
+Answers (Some hard) counted end = Within hard counted end
+Answers None counted end = Unbegun NoLimits counted end

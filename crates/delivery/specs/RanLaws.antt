@@ -11,7 +11,7 @@ use Rattle.hpgl.specs.declared.State.{State}
 use Rattle.hpgl.specs.Machine.{occupied, fresh_state, fresh_number}
 use Rattle.machine.specs.declared.Machine.{Machine}
 use Rattle.machine.specs.declared.Started.{Started}
-use Rattle.machine.specs.Calls.{started_of}
+use Rattle.machine.specs.Calls.{Numbered, started_by, started_of}
 use Rattle.decimals.specs.Puts.{Puts}
 use Rattle.plotting.specs.declared.Plot.{Plot}
 use Rattle.delivery.specs.declared.edge.Tally.{Tally}
@@ -165,14 +165,14 @@ stands-next {started} {read} {block} m h e =
 
 -- ---- from fresh on
 
-module _ {s : Started} (hard : Rect) (e : s ≡ started_of hard) where
+module _ {s : Started} (hard : Rect) (e : started_by s ≡ started_of hard) where
   number : s.number ≡ fresh_number hard
   unfolding started_of
-  number = ap (λ (t : Started). t.number) e
+  number = ap (λ (t : Numbered). t.number) e
 
   state : s.machine.state ≡ fresh_state hard
   unfolding started_of
-  state = ap (λ (t : Started). t.machine.state) e
+  state = ap (λ (t : Numbered). t.state) e
 
   pub within-good : {counted : Tally} {end : End} → s.number ≡ 0 → Ran s.machine.state counted end → Within hard counted end
   within-good {counted} {end} z r = record { good = λ _. subst (λ (m : State). Ran m counted end) state r; bad = λ n. absurd (n (sym number ∙ z)) }

@@ -1,17 +1,16 @@
 // A machine over a file: the lines of its bytes, each reply among them, are handed over, block by block, to be written or compared.
 // What a block has made is handed over before the next read, so that who sent an instruction and waits for its reply gets it.
-ghost use Rattle.std.specs.Prelude.{◌≡◌, ◌+◌, ◌^◌, ◌<◌, false, length, IfOk};
+ghost use Rattle.std.specs.Prelude.{◌≡◌, ◌+◌, ◌^◌, ◌<◌, false, length};
 ghost use Rattle.hpgl.specs.Machine.{occupied};
-ghost use Rattle.hpgl.specs.Valid.{Usable};
 ghost use Rattle.delivery.specs.Ran.{Begins, Leaves, Ran, Answers};
 ghost use Rattle.delivery.specs.Tally.{nothing_counted, error_of};
 
 use super::edge::{Tally, hand, read_block};
+use clip::Rect;
 use machine::Machine;
 use plotting::{begun, emptied, fill};
 use std::io::Stdout;
 use streams::{Source, Stream};
-use textlines::word::Limits;
 
 // A proved loop has to end: this one reads so many blocks of at most 64 KB, which no file uses up.
 const BLOCKS: u64 = 0x800000000000;
@@ -67,11 +66,9 @@ fn deliver_block(
     sink: &mut Sink,
     tally: &mut Tally,
 ) -> Result<Machine, Fault>
-    requires usable { Usable machine.state }
     requires block_bound { before + length block.now < 2 ^ 64 }
     requires text_len { length text.old ≡ 65536 }
     requires begins { Begins started.state machine.state before tally.old.read tally.old.handed block.now }
-    ensures usable_2 { IfOk result (λ m. Usable m.state) }
     ensures tally_unchanged { tally.new.read ≡ tally.old.read }
     ensures leaves { Leaves started.state tally.new.read tally.new.handed block.now result }
 {
@@ -93,7 +90,6 @@ fn plot_file(
     sink: &mut Sink,
     tally: &mut Tally,
 ) -> Result<(), Fault>
-    requires usable { Usable started.state }
     requires work_value { occupied started.state.work ≡ false }
     requires nothing { tally.old ≡ nothing_counted }
     ensures { Ran started.state tally.new result }
@@ -126,7 +122,7 @@ fn plot_file(
 
 // The lines of a file, from a machine with these hard limits, where nothing is counted yet.
 fn plotted(
-    asked: Limits,
+    asked: Option<Rect>,
     file: &mut Stream<Source>,
     sink: &mut Sink,
     tally: &mut Tally,
@@ -134,10 +130,10 @@ fn plotted(
     requires { tally.old ≡ nothing_counted }
     ensures { Answers asked tally.new result }
 {
-    let Limits::Four(left, bottom, right, top) = asked else {
+    let Some(hard) = asked else {
         return Err(Fault::NoLimits);
     };
-    let started = Machine::fresh(left, bottom, right, top);
+    let started = Machine::fresh(hard.left, hard.bottom, hard.right, hard.top);
     if started.number != 0 {
         return Err(Fault::Refused);
     }
@@ -145,7 +141,7 @@ fn plotted(
 }
 
 // The same, and what was counted.
-pub fn run(asked: Limits, file: &mut Stream<Source>, sink: &mut Sink) -> Finished
+pub fn run(asked: Option<Rect>, file: &mut Stream<Source>, sink: &mut Sink) -> Finished
     ensures { Answers asked result.tally result.end }
 {
     let mut tally = Tally::default();

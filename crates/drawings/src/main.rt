@@ -3,10 +3,11 @@
 // The file list has a line of six words for each: the drawing, the file of its lines, and the hard limits left, bottom, right, top.
 #![tactic(auto)]
 
+use clip::Rect;
 use delivery::files::{Sink, run};
 use output::{finish, put_bytes, put_natural};
 use streams::{Source, Stream, number_of, read_full, tell};
-use textlines::word::{Limits, limits_of, whole_of};
+use textlines::word::{limits_of, whole_of};
 
 fn open(rt: &HostRuntime, name: &[u8]) -> Option<Stream<Source>> {
     match streams::open(rt, name) {
@@ -42,7 +43,7 @@ fn say(rt: &HostRuntime, name: &[u8], what: &[u8], lines: u64, after: &[u8]) {
 fn compare(
     rt: &HostRuntime,
     name: &[u8],
-    asked: Limits,
+    asked: Option<Rect>,
     mut drawing: Stream<Source>,
     stored: Stream<Source>,
 ) {

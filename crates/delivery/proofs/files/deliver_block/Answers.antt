@@ -12,7 +12,7 @@ fits p = omega (arith, p.room, p.ends, puts-length p)
 pub loop-p-init : goal.loop-p-init
 loop-p-init c =
     let e = c.begun-p.ensures in
-    (begins e c.requires.usable c.requires.block_bound, c.requires.text_len, refl, midway-first e c.requires.begins)
+    (begins e c.requires.block_bound, c.requires.text_len, refl, midway-first e c.requires.begins)
 
 pub fill-p-requires : goal.fill-p-requires
 fill-p-requires c =
@@ -31,7 +31,7 @@ hand-requires c =
 
 pub returns-then-not-hand : goal.returns-then-not-hand
 returns-then-not-hand c =
-    record { usable_2 = tt; tally_unchanged = c.hand.ensures.tally_unchanged ∙ c.loop-p.invariant.2; leaves = leaves-part c.loop-p.invariant.3 c.fill-p.ensures.plotted c.loop-p.invariant.0.empty c.hand.ensures.tally_unchanged c.hand.ensures.tally_after }
+    record { tally_unchanged = c.hand.ensures.tally_unchanged ∙ c.loop-p.invariant.2; leaves = leaves-part c.loop-p.invariant.3 c.fill-p.ensures.plotted c.loop-p.invariant.0.empty c.hand.ensures.tally_unchanged c.hand.ensures.tally_after }
 
 pub loop-p-smaller : goal.loop-p-smaller
 loop-p-smaller c =
@@ -50,4 +50,4 @@ loop-p-preserved c =
 pub returns : goal.returns
 returns c =
     let i = c.loop-p.invariant in
-    record { usable_2 = i.0.ready.usable; tally_unchanged = i.2; leaves = leaves_all i.3 i.0.ready c.loop-p-test.false }
+    record { tally_unchanged = i.2; leaves = leaves_all i.3 i.0.ready c.loop-p-test.false }

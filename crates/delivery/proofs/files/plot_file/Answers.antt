@@ -11,24 +11,24 @@ use Rattle.delivery.proofs.files.plot_file.Goals as goal
 pub loop-turn-init : goal.loop-turn-init
 loop-turn-init c =
     let read = ap (λ (t : Tally). t.read) c.requires.nothing in
-    (c.large_buffer-block.ensures, c.large_buffer-text.ensures, c.requires.usable, omega (arith, read), stands-first c.requires.work_value read (ap (λ (t : Tally). t.handed) c.requires.nothing))
+    (c.large_buffer-block.ensures, c.large_buffer-text.ensures, omega (arith, read), stands-first c.requires.work_value read (ap (λ (t : Tally). t.handed) c.requires.nothing))
 
 pub returns-then-not-got : goal.returns-then-not-got
 returns-then-not-got c =
     let e = c.read_block-got.ensures in
-    let i = stands-still c.loop-turn.invariant.4 e.tally_after e.tally_unchanged (e.count_value (not-true _ c.if-not-got.true)) in
+    let i = stands-still c.loop-turn.invariant.3 e.tally_after e.tally_unchanged (e.count_value (not-true _ c.if-not-got.true)) in
     ran c.read_block-got.new.tally i.reached (λ n. i.nothing)
 
 pub returns-then-n-eq0 : goal.returns-then-n-eq0
 returns-then-n-eq0 c =
     let e = c.read_block-got.ensures in
-    let i = stands-still c.loop-turn.invariant.4 e.tally_after e.tally_unchanged c.if-n-eq0.true in
+    let i = stands-still c.loop-turn.invariant.3 e.tally_after e.tally_unchanged c.if-n-eq0.true in
     ran c.read_block-got.new.tally i.reached (λ n. i.nothing)
 
 pub deliver_block-requires-clause-begins : goal.deliver_block-requires-clause-begins
 deliver_block-requires-clause-begins c =
     let e = c.read_block-got.ensures in
-    stands_read c.loop-turn.invariant.4 (omega (arith, e.prefix_len.1, e.tally_after)) e.tally_unchanged
+    stands_read c.loop-turn.invariant.3 (omega (arith, e.prefix_len.1, e.tally_after)) e.tally_unchanged
 
 pub returns-in_err-machine : goal.returns-in_err-machine
 returns-in_err-machine c =
@@ -44,7 +44,6 @@ loop-turn-preserved c =
     let e = c.deliver_block.ensures in (
       i.0 ∙ sym c.read_block-got.auto.block,
       i.1 ∙ sym c.deliver_block.auto.text,
-      c.in_ok-machine.ensures.usable_2,
-      omega (arith, i.3, i.0, c.read_block-got.auto.block, r.tally_after, r.prefix_len.0, r.prefix_len.1, e.tally_unchanged),
+      omega (arith, i.2, i.0, c.read_block-got.auto.block, r.tally_after, r.prefix_len.0, r.prefix_len.1, e.tally_unchanged),
       stands-next c.in_ok-machine.machine e.leaves c.in_ok-machine.was,
     )
