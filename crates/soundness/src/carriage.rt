@@ -82,13 +82,7 @@ fn polygon_sound(r: Row) -> bool
         d: 1,
         e: 0,
     };
-    if between(low, r, high) {
-        if r.a == 0 {
-            return true;
-        }
-        return counted(r);
-    }
-    false
+    between(low, r, high) && (r.a == 0 || counted(r))
 }
 
 // What OE may tell: 0, 1, 2, 3, 6 or 7.
@@ -109,13 +103,7 @@ fn memory_sound(r: Row) -> bool
         d: 0,
         e: 0,
     };
-    if between(low, r, high) {
-        if r.a <= 3 {
-            return true;
-        }
-        return 6 <= r.a;
-    }
-    false
+    between(low, r, high) && (r.a <= 3 || 6 <= r.a)
 }
 
 // Whether the position of a row may be kept.
@@ -142,40 +130,22 @@ fn kept_sound(s: Settings, polygon: Row, first: Row, saved: Row) -> bool
     requires { ValidSettings s }
     ensures { result ≡ S.kept_sound s polygon first saved }
 {
-    if polygon.a == 0 {
-        return true;
-    }
-    if placed_row(s, first) {
-        return placed_row(s, saved);
-    }
-    false
+    polygon.a == 0 || placed_row(s, first) && placed_row(s, saved)
 }
 
 fn positions_sound(place: Row, first: Row, saved: Row) -> bool
     ensures { result ≡ S.positions_sound place first saved }
 {
-    if position_sound(place) {
-        if position_sound(first) {
-            return position_sound(saved);
-        }
-        return false;
-    }
-    false
+    position_sound(place) && position_sound(first) && position_sound(saved)
 }
 
 fn parts_sound(place: Row, pen: Row, polygon: Row, first: Row, saved: Row, memory: Row) -> bool
     ensures { result ≡ S.parts_sound place pen polygon first saved memory }
 {
-    if positions_sound(place, first, saved) {
-        if pen_sound(pen) {
-            if polygon_sound(polygon) {
-                return memory_sound(memory);
-            }
-            return false;
-        }
-        return false;
-    }
-    false
+    positions_sound(place, first, saved)
+        && pen_sound(pen)
+        && polygon_sound(polygon)
+        && memory_sound(memory)
 }
 
 pub fn carriage_sound(
@@ -190,11 +160,7 @@ pub fn carriage_sound(
     requires { ValidSettings s }
     ensures { result ≡ S.carriage_sound s place pen polygon first saved memory }
 {
-    if parts_sound(place, pen, polygon, first, saved, memory) {
-        if placed_row(s, place) {
-            return kept_sound(s, polygon, first, saved);
-        }
-        return false;
-    }
-    false
+    parts_sound(place, pen, polygon, first, saved, memory)
+        && placed_row(s, place)
+        && kept_sound(s, polygon, first, saved)
 }

@@ -97,26 +97,11 @@ fn number_sound(r: Row) -> bool
 pub fn reader_sound(place: Row, numbers: Row, number: Row) -> bool
     ensures { result ≡ S.reader_sound place numbers number }
 {
-    if place_sound(place) {
-        if numbers_sound(numbers) {
-            return number_sound(number);
-        }
-        return false;
-    }
-    false
+    place_sound(place) && numbers_sound(numbers) && number_sound(number)
 }
 
 pub fn known_sound(place: Row, polygon: Row) -> bool
     ensures { result ≡ S.known_sound place polygon }
 {
-    if polygon.a == 0 {
-        return true;
-    }
-    if place.a < 2 {
-        return true;
-    }
-    if 3 < place.a {
-        return true;
-    }
-    known_in_polygon(byte_of(place.c) as usize)
+    polygon.a == 0 || place.a < 2 || 3 < place.a || known_in_polygon(byte_of(place.c) as usize)
 }

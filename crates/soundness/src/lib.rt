@@ -53,19 +53,14 @@ fn carriage_here(numbers: &[i64]) -> bool
     requires { (length numbers.now ≡ state_numbers) × ValidSettings (settings_at numbers.now) }
     ensures { result ≡ S.carriage_sound (settings_at numbers.now) (row_at numbers.now position_place) (row_at numbers.now pen_place) (row_at numbers.now polygon_place) (row_at numbers.now first_place) (row_at numbers.now saved_place) (row_at numbers.now memory_place) }
 {
-    let s = settings_at(numbers);
-    let polygon = row_at(numbers, POLYGON);
-    let first = row_at(numbers, FIRST);
-    let saved = row_at(numbers, SAVED);
-    let memory = row_at(numbers, MEMORY);
     carriage_sound(
-        s,
+        settings_at(numbers),
         row_at(numbers, POSITION),
         row_at(numbers, PEN),
-        polygon,
-        first,
-        saved,
-        memory,
+        row_at(numbers, POLYGON),
+        row_at(numbers, FIRST),
+        row_at(numbers, SAVED),
+        row_at(numbers, MEMORY),
     )
 }
 
@@ -99,12 +94,10 @@ fn edges_here(numbers: &[i64]) -> bool
     requires { length numbers.now ≡ state_numbers }
     ensures { result ≡ S.edges_sound numbers.now edges_place 112 }
 {
-    let mut i = 0;
-    while i < MOST_EDGES {
+    for i in 0..MOST_EDGES {
         if !box_sound(row_at(numbers, EDGES + i * ROW)) {
             return false;
         }
-        i += 1;
     }
     true
 }

@@ -42,13 +42,5 @@ pub fn placed(s: Settings, p: Position) -> bool
     requires { ValidSettings s }
     ensures { result ≡ S.placed_of s p }
 {
-    let px = p.x;
-    let py = p.y;
-    if locatable(axis_x(s), px) {
-        if locatable(axis_y(s), py) {
-            return reachable(located(s, p));
-        }
-        return false;
-    }
-    false
+    locatable(axis_x(s), p.x) && locatable(axis_y(s), p.y) && reachable(located(s, p))
 }

@@ -26,13 +26,7 @@ fn limits_sound(r: Row) -> bool
         d: 32_768,
         e: LAST_TURN,
     };
-    if between(low, r, high) {
-        if r.a < r.c {
-            return r.b < r.d;
-        }
-        return false;
-    }
-    false
+    between(low, r, high) && r.a < r.c && r.b < r.d
 }
 
 fn corners_sound(r: Row) -> bool
@@ -52,16 +46,7 @@ fn corners_sound(r: Row) -> bool
         d: 32_768,
         e: 0,
     };
-    if between(low, r, high) {
-        if r.a == r.c {
-            return false;
-        }
-        if r.b == r.d {
-            return false;
-        }
-        return true;
-    }
-    false
+    between(low, r, high) && r.a != r.c && r.b != r.d
 }
 
 fn scale_sound(r: Row) -> bool
@@ -81,19 +66,7 @@ fn scale_sound(r: Row) -> bool
         d: 327_680_000,
         e: 1,
     };
-    if between(low, r, high) {
-        if r.e == 0 {
-            return true;
-        }
-        if r.a == r.b {
-            return false;
-        }
-        if r.c == r.d {
-            return false;
-        }
-        return true;
-    }
-    false
+    between(low, r, high) && (r.e == 0 || r.a != r.b && r.c != r.d)
 }
 
 // A window, or an edge.
@@ -120,14 +93,5 @@ pub fn box_sound(r: Row) -> bool
 pub fn settings_sound(limits: Row, corners: Row, scale: Row, window: Row) -> bool
     ensures { result ≡ S.settings_sound limits corners scale window }
 {
-    if limits_sound(limits) {
-        if corners_sound(corners) {
-            if scale_sound(scale) {
-                return box_sound(window);
-            }
-            return false;
-        }
-        return false;
-    }
-    false
+    limits_sound(limits) && corners_sound(corners) && scale_sound(scale) && box_sound(window)
 }

@@ -10,46 +10,31 @@ use rows::Row;
 fn inside(low: i64, z: i64, high: i64) -> bool
     ensures { result ≡ ((low ≤? z) && (z ≤? high)) }
 {
-    if low <= z {
-        return z <= high;
-    }
-    false
+    low <= z && z <= high
 }
 
 fn first_between(low: Row, r: Row, high: Row) -> bool
     ensures { result ≡ (S.first_below low r && S.first_below r high) }
 {
-    if inside(low.a, r.a, high.a) {
-        return inside(low.b, r.b, high.b);
-    }
-    false
+    inside(low.a, r.a, high.a) && inside(low.b, r.b, high.b)
 }
 
 fn end_between(low: Row, r: Row, high: Row) -> bool
     ensures { result ≡ (((low.d ≤? r.d) && (low.e ≤? r.e)) && ((r.d ≤? high.d) && (r.e ≤? high.e))) }
 {
-    if inside(low.d, r.d, high.d) {
-        return inside(low.e, r.e, high.e);
-    }
-    false
+    inside(low.d, r.d, high.d) && inside(low.e, r.e, high.e)
 }
 
 fn last_between(low: Row, r: Row, high: Row) -> bool
     ensures { result ≡ (S.last_below low r && S.last_below r high) }
 {
-    if inside(low.c, r.c, high.c) {
-        return end_between(low, r, high);
-    }
-    false
+    inside(low.c, r.c, high.c) && end_between(low, r, high)
 }
 
 pub fn between(low: Row, r: Row, high: Row) -> bool
     ensures { result ≡ S.between_of low r high }
 {
-    if first_between(low, r, high) {
-        return last_between(low, r, high);
-    }
-    false
+    first_between(low, r, high) && last_between(low, r, high)
 }
 
 // Whether a row is of zeros.

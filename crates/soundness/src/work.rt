@@ -37,12 +37,7 @@ fn round(o: Circle, i: u16, n: u16) -> bool
 fn blanks(across: Row, along: Row, start: Row) -> bool
     ensures { result ≡ S.blanks_sound across along start }
 {
-    if blank(across) {
-        if blank(along) {
-            return blank(start);
-        }
-    }
-    false
+    blank(across) && blank(along) && blank(start)
 }
 
 fn line_sound(r: Row, across: Row, along: Row, start: Row) -> bool
@@ -62,10 +57,7 @@ fn line_sound(r: Row, across: Row, along: Row, start: Row) -> bool
         d: 1_000_000,
         e: 1,
     };
-    if between(low, r, high) {
-        return blanks(across, along, start);
-    }
-    false
+    between(low, r, high) && blanks(across, along, start)
 }
 
 fn chords_sound(r: Row, across: Row, along: Row, start: Row) -> bool
@@ -142,25 +134,14 @@ fn start_sound(r: Row) -> bool
         d: 0,
         e: 0,
     };
-    if !between(low, r, high) {
-        return false;
-    }
-    if r.c == 0 {
-        return false;
-    }
-    true
+    between(low, r, high) && r.c != 0
 }
 
 // Both axes of a circle, and its start.
 fn ring_sound(across: Row, along: Row, start: Row) -> bool
     ensures { result ≡ S.ring_sound across along start }
 {
-    if centre_sound(across) {
-        if centre_sound(along) {
-            return start_sound(start);
-        }
-    }
-    false
+    centre_sound(across) && centre_sound(along) && start_sound(start)
 }
 
 fn outline_sound(r: Row, across: Row, along: Row, start: Row) -> bool
@@ -180,13 +161,7 @@ fn outline_sound(r: Row, across: Row, along: Row, start: Row) -> bool
         d: 0,
         e: 3,
     };
-    if !between(low, r, high) {
-        return false;
-    }
-    if !sum_below(r, high) {
-        return false;
-    }
-    blanks(across, along, start)
+    between(low, r, high) && sum_below(r, high) && blanks(across, along, start)
 }
 
 // How many numbers a reply has: one, three or four.
@@ -207,13 +182,7 @@ fn count_sound(r: Row) -> bool
         d: 0,
         e: 0,
     };
-    if !between(low, r, high) {
-        return false;
-    }
-    if r.a == 2 {
-        return false;
-    }
-    true
+    between(low, r, high) && r.a != 2
 }
 
 fn reply_sound(r: Row, across: Row, along: Row, start: Row) -> bool
@@ -233,21 +202,13 @@ fn reply_sound(r: Row, across: Row, along: Row, start: Row) -> bool
         d: 1_000_000,
         e: 4,
     };
-    if !between(low, r, high) {
-        return false;
-    }
-    if !count_sound(across) {
-        return false;
-    }
-    if blank(along) {
-        return blank(start);
-    }
-    false
+    between(low, r, high) && count_sound(across) && blank(along) && blank(start)
 }
 
 pub fn work_sound(r: Row, across: Row, along: Row, start: Row) -> bool
     ensures { result ≡ S.work_sound r across along start }
 {
+    // one test after the other: the arms of a match on a signed number tell the proof nothing by name
     if r.e == 1 {
         return line_sound(r, across, along, start);
     }
@@ -260,10 +221,7 @@ pub fn work_sound(r: Row, across: Row, along: Row, start: Row) -> bool
     if r.e == 4 {
         return reply_sound(r, across, along, start);
     }
-    if blank(r) {
-        return blanks(across, along, start);
-    }
-    false
+    blank(r) && blanks(across, along, start)
 }
 
 // Whether the pen is not 0, or no segment waits: a reply is none.

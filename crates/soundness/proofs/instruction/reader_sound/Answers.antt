@@ -1,25 +1,13 @@
--- The proof of `reader_sound`.
-use mathlib.Core.Path.{◌≡◌, refl, sym, ◌∙◌}
-use mathlib.Core.Bool.{true, false}
-use Rattle.wellformed.specs.Sound.{place_sound, numbers_sound, reader_sound}
+-- The proof of `reader_sound`: by its tests.
+use Rattle.std.proofs.Common.{rules}
+use Rattle.wellformed.specs.Sound.{reader_sound}
 use Rattle.soundness.proofs.instruction.reader_sound.Goals as goal
+use Rattle.soundness.proofs.instruction.reader_sound.Goals.{then-place_sound, else-place_sound}
 
 pub returns-then-numbers_sound : goal.returns-then-numbers_sound
 unfolding reader_sound
-returns-then-numbers_sound c =
-    let e1 : place_sound c.args.place ≡ true = sym c.place_sound.ensures ∙ c.if-place_sound.true in
-    let e2 : numbers_sound c.args.numbers ≡ true = sym c.numbers_sound.ensures ∙ c.if-numbers_sound.true in
-    rw (e1, e2) c.number_sound.ensures
+returns-then-numbers_sound c = elim c.if-place_sound.branch [ then-place_sound w ↦ search rules | else-place_sound w ↦ search rules ]
 
-pub returns-then-place_sound : goal.returns-then-place_sound
+pub returns-else-numbers_sound : goal.returns-else-numbers_sound
 unfolding reader_sound
-returns-then-place_sound c =
-    let e1 : place_sound c.args.place ≡ true = sym c.place_sound.ensures ∙ c.if-place_sound.true in
-    let e2 : numbers_sound c.args.numbers ≡ false = sym c.numbers_sound.ensures ∙ c.if-numbers_sound.false in
-    rw (e1, e2) refl
-
-pub returns : goal.returns
-unfolding reader_sound
-returns c =
-    let e1 : place_sound c.args.place ≡ false = sym c.place_sound.ensures ∙ c.if-place_sound.false in
-    rw (e1) refl
+returns-else-numbers_sound c = elim c.if-place_sound.branch [ then-place_sound w ↦ search rules | else-place_sound w ↦ search rules ]

@@ -1,5 +1,5 @@
 -- The proof of `between`.
-use mathlib.Core.Path.{refl, sym, ◌∙◌}
+use mathlib.Core.Path.{sym, ◌∙◌}
 use Rattle.wellformed.specs.Sound.{below_of, between_of}
 use Rattle.soundness.proofs.Pairs.{pairs}
 use Rattle.soundness.proofs.tests.between.Goals as goal
@@ -9,7 +9,7 @@ unfolding between_of below_of
 returns-then-first_between c =
     rw (pairs _ _ _ _, sym c.first_between.ensures ∙ c.if-first_between.true) c.last_between.ensures
 
-pub returns : goal.returns
+pub returns-else-first_between : goal.returns-else-first_between
 unfolding between_of below_of
-returns c =
-    rw (pairs _ _ _ _, sym c.first_between.ensures ∙ c.if-first_between.false) refl
+returns-else-first_between c =
+    rw (pairs _ _ _ _, sym c.first_between.ensures ∙ c.if-first_between.false) c.if-first_between.false

@@ -1,6 +1,6 @@
 -- The proof of `end_between`.
 use borrow.Author.Rules.{rules}
-use mathlib.Core.Path.{refl, sym, ◌∙◌}
+use mathlib.Core.Path.{sym, ◌∙◌}
 use mir.Syntax.{w64}
 use mir.Val.{SFits}
 use Rattle.soundness.proofs.Pairs.{pairs, read}
@@ -20,13 +20,13 @@ its-e s = (search rules, search rules, search rules)
 
 pub returns-then-inside : goal.returns-then-inside
 returns-then-inside c =
-    let s = c.before.before.before.before.before.before.before.before.before in
+    let s : Start = search in
     let d = its-d s in
     let e = its-e s in
     rw (pairs _ _ _ _, sym (c.inside.ensures ∙ read d.0 d.1 d.2) ∙ c.if-inside.true) (c.inside-then-inside.ensures ∙ read e.0 e.1 e.2)
 
-pub returns : goal.returns
-returns c =
-    let s = c.before.before.before.before.before in
+pub returns-else-inside : goal.returns-else-inside
+returns-else-inside c =
+    let s : Start = search in
     let d = its-d s in
-    rw (pairs _ _ _ _, sym (c.inside.ensures ∙ read d.0 d.1 d.2) ∙ c.if-inside.false) refl
+    rw (pairs _ _ _ _, sym (c.inside.ensures ∙ read d.0 d.1 d.2) ∙ c.if-inside.false) c.if-inside.false

@@ -1,6 +1,6 @@
 -- The proof of `first_between`.
 use borrow.Author.Rules.{rules}
-use mathlib.Core.Path.{refl, sym, ◌∙◌}
+use mathlib.Core.Path.{sym, ◌∙◌}
 use mir.Syntax.{w64}
 use mir.Val.{SFits}
 use Rattle.wellformed.specs.Sound.{first_below}
@@ -22,14 +22,14 @@ its-b s = (search rules, search rules, search rules)
 pub returns-then-inside : goal.returns-then-inside
 unfolding first_below
 returns-then-inside c =
-    let s = c.before.before.before.before.before.before.before.before.before in
+    let s : Start = search in
     let a = its-a s in
     let b = its-b s in
     rw (pairs _ _ _ _, sym (c.inside.ensures ∙ read a.0 a.1 a.2) ∙ c.if-inside.true) (c.inside-then-inside.ensures ∙ read b.0 b.1 b.2)
 
-pub returns : goal.returns
+pub returns-else-inside : goal.returns-else-inside
 unfolding first_below
-returns c =
-    let s = c.before.before.before.before.before in
+returns-else-inside c =
+    let s : Start = search in
     let a = its-a s in
-    rw (pairs _ _ _ _, sym (c.inside.ensures ∙ read a.0 a.1 a.2) ∙ c.if-inside.false) refl
+    rw (pairs _ _ _ _, sym (c.inside.ensures ∙ read a.0 a.1 a.2) ∙ c.if-inside.false) c.if-inside.false

@@ -22,10 +22,10 @@ high s = search rules
 
 pub returns-then-low-z : goal.returns-then-low-z
 returns-then-low-z c =
-    let s = c.before in
+    let s : Start = search in
     rw (le?-is (arg w64 (low s)) (arg w64 (here s)) c.if-low-z.true) (sym (le?-is (arg w64 (here s)) (arg w64 (high s)) refl))
 
-pub returns : goal.returns
-returns c =
-    let s = c.before in
-    rw (le?-is (arg w64 (low s)) (arg w64 (here s)) c.if-low-z.false) refl
+pub returns-else-low-z : goal.returns-else-low-z
+returns-else-low-z c =
+    let s : Start = search in
+    rw (le?-is (arg w64 (low s)) (arg w64 (here s)) c.if-low-z.false) c.if-low-z.false

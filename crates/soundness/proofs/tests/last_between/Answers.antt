@@ -1,6 +1,6 @@
 -- The proof of `last_between`.
 use borrow.Author.Rules.{rules}
-use mathlib.Core.Path.{refl, sym, ◌∙◌}
+use mathlib.Core.Path.{sym, ◌∙◌}
 use mir.Syntax.{w64}
 use mir.Val.{SFits}
 use Rattle.wellformed.specs.Sound.{last_below}
@@ -19,13 +19,13 @@ its-c s = (search rules, search rules, search rules)
 pub returns-then-inside : goal.returns-then-inside
 unfolding last_below
 returns-then-inside c =
-    let s = c.before.before.before.before.before.before in
+    let s : Start = search in
     let d = its-c s in
     rw (pairs _ _ _ _, sym (c.inside.ensures ∙ read d.0 d.1 d.2) ∙ c.if-inside.true) c.end_between.ensures
 
-pub returns : goal.returns
+pub returns-else-inside : goal.returns-else-inside
 unfolding last_below
-returns c =
-    let s = c.before.before.before.before.before in
+returns-else-inside c =
+    let s : Start = search in
     let d = its-c s in
-    rw (pairs _ _ _ _, sym (c.inside.ensures ∙ read d.0 d.1 d.2) ∙ c.if-inside.false) refl
+    rw (pairs _ _ _ _, sym (c.inside.ensures ∙ read d.0 d.1 d.2) ∙ c.if-inside.false) c.if-inside.false

@@ -85,8 +85,8 @@ returns-then-blank c =
     let e : blank_sound (S t).args.r ≡ true = sym c.blank.ensures ∙ c.if-blank.true in
     c.blanks.ensures ∙ sym (none t ∙ ap (λ (b : Bool). b && blanks_sound (S t).args.across (S t).args.along (S t).args.start) e)
 
-pub returns : goal.returns
-returns c =
+pub returns-else-blank : goal.returns-else-blank
+returns-else-blank c =
     let t = c.before.before in
     let e : blank_sound (S t).args.r ≡ false = sym c.blank.ensures ∙ c.if-blank.false in
-    sym (none t ∙ ap (λ (b : Bool). b && blanks_sound (S t).args.across (S t).args.along (S t).args.start) e)
+    c.if-blank.false ∙ sym (none t ∙ ap (λ (b : Bool). b && blanks_sound (S t).args.across (S t).args.along (S t).args.start) e)
