@@ -80,9 +80,8 @@ pub struct Gathered {
 fn answered(g: Stopped) -> Gathered
     ensures { result ≡ gathered_by g }
 {
-    let state = g.state;
     Gathered {
-        machine: Machine { state: state },
+        machine: Machine { state: g.state },
         at: g.at,
         stored: g.stored,
         number: g.number,
@@ -95,21 +94,21 @@ impl Machine {
         ensures { result ≡ started_of (M.rect left bottom right top) }
     {
         let hard = Rect {
-            left: left,
-            bottom: bottom,
-            right: right,
-            top: top,
+            left,
+            bottom,
+            right,
+            top,
         };
-        let state = fresh_state(hard);
+        let machine = Machine {
+            state: fresh_state(hard),
+        };
         if good_limits(hard) {
-            return Started {
-                machine: Machine { state: state },
-                number: 0,
-            };
-        }
-        Started {
-            machine: Machine { state: state },
-            number: BAD_LIMITS,
+            Started { machine, number: 0 }
+        } else {
+            Started {
+                machine,
+                number: BAD_LIMITS,
+            }
         }
     }
 
@@ -118,20 +117,17 @@ impl Machine {
         requires { Usable self.state }
         ensures { result ≡ taken_of self.state byte }
     {
-        let m = self.state;
-        let work = m.work;
-        if waiting(work) == 0 {
-            let one = [byte; 1];
-            let ran = self.run(&one, 0);
-            let machine = ran.machine;
-            return Taken {
-                machine: machine,
+        if waiting(self.state.work) == 0 {
+            let ran = self.run(&[byte], 0);
+            Taken {
+                machine: ran.machine,
                 number: ran.number,
-            };
-        }
-        Taken {
-            machine: self,
-            number: BUSY,
+            }
+        } else {
+            Taken {
+                machine: self,
+                number: BUSY,
+            }
         }
     }
 
@@ -142,24 +138,15 @@ impl Machine {
         ensures drawn_value { drawn_values result.drawn ≡ draw_values self.state }
     {
         let m = self.state;
-        let reader = m.reader;
-        let core = m.core;
-        let store = m.store;
-        let work = m.work;
         let sines = table();
-        let edge = store.edges[edge_place(work)];
-        let drawn = draw_first(core, edge, work, &sines);
-        let rest = work_after(work);
+        let edge = m.store.edges[edge_place(m.work)];
+        let drawn = draw_first(m.core, edge, m.work, &sines);
+        let work = work_after(m.work);
         Worked {
             machine: Machine {
-                state: State {
-                    reader: reader,
-                    core: core,
-                    store: store,
-                    work: rest,
-                },
+                state: State { work, ..m },
             },
-            drawn: drawn,
+            drawn,
         }
     }
 
@@ -169,12 +156,9 @@ impl Machine {
         ensures { result ≡ segment_of self.state }
     {
         let m = self.state;
-        let core = m.core;
-        let store = m.store;
-        let work = m.work;
         let sines = table();
-        let edge = store.edges[edge_place(work)];
-        first_segment(core, edge, work, &sines)
+        let edge = m.store.edges[edge_place(m.work)];
+        first_segment(m.core, edge, m.work, &sines)
     }
 
     // Where the carriage is, and with what. It changes nothing.
@@ -182,19 +166,13 @@ impl Machine {
         requires { Usable self.state }
         ensures { result ≡ M.look_at self.state }
     {
-        let m = self.state;
-        let core = m.core;
-        let settings = core.settings;
-        let carriage = core.carriage;
-        let position = carriage.position;
-        let pen = carriage.pen;
-        let polygon = carriage.polygon;
-        let location = located(settings, position);
+        let carriage = self.state.core.carriage;
+        let location = located(self.state.core.settings, carriage.position);
         Look {
-            location: location,
-            pen: pen.number,
-            down: pen.down,
-            bytes: polygon.bytes,
+            location,
+            pen: carriage.pen.number,
+            down: carriage.pen.down,
+            bytes: carriage.polygon.bytes,
         }
     }
 
@@ -205,8 +183,7 @@ impl Machine {
         ensures out_after { out.new ≡ M.fetch_out self.state out.old }
     {
         let m = self.state;
-        let work = m.work;
-        let w = fetch(work, out);
+        let w = fetch(m.work, out);
         if w.length == 0 {
             return Fetched {
                 machine: self,
@@ -214,16 +191,11 @@ impl Machine {
                 number: w.number,
             };
         }
-        let reader = m.reader;
-        let core = m.core;
-        let store = m.store;
         Fetched {
             machine: Machine {
                 state: State {
-                    reader: reader,
-                    core: core,
-                    store: store,
                     work: Work::Nothing,
+                    ..m
                 },
             },
             length: w.length,
@@ -236,20 +208,19 @@ impl Machine {
         requires { Usable self.state }
         ensures { result ≡ run_of self.state (drop from bytes.now) from }
     {
-        let m = self.state;
         // with no room for a stroke, feed stops where a segment waits
         let mut none = [0; 1];
-        let g = gather(m, bytes, from, &mut none, false);
-        let state = g.state;
+        let g = gather(self.state, bytes, from, &mut none, false);
+        let machine = Machine { state: g.state };
         if g.number == LIST_FULL {
             return Ran {
-                machine: Machine { state: state },
+                machine,
                 at: g.at,
                 number: 0,
             };
         }
         Ran {
-            machine: Machine { state: state },
+            machine,
             at: g.at,
             number: g.number,
         }
@@ -261,18 +232,17 @@ impl Machine {
         ensures value { result ≡ gathered_of (feed_from self.state (drop from bytes.now) from (length numbers.old / 5)) }
         ensures numbers_after { numbers.new ≡ laid_numbers (feed_from self.state (drop from bytes.now) from (length numbers.old / 5)).strokes numbers.old }
     {
-        let m = self.state;
-        answered(gather(m, bytes, from, numbers, false))
+        answered(gather(self.state, bytes, from, numbers, false))
     }
 
     // A feed that goes on after a refused byte, and stores the refusal among the strokes: 0, its number, its place counted from 1, 0, 0.
+    #[tactic(auto, unfolding(gathering::specs::Gather::gather_from))]
     pub fn plot(self, bytes: &[u8], from: usize, numbers: &mut [i64]) -> Gathered
         requires { Usable self.state }
         ensures value { result ≡ plotted_of (plot_from self.state (drop from bytes.now) from (length numbers.old / 5)) }
         ensures numbers_after { numbers.new ≡ laid_marks (plot_from self.state (drop from bytes.now) from (length numbers.old / 5)).marks numbers.old }
     {
-        let m = self.state;
-        answered(gather(m, bytes, from, numbers, true))
+        answered(gather(self.state, bytes, from, numbers, true))
     }
 
     // Writes the machine over a lent list of numbers, as a caller in another language keeps it.
@@ -280,8 +250,7 @@ impl Machine {
         requires { Usable self.state × (length numbers.old ≡ state_numbers) }
         ensures { numbers.new ≡ saved_of self.state }
     {
-        let m = self.state;
-        save(m, numbers);
+        save(self.state, numbers);
     }
 
     // The machine that a list of numbers holds, which has to be one that may be used, as those are that `save` writes. The crate soundness decides it of any list.

@@ -10,8 +10,8 @@ use Rattle.queue.specs.First.{place-within}
 use Rattle.queue.specs.Corners.{first_segment, first-segment}
 use Rattle.machine.proofs.Machine.segment.Goals as goal
 
-pub bounds-store-edge_place : goal.bounds-store-edge_place
-bounds-store-edge_place c =
+pub bounds-m-edge_place : goal.bounds-m-edge_place
+bounds-m-edge_place c =
     let h = place-within c.args.self.state.work c.requires.valid.work in
     omega (arith, h, c.edge_place.ensures)
 
@@ -26,7 +26,7 @@ returns c =
     let m = c.args.self.state in
     c.first_segment.ensures ∙ ap (λ (k : ℕ). first_segment m.core.settings (get_or m.store.edges k no_edge) m.work) c.edge_place.ensures ∙ first-segment m m.work
 
-pub offset_bounds-store-edge_place : goal.offset_bounds-store-edge_place
-offset_bounds-store-edge_place c =
+pub offset_bounds-m-edge_place : goal.offset_bounds-m-edge_place
+offset_bounds-m-edge_place c =
     let h = place-within c.args.self.state.work c.requires.valid.work in
     record { fits = omega (arith, h, c.edge_place.ensures) }

@@ -17,7 +17,7 @@ returns-then-waiting-eq0 c =
     let k = run-one c.args.self.state c.args.byte (sym c.waiting.ensures ∙ c.if-waiting-eq0.true) in
     ap taken c.run-ran.ensures ∙ (λ i. record { machine = record { state = k.0 i }; number = k.1 i })
 
-pub returns : goal.returns
+pub returns-else-waiting-eq0 : goal.returns-else-waiting-eq0
 unfolding taken_of M.take_state M.take_number M.occupied
-returns c =
+returns-else-waiting-eq0 c =
     rw (ne_eqb _ _ (λ e. c.if-waiting-eq0.false (c.waiting.ensures ∙ e))) refl
