@@ -1,4 +1,5 @@
 // Whole numbers as decimal text in a lent buffer, and any text byte by byte. specs/Decimal.antt has the text of each, specs/Puts.antt what it is to put one.
+// No `impl Write` and no struct of the buffer and the place in it: `fmt` allocates or promises no text, and each put_ function says by `Puts` where the text stands in the buffer that C lends.
 #![tactic(auto)]
 
 ghost use Rattle.std.specs.Prelude.{◌∷◌, [], ◌≡◌, ◌+◌, ◌<◌, ◌≤◌, nat_abs, length};
@@ -79,10 +80,8 @@ pub fn put_text(out: &mut [u8], at: usize, text: &[u8]) -> usize
     ensures { Puts text.now out.old out.new at result }
 {
     let mut end = at;
-    let mut i = 0;
-    while i < text.len() {
-        end = put_byte(out, end, text[i]);
-        i += 1;
+    for byte in text {
+        end = put_byte(out, end, *byte);
     }
     end
 }
@@ -105,20 +104,14 @@ pub fn put_natural(out: &mut [u8], at: usize, n: u64, byte: u8) -> usize
 pub fn size(z: i64) -> u64
     ensures { result ≡ nat_abs z }
 {
-    if z < 0 {
-        return (-1 - z) as u64 + 1;
-    }
-    z as u64
+    z.unsigned_abs()
 }
 
 // How many bytes a number's sign takes.
 fn sign_length(z: i64) -> usize
     ensures { result ≡ length (sign z) }
 {
-    if z < 0 {
-        return 1;
-    }
-    0
+    usize::from(z < 0)
 }
 
 // Any number, and the byte after it.

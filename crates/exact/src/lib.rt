@@ -9,7 +9,7 @@ ghost use Rattle.exact.specs.Int16 as I;
 ghost use Rattle.exact.specs.Divide.{floor_div, nearest_div};
 ghost use Rattle.exact.specs.Steps.{mirrored_of};
 
-// a, or -1 - a: a number below 0 and its mirror image above it have mirrored floors. It makes no branch: signs come in no order that a processor could foresee.
+// a, or -1 - a: a number below 0 and its mirror image above it have mirrored floors. It makes no branch, as std's div_euclid does: signs come in no order that a processor could foresee.
 fn mirrored(below: bool, a: i64) -> i64
     ensures { result ≡ mirrored_of below a }
 {
@@ -52,11 +52,9 @@ const LEAST: i64 = -32768;
 const MOST: i64 = 32767;
 
 // Whether a number is one of them.
+#[tactic(auto, using(crate::proofs::Rules::rules64), unfolding(crate::specs::Int16::int16))]
 pub fn int16(z: i64) -> bool
     ensures { result ≡ I.int16 z }
 {
-    if LEAST <= z {
-        return z <= MOST;
-    }
-    false
+    LEAST <= z && z <= MOST
 }

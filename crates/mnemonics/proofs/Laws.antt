@@ -1,4 +1,4 @@
--- Facts that the functions' proofs cite: the search of the table, and the instructions that take pairs.
+-- Facts that the functions' proofs cite: the search of the table where no name begins so, and the instructions that take pairs.
 use mathlib.Core.Path.{◌≡◌, refl, sym, ◌∙◌}
 use mathlib.Core.Bool.{Bool, true, false, cond, true≢false}
 use Prim.Native.Nat.{ℕ, zero, suc, ◌+◌, ◌-◌, ◌%◌, ◌≤◌, ◌<◌}
@@ -6,39 +6,24 @@ use native.Mathlib.Nat.{sub-zero}
 use native.Mathlib.Omega.{arith}
 use borrow.Author.Tests.{ltb-true, ltb-false, le-ltb, le-leb}
 use lib.Dec.{ltb→lt, leb, ltb, eqb}
-use Rattle.mnemonics.specs.declared.Found.TheVariants.{At, Nowhere}
+use Rattle.std.specs.Prelude.{None, Some}
 use Rattle.mnemonics.specs.Table.{PU, PD, PA, PR, IN, rows, first_letter, step, any, cell_of, named_of, find_from, find_of, begins_from, begins_name, count_fits, has_room, takes_pairs}
 use Rattle.mnemonics.specs.Every.{every-at, same, same-equal}
 
--- The search of n instructions from place i on: it ends at i, or goes on after it.
-pub find-here : (a b i n : ℕ) → 0 < n → named_of i a b ≡ true → find_from a b i n ≡ At i
-unfolding find_from
-find-here a b i zero h e = absurd (omega arith)
-find-here a b i (suc n) h e = simp e
-
-pub find-later : (a b i n : ℕ) → named_of i a b ≡ false → find_from a b i (suc n) ≡ find_from a b (i + 1) n
-unfolding find_from
-find-later a b i n e = simp e
-
 -- It finds nothing where no name begins with the first letter.
-none_from : (a b i n : ℕ) → begins_from a i n ≡ false → find_from a b i n ≡ Nowhere
+none_from : (a b i n : ℕ) → begins_from a i n ≡ false → find_from a b i n ≡ None
 unfolding find_from begins_from named_of cell_of
 none_from a b i zero e = refl
 none_from a b i (suc n) e = go (eqb (cell_of i first_letter) a) refl e (none_from a b (i + 1) n)
   where
-    go : (t : Bool) → eqb (cell_of i first_letter) a ≡ t → cond t true (begins_from a (i + 1) n) ≡ false → (begins_from a (i + 1) n ≡ false → find_from a b (i + 1) n ≡ Nowhere) →
-        find_from a b i (suc n) ≡ Nowhere
+    go : (t : Bool) → eqb (cell_of i first_letter) a ≡ t → cond t true (begins_from a (i + 1) n) ≡ false → (begins_from a (i + 1) n ≡ false → find_from a b (i + 1) n ≡ None) →
+        find_from a b i (suc n) ≡ None
     go true h k later = absurd (true≢false k)
     go false h k later = rw h (later k)
 
-pub none-begins : (a b : ℕ) → begins_name a ≡ false → find_of a b ≡ Nowhere
+pub none-begins : (a b : ℕ) → begins_name a ≡ false → find_of a b ≡ None
 unfolding find_of begins_name
 none-begins a b e = none_from a b 0 rows e
-
--- The divisor of a count.
-pub step-above-0 : (op : ℕ) → op < rows → 0 < cell_of op step
-unfolding cell_of
-step-above-0 op h = ltb→lt 0 (cell_of op step) (every-at (λ i. ltb 0 (cell_of i step)) rows tt op h)
 
 -- Pairs are taken by the first four of the table, and by no other. What holds of their rows holds of each that takes them.
 pub pairs_first : (op : ℕ) → takes_pairs op ≡ ltb op IN

@@ -1,11 +1,9 @@
 -- The documents' own sentences on the instructions, written out a second time beside the table: what is looked up in it is what they say, for every
 -- instruction and every count that a byte holds, by computation.
-use Rattle.std.specs.Prelude.{◌≡◌, refl, Bool, true, false, cond, ◌&&◌, ◌||◌, List, [], ◌∷◌, ℕ, zero, suc, ◌+◌, ◌%◌, ◌<◌, T, ltb, eqb}
+use Rattle.std.specs.Prelude.{◌≡◌, refl, Bool, true, false, cond, ◌&&◌, ◌||◌, List, [], ◌∷◌, ℕ, zero, suc, ◌+◌, ◌%◌, ◌<◌, T, ltb, eqb, Option, None, Some}
 use Rattle.std.proofs.Common.{sym, ltb-true, ltb-false}
 use Prim.Native.Char.{code}
 use Prim.Native.String.{String, char_at}
-use Rattle.mnemonics.specs.declared.Found.{Found}
-use Rattle.mnemonics.specs.declared.Found.TheVariants.{At, Nowhere}
 use Rattle.mnemonics.specs.Table.{IN, DF, EP, IP, SC, IW, RO, SP, PM, CI, EA, ER, PU, PD, PA, PR, AA, AR, OA, OP, OW, OH, OE, rows, most, polygon, settings, any, cell_of, named_of, find_from, find_of, is_label, count_fits, has_room, takes_pairs, known_in_polygon, changes_settings}
 use Rattle.mnemonics.specs.Every.{every, every-at, same, same-equal}
 use Rattle.mnemonics.specs.Among.{among, below, beyond}
@@ -86,12 +84,12 @@ sets-said = agree-one (λ op. eqb (cell_of op settings) 1) sets tt tt
 
 -- ---- names: each is found at its code, and of all pairs of capitals no more than twenty-three name an instruction; LB alone is a label
 
-abbrev find : String → Found
+abbrev find : String → Option ℕ
 find s = find_of (code (char_at s 0)) (code (char_at s 1))
 
-abbrev one : Found → ℕ
-one (At op) = 1
-one Nowhere = 0
+abbrev one : Option ℕ → ℕ
+one (Some op) = 1
+one None = 0
 
 abbrev label : Bool → ℕ
 label true = 1
@@ -108,7 +106,7 @@ all f = sum (λ a. sum (f a) 26) 26
 pub record Names : Type 0 where
   pub found :
       find "IN" ∷ find "DF" ∷ find "EP" ∷ find "IP" ∷ find "SC" ∷ find "IW" ∷ find "RO" ∷ find "SP" ∷ find "PM" ∷ find "CI" ∷ find "EA" ∷ find "ER" ∷ find "PU" ∷ find "PD" ∷ find "PA" ∷ find "PR" ∷ find "AA" ∷ find "AR" ∷ find "OA" ∷ find "OP" ∷ find "OW" ∷ find "OH" ∷ find "OE" ∷ []
-      ≡ At IN ∷ At DF ∷ At EP ∷ At IP ∷ At SC ∷ At IW ∷ At RO ∷ At SP ∷ At PM ∷ At CI ∷ At EA ∷ At ER ∷ At PU ∷ At PD ∷ At PA ∷ At PR ∷ At AA ∷ At AR ∷ At OA ∷ At OP ∷ At OW ∷ At OH ∷ At OE ∷ []
+      ≡ Some IN ∷ Some DF ∷ Some EP ∷ Some IP ∷ Some SC ∷ Some IW ∷ Some RO ∷ Some SP ∷ Some PM ∷ Some CI ∷ Some EA ∷ Some ER ∷ Some PU ∷ Some PD ∷ Some PA ∷ Some PR ∷ Some AA ∷ Some AR ∷ Some OA ∷ Some OP ∷ Some OW ∷ Some OH ∷ Some OE ∷ []
   pub no_more : all (λ a b. one (find_of a b)) ≡ 23
   pub label-found : is_label (code "L") (code "B") ≡ true
   pub no-more-labels : all (λ a b. label (is_label a b)) ≡ 1

@@ -1,8 +1,6 @@
 -- The table of instructions, row by row as in the source, and what is looked up in it.
-use Rattle.std.specs.Prelude.{ℕ, zero, suc, ◌+◌, ◌-◌, ◌%◌, Bool, true, false, cond, List, [], ◌∷◌, get_or, leb, ltb, eqb}
+use Rattle.std.specs.Prelude.{ℕ, zero, suc, ◌+◌, ◌-◌, ◌%◌, Bool, true, false, cond, List, [], ◌∷◌, get_or, leb, ltb, eqb, Option, None, Some}
 use Prim.Native.Char.{Char, code}
-use Rattle.mnemonics.specs.declared.Found.{Found}
-use Rattle.mnemonics.specs.declared.Found.TheVariants.{At, Nowhere}
 
 -- An instruction's code is its place in the table. The four that take pairs come first; another instruction is another row at the end, so that no code changes.
 abbrev pub PU : ℕ
@@ -150,11 +148,11 @@ unfoldable pub named_of : ℕ → ℕ → ℕ → Bool
 named_of op a b = names_of (row_of op) a b
 
 -- The instruction that two letters name, of n from place i on.
-unfoldable pub find_from : ℕ → ℕ → ℕ → ℕ → Found
-find_from a b i zero = Nowhere
-find_from a b i (suc n) = cond (named_of i a b) (At i) (find_from a b (i + 1) n)
+unfoldable pub find_from : ℕ → ℕ → ℕ → ℕ → Option ℕ
+find_from a b i zero = None
+find_from a b i (suc n) = cond (named_of i a b) (Some i) (find_from a b (i + 1) n)
 
-unfoldable pub find_of : ℕ → ℕ → Found
+unfoldable pub find_of : ℕ → ℕ → Option ℕ
 find_of a b = find_from a b 0 rows
 
 -- Whether a name of the table begins with this letter, of n from place i on.

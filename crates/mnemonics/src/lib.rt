@@ -1,8 +1,8 @@
 // The table of instructions, and what is looked up in it.
 #![tactic(auto)]
 
-ghost use Rattle.std.specs.Prelude.{◌≡◌, ◌+◌, ◌*◌, ◌<◌};
-ghost use Rattle.mnemonics.specs.Table.{rows, row_of, names_of, find_of, begins_name, is_label, count_fits, takes_pairs, has_room, known_in_polygon, changes_settings};
+ghost use Rattle.std.specs.Prelude.{◌≡◌, ◌+◌, ◌*◌, ◌<◌, ◌≤◌, MatchOption, position};
+ghost use Rattle.mnemonics.specs.Table.{rows, table, row_of, names_of, find_of, begins_name, is_label, count_fits, takes_pairs, has_room, known_in_polygon, changes_settings};
 
 // An instruction's code is its place in the table. The four that take pairs come first; another instruction is another row at the end, so that no code changes.
 pub const PU: usize = 0;
@@ -100,30 +100,23 @@ const TABLE: [[u8; COLUMNS]; ROWS] = [
     [b'O', b'E', 0, 0, 1, 1, 0],
 ];
 
-#[derive(Clone, Copy)]
-pub enum Found {
-    At(usize),
-    Nowhere,
-}
-
-// The row of an instruction.
-fn row(op: usize) -> [u8; COLUMNS]
-    requires { op < rows }
-    ensures { result ≡ row_of op }
+// The row of an instruction; a code beyond the table has none.
+fn row(op: usize) -> Option<[u8; COLUMNS]>
+    ensures { MatchOption result (rows ≤ op) (λ row. (op < rows) × (row ≡ row_of op)) }
 {
-    TABLE[op]
+    TABLE.get(op).copied()
 }
 
 // Two letters as one number, so that they are compared at once.
 fn both(first: u8, second: u8) -> u16
     ensures { (result ≡ first * 256 + second) × (second < 256) }
 {
-    (first as u16) * 256 + second as u16
+    u16::from(first) * 256 + u16::from(second)
 }
 
 // Whether a row has these two letters.
-fn names(row: [u8; COLUMNS], first: u8, second: u8) -> bool
-    ensures { result ≡ names_of row first second }
+fn names(row: &[u8; COLUMNS], first: u8, second: u8) -> bool
+    ensures { result ≡ names_of row.now first second }
 {
     both(row[FIRST], row[SECOND]) == both(first, second)
 }
@@ -135,32 +128,24 @@ const BEGINNINGS: u32 = 0x6c11d;
 fn begins_name(first: u8) -> bool
     ensures { result ≡ begins_name first }
 {
-    if first < b'A' {
-        return false;
-    }
-    if b'Z' < first {
-        return false;
-    }
-    (BEGINNINGS >> ((first - b'A') as u32)) % 2 == 1
+    first.is_ascii_uppercase() && (BEGINNINGS >> (first - b'A')) % 2 == 1
+}
+
+// The place of the row with these two letters.
+fn place(first: u8, second: u8) -> Option<usize>
+    ensures { result ≡ position (λ row. names_of row first second) table }
+{
+    TABLE.iter().position(|row| names(row, first, second))
 }
 
 // The instruction that two letters name.
-pub fn find(first: u8, second: u8) -> Found
+pub fn find(first: u8, second: u8) -> Option<usize>
     ensures { result ≡ find_of first second }
 {
     if !begins_name(first) {
-        return Found::Nowhere;
+        return None;
     }
-    // laid out once, and not for each row
-    let table = TABLE;
-    let mut op: usize = 0;
-    while op < ROWS {
-        if names(table[op], first, second) {
-            return Found::At(op);
-        }
-        op += 1;
-    }
-    Found::Nowhere
+    place(first, second)
 }
 
 // LB, a name beside the table.
@@ -171,37 +156,31 @@ pub fn is_label(first: u8, second: u8) -> bool
 }
 
 // Whether an instruction may end after n numbers.
+#[tactic(auto, using(exact::proofs::Rules::rules), unfolding(crate::specs::Table::count_fits, crate::specs::Table::cell_of))]
 pub fn count_fits(op: usize, n: u8) -> bool
     ensures { result ≡ count_fits op n }
 {
     if takes_pairs(op) {
         return n % 2 == 0;
     }
-    if op < ROWS {
-        let row = row(op);
-        let least = row[LEAST];
-        if least <= n {
-            if n <= row[MOST] {
-                return (n - least) % row[STEP] == 0;
-            }
-            return false;
-        }
+    let Some(row) = row(op) else {
         return false;
-    }
-    false
+    };
+    row[LEAST] <= n && n <= row[MOST] && (n - row[LEAST]) % row[STEP] == 0
 }
 
 // Whether an instruction has room for one more number after n.
+#[tactic(auto, using(exact::proofs::Rules::rules), unfolding(crate::specs::Table::has_room, crate::specs::Table::cell_of))]
 pub fn has_room(op: usize, n: u8) -> bool
     ensures { result ≡ has_room op n }
 {
     if takes_pairs(op) {
         return n < ANY;
     }
-    if op < ROWS {
-        return n < row(op)[MOST];
-    }
-    false
+    let Some(row) = row(op) else {
+        return false;
+    };
+    n < row[MOST]
 }
 
 // Whether an instruction takes pairs: the first four do. Asked for every number, so the table is not laid out; nor is it for
@@ -213,21 +192,23 @@ pub fn takes_pairs(op: usize) -> bool
 }
 
 // Whether an instruction is known in polygon mode.
+#[tactic(auto, using(exact::proofs::Rules::rules), unfolding(crate::specs::Table::known_in_polygon, crate::specs::Table::cell_of))]
 pub fn known_in_polygon(op: usize) -> bool
     ensures { result ≡ known_in_polygon op }
 {
-    if op < ROWS {
-        return row(op)[POLYGON] == 1;
-    }
-    false
+    let Some(row) = row(op) else {
+        return false;
+    };
+    row[POLYGON] == 1
 }
 
 // Whether an instruction changes settings.
+#[tactic(auto, using(exact::proofs::Rules::rules), unfolding(crate::specs::Table::changes_settings, crate::specs::Table::cell_of))]
 pub fn changes_settings(op: usize) -> bool
     ensures { result ≡ changes_settings op }
 {
-    if op < ROWS {
-        return row(op)[SETTINGS] == 1;
-    }
-    false
+    let Some(row) = row(op) else {
+        return false;
+    };
+    row[SETTINGS] == 1
 }

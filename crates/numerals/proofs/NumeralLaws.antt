@@ -5,7 +5,7 @@ use Rattle.std.proofs.Math.Dec.{leb-suc-suc}
 use Rattle.std.proofs.lemmas.Bool.{lt-leb}
 use Rattle.exact.specs.Divide.{nearest_div}
 use Rattle.numerals.specs.declared.number.Number.{Number}
-use Rattle.numerals.specs.declared.number.Value.TheVariants.{Good, Bad}
+use Rattle.std.specs.Prelude.{Option, None, Some}
 use Rattle.numerals.specs.Number.{places, half, above, bottom, past_of, start_of, point_of, counted_of, digit_of, unit_of, ten_thousandths, signed_of, largest_of, carry_of, nearest_of, finish_of}
 use Rattle.numerals.specs.Marks.{negative, read_digits, read_fraction, read_numeral}
 use Rattle.numerals.specs.Numeral.{Sign, bare, plus, minus, Fraction, none, point, Numeral, Digits, worth, worth_from, decimals, ten, signed, some, in_range, nearest, value_of}
@@ -299,12 +299,12 @@ largest-le false = lit≤ tt
 out : (s : Sign) (m : ℕ) → bottom < m → leb m (largest_of (negative s)) ≡ false
 out s m h = lt-leb m (largest_of (negative s)) (omega (arith, largest-le (negative s)))
 
-finishes : {n : Number} (t : Numeral) {f : Bool} {v : ℕ} → Ends n (negative t.sign) f v → finish_of n ≡ cond f (cond (in_range (signed t.sign v)) (Good (signed t.sign v)) Bad) Bad
+finishes : {n : Number} (t : Numeral) {f : Bool} {v : ℕ} → Ends n (negative t.sign) f v → finish_of n ≡ cond f (cond (in_range (signed t.sign v)) (Some (signed t.sign v)) None) None
 unfolding finish_of
 finishes {n} t {f} {v} e =
-    (λ i. cond (e.filled_is i) (cond (leb (nearest_of n) (largest_of (e.negative-is i))) (Good (signed_of (e.negative-is i) (nearest_of n))) Bad) Bad) ∙ go e.worth-is
+    (λ i. cond (e.filled_is i) (cond (leb (nearest_of n) (largest_of (e.negative-is i))) (Some (signed_of (e.negative-is i) (nearest_of n))) None) None) ∙ go e.worth-is
   where
-    go : Worth (nearest_of n) v → cond f (cond (leb (nearest_of n) (largest_of (negative t.sign))) (Good (signed_of (negative t.sign) (nearest_of n))) Bad) Bad ≡ cond f (cond (in_range (signed t.sign v)) (Good (signed t.sign v)) Bad) Bad
+    go : Worth (nearest_of n) v → cond f (cond (leb (nearest_of n) (largest_of (negative t.sign))) (Some (signed_of (negative t.sign) (nearest_of n))) None) None ≡ cond f (cond (in_range (signed t.sign v)) (Some (signed t.sign v)) None) None
     go (exact a) = rw (a, in-range t.sign v, signs t.sign v) refl
     go (past a b) = rw (out t.sign (nearest_of n) a, ← in-range t.sign v, out t.sign v b) refl
 
@@ -324,4 +324,4 @@ is-nearest t h =
 pub numeral-value : (t : Numeral) → Digits (decimals t.fraction) → finish_of (read_numeral t) ≡ value_of t
 unfolding value_of
 numeral-value t h =
-    finishes t (ends-numeral t) ∙ ap (λ (v : ℤ). cond (some (t.whole ++ decimals t.fraction)) (cond (in_range v) (Good v) Bad) Bad) (is-nearest t h)
+    finishes t (ends-numeral t) ∙ ap (λ (v : ℤ). cond (some (t.whole ++ decimals t.fraction)) (cond (in_range v) (Some v) None) None) (is-nearest t h)

@@ -1,8 +1,6 @@
 -- A number as it is read, mark by mark. What a whole text is worth, and that it comes out so, stands in Numerals.
-use Rattle.std.specs.Prelude.{ℕ, ◌+◌, ◌*◌, Bool, true, false, cond, ℤ, pos, neg_ℤ, leb, ltb, eqb}
+use Rattle.std.specs.Prelude.{Option, None, Some, ℕ, ◌+◌, ◌*◌, Bool, true, false, cond, ℤ, pos, neg_ℤ, leb, ltb, eqb}
 use Rattle.numerals.specs.declared.number.Number.{Number}
-use Rattle.numerals.specs.declared.number.Value.{Value}
-use Rattle.numerals.specs.declared.number.Value.TheVariants.{Good, Bad}
 
 -- "It is kept in ten-thousandths": four decimals are kept.
 abbrev pub places : ℕ
@@ -76,8 +74,8 @@ unfoldable pub nearest_of : Number → ℕ
 nearest_of n = ten_thousandths n + carry_of n.negative n.decimals
 
 -- Its value where it ends, in ten-thousandths: "at least one digit", and in the range.
-unfoldable pub finish_of : Number → Value
+unfoldable pub finish_of : Number → Option ℤ
 finish_of n =
     cond n.filled
-    (cond (leb (nearest_of n) (largest_of n.negative)) (Good (signed_of n.negative (nearest_of n))) Bad)
-    Bad
+    (cond (leb (nearest_of n) (largest_of n.negative)) (Some (signed_of n.negative (nearest_of n))) None)
+    None

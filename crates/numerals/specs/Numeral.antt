@@ -1,12 +1,10 @@
 -- A number's text and its value, as a person reads them: no state, no order of reading. That the reader comes to this value
 -- stands in NumeralLaws.
-use Rattle.std.specs.Prelude.{ℕ, zero, suc, ◌+◌, ◌*◌, ◌<◌, Bool, true, false, cond, ◌&&◌, List, [], ◌∷◌, ◌++◌, ℤ, pos, neg_ℤ, ◌+ℤ◌, ◌*ℤ◌, length}
+use Rattle.std.specs.Prelude.{Option, None, Some, ℕ, zero, suc, ◌+◌, ◌*◌, ◌<◌, Bool, true, false, cond, ◌&&◌, List, [], ◌∷◌, ◌++◌, ℤ, pos, neg_ℤ, ◌+ℤ◌, ◌*ℤ◌, length}
 use Prim.Native.Char.{code}
 use Rattle.std.specs.Int.Signed.{le_z}
 use Rattle.exact.specs.Divide.{nearest_div}
 use Rattle.exact.specs.Int16.{least16, most16}
-use Rattle.numerals.specs.declared.number.Value.{Value}
-use Rattle.numerals.specs.declared.number.Value.TheVariants.{Good, Bad}
 
 -- "A number is an optional sign, then digits with at most one point."
 pub data Sign : Type 0 where
@@ -80,8 +78,8 @@ nearest n =
     let ds : List ℕ = decimals n.fraction in
     nearest_div (signed n.sign (worth (n.whole ++ ds) * 10000)) (pos (ten (length ds)))
 
-unfoldable pub value_of : Numeral → Value
+unfoldable pub value_of : Numeral → Option ℤ
 value_of n =
     cond (some (n.whole ++ decimals n.fraction))
-    (cond (in_range (nearest n)) (Good (nearest n)) Bad)
-    Bad
+    (cond (in_range (nearest n)) (Some (nearest n)) None)
+    None

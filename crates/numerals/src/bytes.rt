@@ -28,56 +28,35 @@ const SPACE: u8 = 32;
 const CASE: u8 = 32;
 
 // The class of a byte below the digits.
+#[tactic(auto, using(exact::proofs::Rules::rules), unfolding(crate::specs::Bytes::low_class_of))]
 fn low_class(byte: u8) -> Class
     ensures { result ≡ low_class_of byte }
 {
-    if byte == TAB {
-        return Class::Blank;
+    match byte {
+        TAB | LINE_FEED | CARRIAGE_RETURN | SPACE | b',' => Class::Blank,
+        b'+' => Class::Sign(false),
+        b'-' => Class::Sign(true),
+        b'.' => Class::Point,
+        _ => Class::Other,
     }
-    if byte == LINE_FEED {
-        return Class::Blank;
-    }
-    if byte == CARRIAGE_RETURN {
-        return Class::Blank;
-    }
-    if byte == SPACE {
-        return Class::Blank;
-    }
-    if byte == b',' {
-        return Class::Blank;
-    }
-    if byte == b'+' {
-        return Class::Sign(false);
-    }
-    if byte == b'-' {
-        return Class::Sign(true);
-    }
-    if byte == b'.' {
-        return Class::Point;
-    }
-    Class::Other
 }
 
+#[tactic(auto, using(exact::proofs::Rules::rules), unfolding(crate::specs::Bytes::is_digit))]
 pub fn is_digit(byte: u8) -> bool
     ensures { result ≡ is_digit byte }
 {
-    if byte < b'0' {
-        return false;
-    }
-    byte <= b'9'
+    byte.is_ascii_digit()
 }
 
 // Whether this byte stands at a place; past the end none does.
+#[tactic(auto, using(exact::proofs::Rules::rules), unfolding(crate::specs::Bytes::is_at))]
 pub fn is_at(bytes: &[u8], at: usize, byte: u8) -> bool
     ensures { result ≡ is_at bytes.now at byte }
 {
-    if at < bytes.len() {
-        return bytes[at] == byte;
-    }
-    false
+    at < bytes.len() && bytes[at] == byte
 }
 
-// The class of a byte. Those below the letters come first, and of letters the capitals: with so few tests most names are told.
+// The class of a byte, by tests and no match, whose order is left to the compiler. Those below the letters come first, and of letters the capitals: with so few tests most names are told.
 pub fn class_of(byte: u8) -> Class
     ensures { result ≡ class_of byte }
 {

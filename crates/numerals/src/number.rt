@@ -6,7 +6,7 @@ ghost use Rattle.numerals.specs.Run.{from_zero, reached_of, run_of, counts_whole
 
 use super::bytes::{is_at, is_digit};
 
-// Decimals that are kept, and where those past them stand against a half of the last: below, a half so far, above.
+// Numbers and no enum, since the list of a saved machine holds them in the place of the count (saved/specs): decimals that are kept, and where those past them stand against a half of the last: below, a half so far, above.
 const PLACES: u8 = 4;
 
 const BELOW: u8 = 5;
@@ -22,9 +22,6 @@ const BOTTOM: u64 = 327_680_000;
 
 // Past this magnitude a number is out of range whatever follows.
 const PAST: u32 = 327_680_000;
-
-// A byte below the digits is counted on past the largest number: 2^32, less the code of 0.
-const AROUND: u32 = 4_294_967_248;
 
 #[derive(Clone, Copy)]
 pub struct Number {
@@ -52,39 +49,26 @@ pub struct Run {
     pub at: usize,
 }
 
-#[derive(Clone, Copy)]
-pub enum Value {
-    Good(i64),
-    Bad,
-}
-
 // What the last of so many decimals counts for, in ten-thousandths.
+#[tactic(auto, using(exact::proofs::Rules::rules), unfolding(crate::specs::Number::unit_of))]
 fn unit(decimals: u8) -> u64
     ensures { result ≡ unit_of decimals }
 {
-    if decimals == 0 {
-        return 10_000;
+    match decimals {
+        0 => 10_000,
+        1 => 1_000,
+        2 => 100,
+        3 => 10,
+        _ => 1,
     }
-    if decimals == 1 {
-        return 1_000;
-    }
-    if decimals == 2 {
-        return 100;
-    }
-    if decimals == 3 {
-        return 10;
-    }
-    1
 }
 
 // 1 for a digit that is at least so large, 0 for one below.
+#[tactic(auto, using(exact::proofs::Rules::rules), unfolding(crate::specs::Run::reached_of))]
 fn reached(digit: u8, least: u8) -> u8
     ensures { result ≡ reached_of digit least }
 {
-    if digit < least {
-        return 0;
-    }
-    1
+    u8::from(least <= digit)
 }
 
 // The first digit past the fourth decimal. A sum makes no branch: these digits come in no order that a processor could foresee.
@@ -95,67 +79,56 @@ fn first_past(digit: u8) -> u8
 }
 
 // One digit more past the fourth decimal.
+#[tactic(auto, using(exact::proofs::Rules::rules), unfolding(crate::specs::Number::past_of))]
 fn past(decimals: u8, digit: u8) -> u8
     ensures { result ≡ past_of decimals digit }
 {
-    if decimals == PLACES {
-        return first_past(digit);
+    match decimals {
+        PLACES => first_past(digit),
+        HALF if digit != 0 => ABOVE,
+        _ => decimals,
     }
-    if decimals == HALF {
-        if digit == 0 {
-            return HALF;
-        }
-        return ABOVE;
-    }
-    decimals
 }
 
 // What the decimals past the fourth add to the magnitude: a half goes to the larger number.
+#[tactic(auto, using(exact::proofs::Rules::rules), unfolding(crate::specs::Number::carry_of))]
 fn carry(negative: bool, decimals: u8) -> u64
     ensures { result ≡ carry_of negative decimals }
 {
-    if decimals == ABOVE {
-        return 1;
+    match decimals {
+        ABOVE => 1,
+        HALF => u64::from(!negative),
+        _ => 0,
     }
-    if negative {
-        return 0;
-    }
-    if decimals == HALF {
-        return 1;
-    }
-    0
 }
 
 // The largest magnitude on either side of zero.
+#[tactic(auto, using(exact::proofs::Rules::rules), unfolding(crate::specs::Number::largest_of))]
 fn largest(negative: bool) -> u64
     ensures { result ≡ largest_of negative }
 {
-    if negative {
-        return BOTTOM;
-    }
-    TOP
+    if negative { BOTTOM } else { TOP }
 }
 
 // A magnitude with its sign.
+#[tactic(auto, using(exact::proofs::Rules::rules), unfolding(crate::specs::Number::signed_of))]
 fn signed(negative: bool, magnitude: u64) -> i64
     requires { magnitude ≤ bottom }
     ensures { result ≡ signed_of negative magnitude }
 {
     if negative {
-        return 0 - (magnitude as i64);
+        -(magnitude as i64)
+    } else {
+        magnitude as i64
     }
-    magnitude as i64
 }
 
 // How far a byte stands from the digit 0: its value if it is a digit, more than 9 if not. So one number tells both, in as few instructions as there are.
+#[tactic(auto, using(exact::proofs::Rules::rules), unfolding(crate::specs::Run::from_zero))]
 fn from_zero(byte: u8) -> u32
     ensures { result ≡ from_zero byte }
 {
-    let code = byte as u32;
-    if code < b'0' as u32 {
-        return code + AROUND;
-    }
-    code - (b'0' as u32)
+    u32::from(byte).wrapping_sub(u32::from(b'0'))
 }
 
 // The digits from a place on, before a point, as long as the magnitude counts them.
@@ -163,39 +136,25 @@ fn run_from(bytes: &[u8], from: usize, start: u32) -> Run
     ensures { result ≡ run_of start (drop from bytes.now) from }
 {
     let mut magnitude = start;
-    let mut at = from;
-    while at < bytes.len() {
-        let byte = bytes[at];
-        let digit = from_zero(byte);
-        if 9 < digit {
-            return Run {
-                magnitude: magnitude,
-                at: at,
-            };
-        }
-        if PAST < magnitude {
-            return Run {
-                magnitude: magnitude,
-                at: at,
-            };
+    for at in from..bytes.len() {
+        let digit = from_zero(bytes[at]);
+        if 9 < digit || PAST < magnitude {
+            return Run { magnitude, at };
         }
         magnitude = magnitude * 10 + digit;
-        at += 1;
     }
     Run {
-        magnitude: magnitude,
-        at: at,
+        magnitude,
+        at: from.max(bytes.len()),
     }
 }
 
 // How many bytes a minus takes, where there is one.
+#[tactic(auto, using(exact::proofs::Rules::rules), unfolding(crate::specs::Run::minus_length))]
 fn minus_length(byte: u8) -> usize
     ensures { result ≡ minus_length byte }
 {
-    if byte == b'-' {
-        return 1;
-    }
-    0
+    usize::from(byte == b'-')
 }
 
 // The number at a place up to a point. Its sign makes no branch: signs come in no order that a processor could foresee.
@@ -227,13 +186,12 @@ fn digits_from(bytes: &[u8], from: usize, start: Number) -> Scanned
     let mut filled = start.filled;
     let mut decimals = start.decimals;
     let mut magnitude = start.magnitude;
-    let mut at = from;
-    while at < bytes.len() {
+    for at in from..bytes.len() {
         let byte = bytes[at];
         if !is_digit(byte) {
             return Scanned {
                 number: start.so_far(filled, decimals, magnitude),
-                at: at,
+                at,
             };
         }
         let digit = byte - b'0';
@@ -242,13 +200,12 @@ fn digits_from(bytes: &[u8], from: usize, start: Number) -> Scanned
             decimals = past(decimals, digit);
         } else if magnitude <= PAST {
             decimals += 1;
-            magnitude = magnitude * 10 + (digit as u32);
+            magnitude = magnitude * 10 + u32::from(digit);
         }
-        at += 1;
     }
     Scanned {
         number: start.so_far(filled, decimals, magnitude),
-        at: at,
+        at: from.max(bytes.len()),
     }
 }
 
@@ -259,25 +216,25 @@ pub fn number_at(bytes: &[u8], at: usize) -> Scanned
     if bytes.len() <= at {
         return Scanned {
             number: Number::start(false),
-            at: at,
+            at,
         };
     }
     let whole = whole_at(bytes, at);
     let end = whole.at;
     if is_at(bytes, end, b'.') {
-        let number = whole.number;
-        return digits_from(bytes, end + 1, number.with_point());
+        return digits_from(bytes, end + 1, whole.number.with_point());
     }
     whole
 }
 
 impl Number {
     // A number of which at most the sign is read.
+    #[tactic(auto, using(exact::proofs::Rules::rules), unfolding(crate::specs::Number::start_of))]
     pub fn start(negative: bool) -> Number
         ensures { result ≡ start_of negative }
     {
         Number {
-            negative: negative,
+            negative,
             filled: false,
             pointed: false,
             decimals: 0,
@@ -286,15 +243,13 @@ impl Number {
     }
 
     // The number with its point.
+    #[tactic(auto, using(exact::proofs::Rules::rules), unfolding(crate::specs::Number::point_of))]
     pub fn with_point(self) -> Number
         ensures { result ≡ point_of self }
     {
         Number {
-            negative: self.negative,
-            filled: self.filled,
             pointed: true,
-            decimals: self.decimals,
-            magnitude: self.magnitude,
+            ..self
         }
     }
 
@@ -309,15 +264,15 @@ impl Number {
         ensures { result ≡ so_far_of self filled decimals magnitude }
     {
         Number {
-            negative: self.negative,
-            filled: filled,
-            pointed: self.pointed,
-            decimals: decimals,
-            magnitude: magnitude,
+            filled,
+            decimals,
+            magnitude,
+            ..self
         }
     }
 
     // The number with a digit, so many decimals and that magnitude.
+    #[tactic(auto, using(exact::proofs::Rules::rules), unfolding(crate::specs::Number::counted_of))]
     fn counted(self, decimals: u8, magnitude: u32) -> Number
         ensures { result ≡ counted_of self decimals magnitude }
     {
@@ -325,12 +280,16 @@ impl Number {
     }
 
     // The number with one digit more.
+    #[tactic(auto, using(exact::proofs::Rules::rules), unfolding(crate::specs::Number::digit_of))]
     pub fn with_digit(self, digit: u8) -> Number
         ensures { result ≡ digit_of self digit }
     {
-        let decimals = self.decimals;
-        let magnitude = self.magnitude;
-        let pointed = self.pointed;
+        let Number {
+            decimals,
+            magnitude,
+            pointed,
+            ..
+        } = self;
         if PLACES <= decimals {
             return self.counted(past(decimals, digit), magnitude);
         }
@@ -338,22 +297,17 @@ impl Number {
             return self.counted(decimals, magnitude);
         }
         if pointed {
-            return self.counted(decimals + 1, magnitude * 10 + (digit as u32));
+            return self.counted(decimals + 1, magnitude * 10 + u32::from(digit));
         }
-        self.counted(decimals, magnitude * 10 + (digit as u32))
+        self.counted(decimals, magnitude * 10 + u32::from(digit))
     }
 
     // Whether the next digit counts, and is no decimal.
+    #[tactic(auto, using(exact::proofs::Rules::rules), unfolding(crate::specs::Run::counts_whole))]
     fn counts_whole(self) -> bool
         ensures { result ≡ counts_whole self }
     {
-        if self.pointed {
-            return false;
-        }
-        if PLACES <= self.decimals {
-            return false;
-        }
-        self.magnitude <= PAST
+        !self.pointed && self.decimals < PLACES && self.magnitude <= PAST
     }
 
     // The number with the digit at a place, and with those after it that count, where it has no point.
@@ -375,40 +329,38 @@ impl Number {
     }
 
     // Its magnitude in ten-thousandths.
+    #[tactic(auto, using(exact::proofs::Rules::rules), unfolding(crate::specs::Number::ten_thousandths))]
     fn ten_thousandths(self) -> u64
         ensures { result ≡ ten_thousandths self }
     {
-        let decimals = self.decimals;
-        (self.magnitude as u64) * unit(decimals)
+        u64::from(self.magnitude) * unit(self.decimals)
     }
 
     // The nearest to it, in ten-thousandths.
+    #[tactic(auto, using(exact::proofs::Rules::rules), unfolding(crate::specs::Number::nearest_of))]
     fn nearest(self) -> u64
         ensures { result ≡ nearest_of self }
     {
-        let negative = self.negative;
-        let decimals = self.decimals;
         let kept = self.ten_thousandths();
         // Most drawings have no number with a decimal past the fourth, the others have one in each: asked so, the branch is foreseen.
-        if PLACES < decimals {
-            return kept + carry(negative, decimals);
+        if PLACES < self.decimals {
+            return kept + carry(self.negative, self.decimals);
         }
         kept
     }
 
-    // The value of a number that has ended; bad if it has no digit or is out of range.
-    pub fn finish(self) -> Value
+    // The value of a number that has ended; none if it has no digit or is out of range.
+    #[tactic(auto, using(exact::proofs::Rules::rules), unfolding(crate::specs::Number::finish_of))]
+    pub fn finish(self) -> Option<i64>
         ensures { result ≡ finish_of self }
     {
-        let negative = self.negative;
-        let filled = self.filled;
-        if filled {
-            let magnitude = self.nearest();
-            if magnitude <= largest(negative) {
-                return Value::Good(signed(negative, magnitude));
-            }
-            return Value::Bad;
+        if !self.filled {
+            return None;
         }
-        Value::Bad
+        let magnitude = self.nearest();
+        if magnitude <= largest(self.negative) {
+            return Some(signed(self.negative, magnitude));
+        }
+        None
     }
 }

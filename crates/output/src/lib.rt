@@ -2,7 +2,8 @@
 // bytes of the buffer hold text, and each function answers how many do after it. More than the buffer holds says that a write failed, and one
 // more and so many, with which number of the system's errors: from then on nothing is gathered and nothing is written, so that what was written
 // is a beginning of the text. No contract can say what is written out: the programs over this crate are run, and what they print is compared
-// byte for byte.
+// byte for byte. A count and no Result, nor a struct of the buffer and the count: each function that docs/CONTRACTS.md names here takes any count, a failure's
+// among them, and puts on nothing.
 #![tactic(auto)]
 
 ghost use Rattle.std.specs.Prelude.{◌≡◌, ◌≤◌, ◌<◌, ◌⊎◌, ltb, length, take};
@@ -28,22 +29,12 @@ pub fn failed(used: usize) -> bool
 fn failed_by(error: i32) -> usize
     ensures { room < result }
 {
-    if 0 < error {
-        return FAILED + error as usize;
-    }
-    FAILED
+    FAILED + usize::try_from(error).unwrap_or(0)
 }
 
 // The error by which a write failed; 0 if none did, or by none of the system's.
 fn error_of(used: usize) -> i32 {
-    if used < FAILED {
-        return 0;
-    }
-    let error = used - FAILED;
-    if error < 0x80000000 {
-        return error as i32;
-    }
-    0
+    i32::try_from(used.saturating_sub(FAILED)).unwrap_or(0)
 }
 
 // Writes the first bytes of the buffer, and answers what is used after it: nothing, or that this failed.
@@ -51,10 +42,8 @@ fn write_front(rt: &HostRuntime, buffer: &[u8], used: usize) -> usize
     ensures { (result ≡ 0) ⊎ (room < result) }
 {
     let mut file = Stream::new(writer(rt));
-    if used <= buffer.len() {
-        if write_all(&mut file, &buffer[..used]) {
-            return 0;
-        }
+    if used <= buffer.len() && write_all(&mut file, &buffer[..used]) {
+        return 0;
     }
     failed_by(file.error)
 }
@@ -96,8 +85,8 @@ pub fn put_bytes(rt: &HostRuntime, buffer: &mut [u8; 65536], used: usize, bytes:
     ensures { Puts bytes.now used buffer.old result buffer.new }
 {
     let mut end = used;
-    for i in 0..bytes.len() {
-        end = put_byte(rt, buffer, end, bytes[i]);
+    for byte in bytes {
+        end = put_byte(rt, buffer, end, *byte);
     }
     end
 }
@@ -110,13 +99,14 @@ pub fn put_natural(rt: &HostRuntime, buffer: &mut [u8; 65536], used: usize, numb
     put_bytes(rt, buffer, used, &digits[..count])
 }
 
-// A whole number, with a sign if it is below zero. One is added first, since the least number has no positive one beside it.
+// A whole number, with a sign if it is below zero.
 pub fn put_whole(rt: &HostRuntime, buffer: &mut [u8; 65536], used: usize, number: i64) -> usize {
-    if number < 0 {
-        let end = put_byte(rt, buffer, used, b'-');
-        return put_natural(rt, buffer, end, (0 - (number + 1)) as u64 + 1);
-    }
-    put_natural(rt, buffer, used, number as u64)
+    let end = if number < 0 {
+        put_byte(rt, buffer, used, b'-')
+    } else {
+        used
+    };
+    put_natural(rt, buffer, end, number.unsigned_abs())
 }
 
 // A number that is not below 0, and the byte after it.
@@ -148,14 +138,12 @@ fn trimmed_length(text: &[u8]) -> usize
     ensures value { result ≡ trimmed text.now }
     ensures upper_bound { result ≤ length text.now }
 {
-    let mut n = text.len();
-    while n > 0 {
-        if text[n - 1] != b' ' {
-            return n;
+    for n in (0..text.len()).rev() {
+        if text[n] != b' ' {
+            return n + 1;
         }
-        n -= 1;
     }
-    n
+    0
 }
 
 // A text without the blanks at its end.

@@ -1,5 +1,5 @@
 -- A whole instruction, written as a person writes it, means what it says: its name, then its pairs in order or its numbers.
-use Rattle.std.specs.Prelude.{◌≡◌, Bool, true, false, cond, not, T, leb, ltb, eqb, ℤ, length}
+use Rattle.std.specs.Prelude.{◌≡◌, Bool, true, false, cond, not, T, leb, ltb, eqb, ℤ, length, Option, None, Some}
 use Rattle.std.proofs.Math.Path.{refl}
 use Rattle.std.proofs.Common.{ap, arith, eqb→eq, lit<}
 use mathlib.Core.List.{List, [], ◌∷◌, ◌++◌}
@@ -9,9 +9,6 @@ use borrow.Author.Tests.{lt-ltb, eqb-true, leb-true, not-true}
 use Rattle.numerals.specs.declared.bytes.Class.{Class}
 use Rattle.numerals.specs.declared.bytes.Class.TheVariants.{Blank, Semicolon, Letter, Digit, Sign, Point, Other}
 use Rattle.numerals.specs.declared.number.Number.{Number}
-use Rattle.numerals.specs.declared.number.Value.TheVariants.{Good}
-use Rattle.mnemonics.specs.declared.Found.{Found}
-use Rattle.mnemonics.specs.declared.Found.TheVariants.{At, Nowhere}
 use Rattle.reader.specs.declared.Numbers.{Numbers}
 use Rattle.reader.specs.declared.Event.{Event}
 use Rattle.reader.specs.declared.Event.TheVariants.{Nothing, Named, Pair, Ended}
@@ -37,7 +34,7 @@ module _ (op : ℕ) where
     abbrev opened : Reader
     opened = reader op ns InNumber (read_numeral l.numeral)
 
-    kept : closed_of opened ≡ judged_of opened (Good l.value)
+    kept : closed_of opened ≡ judged_of opened (Some l.value)
     unfolding closed_of
     kept = rw (numeral-value l.numeral l.fraction, l.good) refl
 
@@ -153,13 +150,13 @@ letter-is l (Sign _) t = elim t [ ]
 letter-is l Point t = elim t [ ]
 letter-is l Other t = elim t [ ]
 
-abbrev is_at : ℕ → Found → Bool
-is_at op (At i) = eqb i op
-is_at op Nowhere = false
+abbrev is_at : ℕ → Option ℕ → Bool
+is_at op (Some i) = eqb i op
+is_at op None = false
 
-at-is : (op : ℕ) (f : Found) → T (is_at op f) → f ≡ At op
-at-is op (At i) t = ap At (eqb→eq i op t)
-at-is op Nowhere t = elim t [ ]
+at-is : (op : ℕ) (f : Option ℕ) → T (is_at op f) → f ≡ Some op
+at-is op (Some i) t = ap Some (eqb→eq i op t)
+at-is op None t = elim t [ ]
 
 one-is : (op : ℕ) → op < rows → class_of (one op) ≡ Letter (one op)
 unfolding cell_of class_of
@@ -173,7 +170,7 @@ no_label : (op : ℕ) → op < rows → is_label (one op) (two op) ≡ false
 unfolding cell_of is_label
 no_label op h = not-true (is_label (one op) (two op)) (holds _ (every-at (λ i. not (is_label (one i) (two i))) rows tt op h))
 
-found : (op : ℕ) → op < rows → find_of (one op) (two op) ≡ At op
+found : (op : ℕ) → op < rows → find_of (one op) (two op) ≡ Some op
 unfolding cell_of named_of find_from find_of
 found op h = at-is op (find_of (one op) (two op)) (every-at (λ i. is_at i (find_of (one i) (two i))) rows tt op h)
 

@@ -1,5 +1,5 @@
 -- Every byte keeps the sizes of what the reader holds and hands on.
-use Rattle.std.specs.Prelude.{◌≡◌, refl, Bool, cond, ◌||◌, ℕ, zero, suc, ◌+◌, ◌*◌, ◌-◌, ◌≤◌, ◌<◌, leb, ltb, eqb, ℤ, pos}
+use Rattle.std.specs.Prelude.{◌≡◌, refl, Bool, cond, ◌||◌, ℕ, zero, suc, ◌+◌, ◌*◌, ◌-◌, ◌≤◌, ◌<◌, leb, ltb, eqb, ℤ, pos, Option, None, Some}
 use Rattle.std.proofs.Math.Bool.{true, false}
 use Prim.Native.Char.{code}
 use Rattle.std.proofs.Common.{arith, lit<, lit≤, leb-true, leb-false, ltb-false}
@@ -7,10 +7,6 @@ use Rattle.exact.specs.Fit.{Bd}
 use Rattle.numerals.specs.declared.bytes.Class.{Class}
 use Rattle.numerals.specs.declared.bytes.Class.TheVariants.{Blank, Semicolon, Letter, Digit, Sign, Point, Other}
 use Rattle.numerals.specs.declared.number.Number.{Number}
-use Rattle.numerals.specs.declared.number.Value.{Value}
-use Rattle.numerals.specs.declared.number.Value.TheVariants.{Good, Bad}
-use Rattle.mnemonics.specs.declared.Found.{Found}
-use Rattle.mnemonics.specs.declared.Found.TheVariants.{At, Nowhere}
 use Rattle.reader.specs.declared.Coordinates.{Coordinates}
 use Rattle.reader.specs.declared.Numbers.{Numbers}
 use Rattle.reader.specs.declared.Event.TheVariants.{Ended}
@@ -35,15 +31,15 @@ signed-small false m h = record { bd = h }
 signed-small true zero h = record { bd = h }
 signed-small true (suc m) h = record { bd = h }
 
-SmallValue : Value → Type 0
-SmallValue (Good v) = Bd v bottom
-SmallValue Bad = Unit {0}
+SmallValue : Option ℤ → Type 0
+SmallValue (Some v) = Bd v bottom
+SmallValue None = Unit {0}
 
 finish-small : (n : Number) → SmallValue (finish_of n)
 unfolding finish_of SmallValue
 finish-small n = go n.filled (leb (nearest_of n) (largest_of n.negative)) refl
   where
-    go : (f t : Bool) → leb (nearest_of n) (largest_of n.negative) ≡ t → SmallValue (cond f (cond t (Good (signed_of n.negative (nearest_of n))) Bad) Bad)
+    go : (f t : Bool) → leb (nearest_of n) (largest_of n.negative) ≡ t → SmallValue (cond f (cond t (Some (signed_of n.negative (nearest_of n))) None) None)
     go true true e = signed-small n.negative (nearest_of n) (omega (arith, leb-true (nearest_of n) (largest_of n.negative) e, largest-le n.negative))
     go true false e = tt
     go false t e = tt
@@ -85,9 +81,9 @@ module _ (r : Reader) (h : Readable r) where
   unfolding closed_of judged_of SmallValue SizedClosed
   closed-sized = go (finish_of r.number) (finish-small r.number)
     where
-      go : (v : Value) → SmallValue v → SizedClosed (judged_of r v)
-      go (Good v) b = kept-sized v b
-      go Bad b = tt
+      go : (v : Option ℤ) → SmallValue v → SizedClosed (judged_of r v)
+      go (Some v) b = kept-sized v b
+      go None b = tt
 
   quiet-sized : (m : Mode) → SmallMode m → SizedStep (quiet_of r m)
   unfolding quiet_of go_on_of
@@ -144,20 +140,20 @@ close-sized r h m k = go (closed_of r) (closed-sized r h)
     go (Faulty n) s = refuse-sized r h (passed_mode m) (passed-small m k) n
 
 -- What is found stands in the table.
-Placed : ℕ → Found → Type 0
-Placed n (At op) = op < n
-Placed n Nowhere = Unit {0}
+Placed : ℕ → Option ℕ → Type 0
+Placed n (Some op) = op < n
+Placed n None = Unit {0}
 
 find-placed : (a b i n : ℕ) → Placed (i + n) (find_from a b i n)
 unfolding find_from Placed
 find-placed a b i zero = tt
 find-placed a b i (suc n) = go (named_of i a b) (rest (find_from a b (i + 1) n) (find-placed a b (i + 1) n))
   where
-    rest : (f : Found) → Placed (i + 1 + n) f → Placed (i + suc n) f
-    rest (At op) p = omega arith
-    rest Nowhere p = tt
+    rest : (f : Option ℕ) → Placed (i + 1 + n) f → Placed (i + suc n) f
+    rest (Some op) p = omega arith
+    rest None p = tt
 
-    go : (t : Bool) → Placed (i + suc n) (find_from a b (i + 1) n) → Placed (i + suc n) (cond t (At i) (find_from a b (i + 1) n))
+    go : (t : Bool) → Placed (i + suc n) (find_from a b (i + 1) n) → Placed (i + suc n) (cond t (Some i) (find_from a b (i + 1) n))
     go true p = omega arith
     go false p = p
 
@@ -165,10 +161,10 @@ name-sized : (r : Reader) → Readable r → (a b : ℕ) → SizedStep (name_of 
 unfolding name_of find_of found_of begin_of Placed
 name-sized r h a b = go (is_label a b) (find_of a b) (find-placed a b 0 rows)
   where
-    go : (t : Bool) (f : Found) → Placed rows f → SizedStep (cond t (refuse_of r Label 1) (found_of r f))
+    go : (t : Bool) (f : Option ℕ) → Placed rows f → SizedStep (cond t (refuse_of r Label 1) (found_of r f))
     go true f p = refuse-sized r h Label tt 1
-    go false (At op) p = record { reader = record { mode = tt; op = p; numbers = none-small; number = h.number }; event = p }
-    go false Nowhere p = refuse-sized r h PassOver tt 1
+    go false (Some op) p = record { reader = record { mode = tt; op = p; numbers = none-small; number = h.number }; event = p }
+    go false None p = refuse-sized r h PassOver tt 1
 
 -- A letter is a byte, and a digit below ten, whatever the byte.
 abbrev SmallClass : Class → Type 0

@@ -1,12 +1,8 @@
 -- The reader refuses with 1, 2 or 3, and with no other number.
-use Rattle.std.specs.Prelude.{Bool, cond, ℕ, T, eqb, ℤ}
+use Rattle.std.specs.Prelude.{Bool, cond, ℕ, T, eqb, ℤ, Option, None, Some}
 use Rattle.std.proofs.Math.Bool.{true, false}
 use Rattle.numerals.specs.declared.bytes.Class.{Class}
 use Rattle.numerals.specs.declared.bytes.Class.TheVariants.{Blank, Semicolon, Letter, Digit, Sign, Point, Other}
-use Rattle.numerals.specs.declared.number.Value.{Value}
-use Rattle.numerals.specs.declared.number.Value.TheVariants.{Good, Bad}
-use Rattle.mnemonics.specs.declared.Found.{Found}
-use Rattle.mnemonics.specs.declared.Found.TheVariants.{At, Nowhere}
 use Rattle.reader.specs.declared.Event.TheVariants.{Ended}
 use Rattle.reader.specs.declared.Closed.{Closed}
 use Rattle.reader.specs.declared.Closed.TheVariants.{Kept, Complete, Faulty}
@@ -41,9 +37,9 @@ closed-caused : (r : Reader) → CausedEnd (closed_of r)
 unfolding closed_of judged_of CausedEnd
 closed-caused r = go (finish_of r.number)
   where
-    go : (v : Value) → CausedEnd (judged_of r v)
-    go (Good v) = kept-caused r v
-    go Bad = tt
+    go : (v : Option ℤ) → CausedEnd (judged_of r v)
+    go (Some v) = kept-caused r v
+    go None = tt
 
 module _ (r : Reader) where
   end-caused : (m : Mode) → Caused (end_of r m).event
@@ -77,10 +73,10 @@ module _ (r : Reader) where
   unfolding name_of found_of begin_of refuse_of go_on_of
   name-caused a b = go (is_label a b) (find_of a b)
     where
-      go : (t : Bool) (f : Found) → Caused (cond t (refuse_of r Label unknown) (found_of r f)).event
+      go : (t : Bool) (f : Option ℕ) → Caused (cond t (refuse_of r Label unknown) (found_of r f)).event
       go true f = tt
-      go false (At op) = tt
-      go false Nowhere = tt
+      go false (Some op) = tt
+      go false None = tt
 
   idle-caused : (c : Class) → Caused (idle_of r c).event
   unfolding idle_of quiet_of refuse_of go_on_of

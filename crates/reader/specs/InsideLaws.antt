@@ -1,15 +1,13 @@
 -- What the reader says of the instruction that it is inside: it is inside one only after naming it, an instruction that ends is the one that was named last, and
 -- a refusal leaves it inside none.
 -- Why: each row of the reader's table keeps the code of the instruction, but for the second letter of a name; by cases over modes and classes.
-use Rattle.std.specs.Prelude.{◌≡◌, Bool, cond, ℕ, eqb}
+use Rattle.std.specs.Prelude.{◌≡◌, Bool, cond, ℕ, eqb, Option, None, Some}
 use Rattle.std.proofs.Math.Path.{refl}
 use Rattle.std.proofs.Common.{sym, ◌∙◌, subst}
 use Rattle.std.proofs.Math.Bool.{true, false}
 use Rattle.std.proofs.lemmas.Bool.{false≢true}
 use Rattle.numerals.specs.declared.bytes.Class.{Class}
 use Rattle.numerals.specs.declared.bytes.Class.TheVariants.{Blank, Semicolon, Letter, Digit, Sign, Point, Other}
-use Rattle.mnemonics.specs.declared.Found.{Found}
-use Rattle.mnemonics.specs.declared.Found.TheVariants.{At, Nowhere}
 use Rattle.reader.specs.declared.Event.{Event}
 use Rattle.reader.specs.declared.Event.TheVariants.{Nothing, Named, Pair, Ended, Refused}
 use Rattle.reader.specs.declared.Closed.{Closed}
@@ -80,10 +78,10 @@ module _ (r : Reader) where
   unfolding open_of Leads
   opens n w = record { told = record { op = refl; within = λ e. w } }
 
-  finds : (f : Found) → Tells r (found_of r f)
+  finds : (f : Option ℕ) → Tells r (found_of r f)
   unfolding found_of begin_of Leads
-  finds (At op) = record { told = refl }
-  finds Nowhere = passes _
+  finds (Some op) = record { told = refl }
+  finds None = passes _
 
   names : (a b : ℕ) → Tells r (name_of r a b)
   unfolding name_of inside

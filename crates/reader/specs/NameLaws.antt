@@ -1,12 +1,10 @@
 -- "Two letters, the second directly after the first, name an instruction; a first letter followed by anything else is refused with 1 on that byte, an unknown name with 1
 -- on its second letter." Which letters name one is computed in the crate mnemonics (Said.antt).
-use Rattle.std.specs.Prelude.{◌≡◌, refl, Bool, true, false, cond, ℕ}
+use Rattle.std.specs.Prelude.{◌≡◌, refl, Bool, true, false, cond, ℕ, Option, None, Some}
 use Rattle.std.proofs.Common.{ap, ◌∙◌}
 use Rattle.numerals.specs.declared.bytes.Class.{Class}
 use Rattle.numerals.specs.declared.bytes.Class.TheVariants.{Blank, Semicolon, Letter, Digit, Sign, Point, Other}
 use Rattle.numerals.specs.Bytes.{class_of}
-use Rattle.mnemonics.specs.declared.Found.{Found}
-use Rattle.mnemonics.specs.declared.Found.TheVariants.{At, Nowhere}
 use Rattle.mnemonics.specs.Table.{find_of, is_label}
 use Rattle.reader.specs.declared.Event.{Event}
 use Rattle.reader.specs.declared.Event.TheVariants.{Named, Refused}
@@ -17,9 +15,9 @@ use Rattle.reader.specs.Reader.{go_on_of, refuse_of, begin_of}
 use Rattle.reader.specs.Step.{found_of, name_of, first_of, by_mode, step_of}
 
 -- what the byte after a first letter means: the instruction that the two letters name, or 1
-abbrev pub named : Found → Event
-named (At op) = Named op
-named Nowhere = Refused 1
+abbrev pub named : Option ℕ → Event
+named (Some op) = Named op
+named None = Refused 1
 
 abbrev pub after : ℕ → Class → Event
 after a (Letter b) = cond (is_label a b) (Refused 1) (named (find_of a b))
@@ -30,10 +28,10 @@ after a (Sign s) = Refused 1
 after a Point = Refused 1
 after a Other = Refused 1
 
-found-event : (r : Reader) (f : Found) → (found_of r f).event ≡ named f
+found-event : (r : Reader) (f : Option ℕ) → (found_of r f).event ≡ named f
 unfolding found_of begin_of refuse_of go_on_of
-found-event r (At op) = refl
-found-event r Nowhere = refl
+found-event r (Some op) = refl
+found-event r None = refl
 
 name-event : (r : Reader) (a b : ℕ) → (name_of r a b).event ≡ cond (is_label a b) (Refused 1) (named (find_of a b))
 unfolding name_of refuse_of go_on_of

@@ -1,5 +1,5 @@
 -- What a list of bytes comes to: the first event in it that is more than Nothing, or none.
-use Rattle.std.specs.Prelude.{ℕ, ◌+◌, ◌≡◌, Bool, true, false, cond, List, [], ◌∷◌, eqb}
+use Rattle.std.specs.Prelude.{ℕ, ◌+◌, ◌≡◌, Bool, true, false, cond, List, [], ◌∷◌, eqb, Option, None, Some}
 use Rattle.reader.specs.declared.Event.{Event}
 use Rattle.reader.specs.declared.Event.TheVariants.{Nothing, Named, Pair, Ended, Refused}
 use Rattle.reader.specs.declared.Mode.{Mode}
@@ -10,8 +10,6 @@ use Rattle.reader.specs.declared.Next.{Next}
 use Rattle.numerals.specs.Bytes.{is_digit}
 use Rattle.numerals.specs.declared.number.Number.{Number}
 use Rattle.mnemonics.specs.Table.{takes_pairs}
-use Rattle.reader.specs.declared.Ahead.{Ahead}
-use Rattle.reader.specs.declared.Ahead.TheVariants as ahead
 use Rattle.reader.specs.declared.Coordinates.{Coordinates}
 use Rattle.reader.specs.Reader.{none_of}
 use Rattle.reader.specs.Step.{step_of}
@@ -60,6 +58,6 @@ unfoldable pub paired_of : Reader → Mode → Number → Coordinates → ℕ �
 paired_of r m n p at = record { reader = record { mode = m; op = r.op; numbers = none_of; number = n }; event = Pair p; at = at }
 
 -- What is told of bytes ahead: a pair is what they come to; where none is known yet, they may come to anything.
-unfoldable pub ReadAhead : Reader → List ℕ → ℕ → Ahead → Type 0
-ReadAhead r bs at (ahead.Pair q) = q ≡ next_of r bs at
-ReadAhead r bs at ahead.Unknown = Unit {0}
+unfoldable pub ReadAhead : Reader → List ℕ → ℕ → Option Next → Type 0
+ReadAhead r bs at (Some q) = q ≡ next_of r bs at
+ReadAhead r bs at None = Unit {0}

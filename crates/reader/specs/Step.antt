@@ -4,13 +4,9 @@
 --   open_of r n       the number n is open
 --   end_of r m        the instruction ends, and the reader goes on in mode m
 --   close_of r m      the open number ends and, if m is outside the instruction, so does that; the reader goes on in mode m
-use Rattle.std.specs.Prelude.{ℕ, false, cond, ℤ, eqb}
+use Rattle.std.specs.Prelude.{ℕ, false, cond, ℤ, eqb, Option, None, Some}
 use Rattle.numerals.specs.declared.bytes.Class.{Class}
 use Rattle.numerals.specs.declared.bytes.Class.TheVariants.{Blank, Semicolon, Letter, Digit, Sign, Point, Other}
-use Rattle.numerals.specs.declared.number.Value.{Value}
-use Rattle.numerals.specs.declared.number.Value.TheVariants.{Good, Bad}
-use Rattle.mnemonics.specs.declared.Found.{Found}
-use Rattle.mnemonics.specs.declared.Found.TheVariants.{At, Nowhere}
 use Rattle.reader.specs.declared.Coordinates.{Coordinates}
 use Rattle.reader.specs.declared.Event.TheVariants.{Pair, Ended}
 use Rattle.reader.specs.declared.Closed.{Closed}
@@ -26,9 +22,9 @@ use Rattle.mnemonics.specs.Table.{find_of, count_fits, takes_pairs, has_room, is
 use Rattle.reader.specs.Inside.{inside}
 
 -- The second letter of a name: "an unknown name [is refused] with 1 on its second letter; LB is refused with 1 on its B".
-unfoldable pub found_of : Reader → Found → Step
-found_of r (At op) = begin_of r op
-found_of r Nowhere = refuse_of r PassOver unknown
+unfoldable pub found_of : Reader → Option ℕ → Step
+found_of r (Some op) = begin_of r op
+found_of r None = refuse_of r PassOver unknown
 
 unfoldable pub name_of : Reader → ℕ → ℕ → Step
 name_of r a b = cond (is_label a b) (refuse_of r Label unknown) (found_of r (find_of a b))
@@ -42,9 +38,9 @@ kept_of r v =
     (Kept (stored_of r.numbers v)))
     (Faulty wrong_count)
 
-unfoldable pub judged_of : Reader → Value → Closed
-judged_of r (Good v) = kept_of r v
-judged_of r Bad = Faulty out_of_range
+unfoldable pub judged_of : Reader → Option ℤ → Closed
+judged_of r (Some v) = kept_of r v
+judged_of r None = Faulty out_of_range
 
 unfoldable pub closed_of : Reader → Closed
 closed_of r = judged_of r (finish_of r.number)

@@ -1,7 +1,6 @@
 -- An instruction as a person writes it, and the events that it is to have.
-use Rattle.std.specs.Prelude.{◌≡◌, List, [], ◌∷◌, ◌++◌, ℕ, T, ℤ}
+use Rattle.std.specs.Prelude.{◌≡◌, List, [], ◌∷◌, ◌++◌, ℕ, T, ℤ, Some}
 use Prim.Native.Char.{code}
-use Rattle.numerals.specs.declared.number.Value.TheVariants.{Good}
 use Rattle.numerals.specs.declared.number.Number.{Number}
 use Rattle.reader.specs.declared.Coordinates.{Coordinates}
 use Rattle.reader.specs.declared.Numbers.{Numbers}
@@ -29,7 +28,7 @@ pub record Literal : Type 0 where
   pub written : T (some (text numeral))
   pub whole : Digits numeral.whole
   pub fraction : Digits (decimals numeral.fraction)
-  pub good : value_of numeral ≡ Good value
+  pub good : value_of numeral ≡ Some value
 
 -- The numbers between commas, and a semicolon.
 abbrev pub printed : List Literal → List ℕ

@@ -4,6 +4,7 @@
 use numerals::number::Number;
 
 // The causes of a refusal that the reader finds: an unknown byte or name, the count of numbers, a number out of range.
+// Numbers and no enum: they are what take answers to C, and what OE tells.
 pub const UNKNOWN: u8 = 1;
 
 pub const WRONG_COUNT: u8 = 2;
@@ -19,6 +20,7 @@ pub struct Coordinates {
 
 // An instruction's numbers, in ten-thousandths, and how many there are. Of an instruction that takes pairs only the first
 // number of an open pair is kept.
+// Four numbers and no array: each is a number by itself to the rules (hpgl/specs/Rules.antt), and in the list of a saved machine.
 #[derive(Clone, Copy)]
 pub struct Numbers {
     pub count: u8,
@@ -39,7 +41,8 @@ pub enum Event {
     Refused(u8),
 }
 
-// What becomes of a number that ends: it is kept among the others, completes a pair, or is refused.
+// What becomes of a number that ends: it is kept among the others, completes a pair, or is refused. Two of the three
+// outcomes are good and go different ways, so that it is no Result.
 #[derive(Clone, Copy)]
 pub enum Closed {
     Kept(Numbers),
@@ -80,11 +83,4 @@ pub struct Next {
     pub reader: Reader,
     pub event: Event,
     pub at: usize,
-}
-
-// A pair that stands ahead, read at once, or nothing that is known yet.
-#[derive(Clone, Copy)]
-pub enum Ahead {
-    Pair(Next),
-    Unknown,
 }

@@ -1,4 +1,5 @@
 -- A number at a place, and a pair: to read them at once comes to the same as their bytes one by one.
+use Rattle.std.specs.Prelude.{Option, None, Some}
 use mathlib.Core.Path.{◌≡◌, refl, sym, ap, ◌∙◌}
 use mathlib.Core.Bool.{Bool, true, false, cond, true≢false}
 use mathlib.Core.List.{List, ◌∷◌}
@@ -13,8 +14,6 @@ use lib.ListN.{length, drop, get_or}
 use lib.Seq.{drop-cons}
 use Rattle.numerals.specs.declared.number.Number.{Number}
 use Rattle.numerals.specs.declared.number.Scanned.{Scanned}
-use Rattle.numerals.specs.declared.number.Value.{Value}
-use Rattle.numerals.specs.declared.number.Value.TheVariants.{Good, Bad}
 use Rattle.numerals.specs.Bytes.{is_digit, is_at, low_class_of, class_of}
 use Rattle.numerals.specs.Number.{start_of, point_of, counted_of, digit_of, finish_of}
 use Rattle.numerals.specs.Run.{run_of, counts_whole, scanned_of, minus_length, whole_from, whole_at, digits_from, fraction_of, number_at}
@@ -184,15 +183,15 @@ module _ (s : List ℕ) where
 
 -- ---- a pair
 
-is_good : Value → Bool
-is_good (Good v) = true
-is_good Bad = false
+is_good : Option ℤ → Bool
+is_good (Some v) = true
+is_good None = false
 
-good-filled : (n : Number) (v : ℤ) → finish_of n ≡ Good v → n.filled ≡ true
+good-filled : (n : Number) (v : ℤ) → finish_of n ≡ Some v → n.filled ≡ true
 unfolding finish_of is_good
 good-filled n v e = go n.filled _ refl e
   where
-    go : (x : Bool) (u : Value) → n.filled ≡ x → cond x u Bad ≡ Good v → n.filled ≡ true
+    go : (x : Bool) (u : Option ℤ) → n.filled ≡ x → cond x u None ≡ Some v → n.filled ≡ true
     go true u p t = p
     go false u p t = absurd (true≢false (sym (ap is_good t)))
 
@@ -234,7 +233,7 @@ halfway r a n = reader r.op (stored_of r.numbers a) Parameters n
 abbrev after : Reader → ℤ → ℤ → Number → Mode → Step
 after r a b k m = reader r.op none_of m k telling Pair (record { x = a; y = b })
 
-module _ (r : Reader) (double : takes_pairs r.op ≡ true) (none : r.numbers.count ≡ 0) (a : ℤ) (n : Number) (x : finish_of n ≡ Good a) where
+module _ (r : Reader) (double : takes_pairs r.op ≡ true) (none : r.numbers.count ≡ 0) (a : ℤ) (n : Number) (x : finish_of n ≡ Some a) where
   x-kept : closed_of (opened r n) ≡ Kept (stored_of r.numbers a)
   unfolding closed_of judged_of kept_of
   x-kept = rw x (simp (none, space r.op 0 double (lit< tt), double))
@@ -247,7 +246,7 @@ module _ (r : Reader) (double : takes_pairs r.op ≡ true) (none : r.numbers.cou
   unfolding stored_of
   one-stored = rw none refl
 
-  module _ (b : ℤ) (k : Number) (y : finish_of k ≡ Good b) where
+  module _ (b : ℤ) (k : Number) (y : finish_of k ≡ Some b) where
     y-complete : closed_of (opened (halfway r a n) k) ≡ Complete (record { x = a; y = b })
     unfolding closed_of judged_of kept_of pair_of
     y-complete = rw (y, one-stored) (simp (space r.op 1 double (lit< tt), double))
@@ -264,7 +263,7 @@ module _ (r : Reader) (double : takes_pairs r.op ≡ true) (none : r.numbers.cou
 module _
     (r : Reader) (s : List ℕ) (from : ℕ) (w : awaits_pair r ≡ true)
     (p q : Scanned) (e : p ≡ number_at s from) (c : is_at s p.at (code ",") ≡ true) (f : q ≡ number_at s (p.at + 1))
-    (a b : ℤ) (x : finish_of p.number ≡ Good a) (y : finish_of q.number ≡ Good b)
+    (a b : ℤ) (x : finish_of p.number ≡ Some a) (y : finish_of q.number ≡ Some b)
   where
     abbrev last : Reader
     last = opened (halfway r a p.number) q.number

@@ -7,17 +7,18 @@ ghost use Rattle.reader.specs.Next.{more_digits, is_nothing, in_parameters, awai
 ghost use Rattle.reader.specs.Reader.{none_of, stored_of, pair_of, fresh_reader, go_on_of, quiet_of, refuse_of, begin_of, open_of, with_numbers};
 ghost use Rattle.reader.specs.Step.{name_of, kept_of, closed_of, end_of, complete_of, ending_of, after_number_of, close_of, idle_of, first_of, parameters_of, in_number_of, pass_over_of, label_of, step_of, passed_mode, passed_over};
 
-use mnemonics::{Found, IN, count_fits, find, has_room, is_label, takes_pairs};
+use mnemonics::{IN, count_fits, find, has_room, is_label, takes_pairs};
 use numerals::bytes::{Class, class_of, is_at, is_digit};
-use numerals::number::{Number, Value, number_at};
+use numerals::number::{Number, number_at};
 use reader::{
-    Ahead, Closed, Coordinates, Event, Mode, Next, Numbers, OUT_OF_RANGE, Reader, Step, UNKNOWN,
+    Closed, Coordinates, Event, Mode, Next, Numbers, OUT_OF_RANGE, Reader, Step, UNKNOWN,
     WRONG_COUNT,
 };
 
 // A label's text ends with this byte.
 const LABEL_END: u8 = 3;
 
+#[tactic(auto, using(exact::proofs::Rules::rules), unfolding(reader::specs::Reader::none_of))]
 fn none() -> Numbers
     ensures { result ≡ none_of }
 {
@@ -31,47 +32,36 @@ fn none() -> Numbers
 }
 
 // One number more, at the place that the count says.
+#[tactic(auto, using(exact::proofs::Rules::rules), unfolding(reader::specs::Reader::stored_of))]
 fn stored(numbers: Numbers, value: i64) -> Numbers
     ensures { result ≡ stored_of numbers value }
 {
-    let count = numbers.count;
-    if count == 0 {
-        return Numbers {
+    match numbers.count {
+        0 => Numbers {
             count: 1,
             first: value,
-            second: numbers.second,
-            third: numbers.third,
-            fourth: numbers.fourth,
-        };
-    }
-    if count == 1 {
-        return Numbers {
+            ..numbers
+        },
+        1 => Numbers {
             count: 2,
-            first: numbers.first,
             second: value,
-            third: numbers.third,
-            fourth: numbers.fourth,
-        };
-    }
-    if count == 2 {
-        return Numbers {
+            ..numbers
+        },
+        2 => Numbers {
             count: 3,
-            first: numbers.first,
-            second: numbers.second,
             third: value,
-            fourth: numbers.fourth,
-        };
-    }
-    Numbers {
-        count: 4,
-        first: numbers.first,
-        second: numbers.second,
-        third: numbers.third,
-        fourth: value,
+            ..numbers
+        },
+        _ => Numbers {
+            count: 4,
+            fourth: value,
+            ..numbers
+        },
     }
 }
 
 // The pair that a number completes.
+#[tactic(auto, using(exact::proofs::Rules::rules), unfolding(reader::specs::Reader::pair_of))]
 fn pair(numbers: Numbers, value: i64) -> Coordinates
     ensures { result ≡ pair_of numbers value }
 {
@@ -82,58 +72,39 @@ fn pair(numbers: Numbers, value: i64) -> Coordinates
 }
 
 // Whether a mode is inside an instruction: after its name, and before the byte that ends it or is refused.
+#[tactic(auto, using(exact::proofs::Rules::rules), unfolding(reader::specs::Inside::inside))]
 fn inside(mode: Mode) -> bool
     ensures { result ≡ inside mode }
 {
-    match mode {
-        Mode::Idle => false,
-        Mode::First(_) => false,
-        Mode::Parameters => true,
-        Mode::InNumber => true,
-        Mode::PassOver => false,
-        Mode::Label => false,
-    }
+    matches!(mode, Mode::Parameters | Mode::InNumber)
 }
 
 // Whether a mode is in an instruction with no number open.
+#[tactic(auto, using(exact::proofs::Rules::rules), unfolding(reader::specs::Next::in_parameters))]
 fn in_parameters(mode: Mode) -> bool
     ensures { result ≡ in_parameters mode }
 {
-    match mode {
-        Mode::Idle => false,
-        Mode::First(_) => false,
-        Mode::Parameters => true,
-        Mode::InNumber => false,
-        Mode::PassOver => false,
-        Mode::Label => false,
-    }
+    matches!(mode, Mode::Parameters)
 }
 
 // Inside an instruction its rest is passed over, and elsewhere the mode stays. No refused byte leaves a number open.
+#[tactic(auto, using(exact::proofs::Rules::rules), unfolding(reader::specs::Step::passed_mode))]
 fn passed_mode(mode: Mode) -> Mode
     ensures { result ≡ passed_mode mode }
 {
-    if inside(mode) {
-        return Mode::PassOver;
-    }
-    mode
+    if inside(mode) { Mode::PassOver } else { mode }
 }
 
 // Whether a byte is one more digit of an open number.
+#[tactic(auto, using(exact::proofs::Rules::rules), unfolding(reader::specs::Next::more_digits))]
 fn more_digits(mode: Mode, byte: u8) -> bool
     ensures { result ≡ more_digits mode byte }
 {
-    match mode {
-        Mode::Idle => false,
-        Mode::First(_) => false,
-        Mode::Parameters => false,
-        Mode::InNumber => is_digit(byte),
-        Mode::PassOver => false,
-        Mode::Label => false,
-    }
+    matches!(mode, Mode::InNumber) && is_digit(byte)
 }
 
 // The mode that a byte which ends a number leads to. Others do not end it.
+#[tactic(auto, using(exact::proofs::Rules::rules), unfolding(reader::specs::Step::ending_of))]
 fn ending(class: Class) -> Mode
     ensures { result ≡ ending_of class }
 {
@@ -141,25 +112,18 @@ fn ending(class: Class) -> Mode
         Class::Blank => Mode::Parameters,
         Class::Semicolon => Mode::Idle,
         Class::Letter(letter) => Mode::First(letter),
-        Class::Digit(_) => Mode::InNumber,
-        Class::Sign(_) => Mode::InNumber,
-        Class::Point => Mode::InNumber,
-        Class::Other => Mode::InNumber,
+        Class::Digit(_) | Class::Sign(_) | Class::Point | Class::Other => Mode::InNumber,
     }
 }
 
+#[tactic(auto, using(exact::proofs::Rules::rules), unfolding(reader::specs::Next::is_nothing))]
 fn is_nothing(event: Event) -> bool
     ensures { result ≡ is_nothing event }
 {
-    match event {
-        Event::Nothing => true,
-        Event::Named(_) => false,
-        Event::Pair(_) => false,
-        Event::Ended(_, _) => false,
-        Event::Refused(_) => false,
-    }
+    matches!(event, Event::Nothing)
 }
 
+#[tactic(auto, using(exact::proofs::Rules::rules), unfolding(reader::specs::Reader::fresh_reader))]
 pub fn fresh() -> Reader
     ensures { result ≡ fresh_reader }
 {
@@ -172,12 +136,12 @@ pub fn fresh() -> Reader
 }
 
 // One byte.
+#[tactic(auto, using(exact::proofs::Rules::rules), unfolding(reader::specs::Step::step_of, reader::specs::Step::by_mode))]
 pub fn step(reader: Reader, byte: u8) -> Step
     ensures { result ≡ step_of reader byte }
 {
-    let mode = reader.mode;
     let class = class_of(byte);
-    match mode {
+    match reader.mode {
         Mode::Idle => idle(reader, class),
         Mode::First(letter) => first(reader, letter, class),
         Mode::Parameters => parameters(reader, class),
@@ -188,74 +152,64 @@ pub fn step(reader: Reader, byte: u8) -> Step
 }
 
 // The bytes from a place on, up to the first that means something, or the end.
+#[tactic(auto, unfolding(reader::specs::Next::ReadAhead))]
 pub fn next(reader: Reader, bytes: &[u8], from: usize) -> Next
     ensures { result ≡ next_of reader (drop from bytes.now) from }
 {
     // most of a drawing
     if awaits_pair(reader) {
-        if let Ahead::Pair(q) = pair_ahead(reader, bytes, from) {
-            return q;
+        if let Some(next) = pair_ahead(reader, bytes, from) {
+            return next;
         }
     }
     by_steps(reader, bytes, from)
 }
 
 // Whether a pair may begin: in an instruction that takes pairs, with no number of one.
+#[tactic(auto, using(exact::proofs::Rules::rules), unfolding(reader::specs::Next::awaits_pair))]
 fn awaits_pair(reader: Reader) -> bool
     ensures { result ≡ awaits_pair reader }
 {
-    let mode = reader.mode;
-    let numbers = reader.numbers;
-    if in_parameters(mode) {
-        if takes_pairs(reader.op) {
-            return numbers.count == 0;
-        }
-        return false;
-    }
-    false
+    in_parameters(reader.mode) && takes_pairs(reader.op) && reader.numbers.count == 0
 }
 
 // A pair as most are written, with a comma between its numbers and a comma or semicolon after it. Others are read by steps.
-fn pair_ahead(reader: Reader, bytes: &[u8], from: usize) -> Ahead
+#[tactic(auto, unfolding(reader::specs::Next::ReadAhead))]
+fn pair_ahead(reader: Reader, bytes: &[u8], from: usize) -> Option<Next>
     requires { awaits_pair reader ≡ true }
     ensures { ReadAhead reader (drop from bytes.now) from result }
 {
     let x = number_at(bytes, from);
     if !is_at(bytes, x.at, b',') {
-        return Ahead::Unknown;
+        return None;
     }
     let y = number_at(bytes, x.at + 1);
-    let first = x.number;
-    let second = y.number;
-    let Value::Good(across) = first.finish() else {
-        return Ahead::Unknown;
-    };
-    let Value::Good(up) = second.finish() else {
-        return Ahead::Unknown;
-    };
+    let across = x.number.finish()?;
+    let up = y.number.finish()?;
     let pair = Coordinates { x: across, y: up };
     if is_at(bytes, y.at, b';') {
-        return Ahead::Pair(paired(reader, Mode::Idle, second, pair, y.at + 1));
+        return Some(paired(reader, Mode::Idle, y.number, pair, y.at + 1));
     }
     if is_at(bytes, y.at, b',') {
-        return Ahead::Pair(paired(reader, Mode::Parameters, second, pair, y.at + 1));
+        return Some(paired(reader, Mode::Parameters, y.number, pair, y.at + 1));
     }
-    Ahead::Unknown
+    None
 }
 
 // After a pair whose last number is this one.
+#[tactic(auto, using(exact::proofs::Rules::rules), unfolding(reader::specs::Next::paired_of))]
 fn paired(reader: Reader, mode: Mode, number: Number, pair: Coordinates, at: usize) -> Next
     ensures { result ≡ paired_of reader mode number pair at }
 {
     Next {
         reader: Reader {
-            mode: mode,
-            op: reader.op,
+            mode,
             numbers: none(),
-            number: number,
+            number,
+            ..reader
         },
         event: Event::Pair(pair),
-        at: at,
+        at,
     }
 }
 
@@ -265,15 +219,13 @@ fn by_steps(start: Reader, bytes: &[u8], from: usize) -> Next
 {
     let mut reader = start;
     let mut at = from;
+    // a while, since a run of digits moves the place by more than one
     while at < bytes.len() {
         let byte = bytes[at];
-        let mode = reader.mode;
         // most bytes of a drawing: only the number changes, and no step is built
-        if more_digits(mode, byte) {
-            let number = reader.number;
-            let scanned = number.with_digits(bytes, at);
-            let longer = scanned.number;
-            reader.number = longer;
+        if more_digits(reader.mode, byte) {
+            let scanned = reader.number.with_digits(bytes, at);
+            reader.number = scanned.number;
             at = scanned.at;
             continue;
         }
@@ -284,36 +236,28 @@ fn by_steps(start: Reader, bytes: &[u8], from: usize) -> Next
         if is_nothing(event) {
             continue;
         }
-        return Next {
-            reader: reader,
-            event: event,
-            at: at,
-        };
+        return Next { reader, event, at };
     }
     Next {
-        reader: reader,
+        reader,
         event: Event::Nothing,
-        at: at,
+        at,
     }
 }
 
 // Where a refusal leaves the reader, by a layer above or its own.
+#[tactic(auto, using(exact::proofs::Rules::rules), unfolding(reader::specs::Step::passed_over))]
 pub fn passed_over(reader: Reader) -> Reader
     ensures { result ≡ passed_over reader }
 {
-    let mode = reader.mode;
-    let numbers = reader.numbers;
-    let number = reader.number;
-    let passed = passed_mode(mode);
     Reader {
-        mode: passed,
-        op: reader.op,
-        numbers: numbers,
-        number: number,
+        mode: passed_mode(reader.mode),
+        ..reader
     }
 }
 
 // Between instructions.
+#[tactic(auto, using(exact::proofs::Rules::rules), unfolding(reader::specs::Step::idle_of))]
 fn idle(reader: Reader, class: Class) -> Step
     ensures { result ≡ idle_of reader class }
 {
@@ -329,6 +273,7 @@ fn idle(reader: Reader, class: Class) -> Step
 }
 
 // After a first letter.
+#[tactic(auto, using(exact::proofs::Rules::rules), unfolding(reader::specs::Step::first_of))]
 fn first(reader: Reader, letter: u8, class: Class) -> Step
     ensures { result ≡ first_of reader letter class }
 {
@@ -344,6 +289,7 @@ fn first(reader: Reader, letter: u8, class: Class) -> Step
 }
 
 // In an instruction, with no number open.
+#[tactic(auto, using(exact::proofs::Rules::rules), unfolding(reader::specs::Step::parameters_of))]
 fn parameters(reader: Reader, class: Class) -> Step
     ensures { result ≡ parameters_of reader class }
 {
@@ -359,6 +305,7 @@ fn parameters(reader: Reader, class: Class) -> Step
 }
 
 // In an instruction, with a number open.
+#[tactic(auto, using(exact::proofs::Rules::rules), unfolding(reader::specs::Step::in_number_of, reader::specs::Step::ending_of))]
 fn in_number(reader: Reader, class: Class) -> Step
     ensures { result ≡ in_number_of reader class }
 {
@@ -379,6 +326,7 @@ fn in_number(reader: Reader, class: Class) -> Step
 }
 
 // After a refusal, up to a semicolon or letter.
+#[tactic(auto, using(exact::proofs::Rules::rules), unfolding(reader::specs::Step::pass_over_of))]
 fn pass_over(reader: Reader, class: Class) -> Step
     ensures { result ≡ pass_over_of reader class }
 {
@@ -393,6 +341,7 @@ fn pass_over(reader: Reader, class: Class) -> Step
 }
 
 // In a label's text.
+#[tactic(auto, using(exact::proofs::Rules::rules), unfolding(reader::specs::Step::label_of))]
 fn label(reader: Reader, byte: u8) -> Step
     ensures { result ≡ label_of reader byte }
 {
@@ -403,6 +352,7 @@ fn label(reader: Reader, byte: u8) -> Step
 }
 
 // The second letter of a name.
+#[tactic(auto, using(exact::proofs::Rules::rules), unfolding(reader::specs::Step::name_of, reader::specs::Step::found_of))]
 fn name(reader: Reader, first: u8, second: u8) -> Step
     ensures { result ≡ name_of reader first second }
 {
@@ -410,33 +360,33 @@ fn name(reader: Reader, first: u8, second: u8) -> Step
         return refuse(reader, Mode::Label, UNKNOWN);
     }
     match find(first, second) {
-        Found::At(op) => begin(reader, op),
-        Found::Nowhere => refuse(reader, Mode::PassOver, UNKNOWN),
+        Some(op) => begin(reader, op),
+        None => refuse(reader, Mode::PassOver, UNKNOWN),
     }
 }
 
 // An instruction begins.
+#[tactic(auto, using(exact::proofs::Rules::rules), unfolding(reader::specs::Reader::begin_of))]
 fn begin(reader: Reader, op: usize) -> Step
     ensures { result ≡ begin_of reader op }
 {
-    let number = reader.number;
     Step {
         reader: Reader {
             mode: Mode::Parameters,
-            op: op,
+            op,
             numbers: none(),
-            number: number,
+            ..reader
         },
         event: Event::Named(op),
     }
 }
 
 // An instruction ends.
+#[tactic(auto, using(exact::proofs::Rules::rules), unfolding(reader::specs::Step::end_of))]
 fn end(reader: Reader, mode: Mode) -> Step
     ensures { result ≡ end_of reader mode }
 {
-    let op = reader.op;
-    let numbers = reader.numbers;
+    let Reader { op, numbers, .. } = reader;
     if count_fits(op, numbers.count) {
         return go_on(reader, mode, Event::Ended(op, numbers));
     }
@@ -444,44 +394,41 @@ fn end(reader: Reader, mode: Mode) -> Step
 }
 
 // What becomes of a good number: the second of a pair completes it.
+#[tactic(auto, using(exact::proofs::Rules::rules), unfolding(reader::specs::Step::kept_of))]
 fn kept(reader: Reader, value: i64) -> Closed
     ensures { result ≡ kept_of reader value }
 {
-    let op = reader.op;
-    let numbers = reader.numbers;
-    let count = numbers.count;
-    if has_room(op, count) {
-        if takes_pairs(op) {
-            if count == 1 {
-                return Closed::Complete(pair(numbers, value));
-            }
-            return Closed::Kept(stored(numbers, value));
-        }
-        return Closed::Kept(stored(numbers, value));
+    let Reader { op, numbers, .. } = reader;
+    if !has_room(op, numbers.count) {
+        return Closed::Faulty(WRONG_COUNT);
     }
-    Closed::Faulty(WRONG_COUNT)
+    if takes_pairs(op) && numbers.count == 1 {
+        return Closed::Complete(pair(numbers, value));
+    }
+    Closed::Kept(stored(numbers, value))
 }
 
 // What becomes of the open number.
+#[tactic(auto, using(exact::proofs::Rules::rules), unfolding(reader::specs::Step::closed_of, reader::specs::Step::judged_of))]
 fn closed(reader: Reader) -> Closed
     ensures { result ≡ closed_of reader }
 {
-    let number = reader.number;
-    match number.finish() {
-        Value::Good(value) => kept(reader, value),
-        Value::Bad => Closed::Faulty(OUT_OF_RANGE),
+    match reader.number.finish() {
+        Some(value) => kept(reader, value),
+        None => Closed::Faulty(OUT_OF_RANGE),
     }
 }
 
 // A pair is complete, and no number of it is kept.
+#[tactic(auto, using(exact::proofs::Rules::rules), unfolding(reader::specs::Step::complete_of))]
 fn complete(reader: Reader, mode: Mode, pair: Coordinates) -> Step
     ensures { result ≡ complete_of reader mode pair }
 {
-    let none = none();
-    go_on(with_numbers(reader, none), mode, Event::Pair(pair))
+    go_on(with_numbers(reader, none()), mode, Event::Pair(pair))
 }
 
 // A number has been kept: its instruction goes on, or the byte that leads out of it ends it.
+#[tactic(auto, using(exact::proofs::Rules::rules), unfolding(reader::specs::Step::after_number_of))]
 fn after_number(reader: Reader, mode: Mode) -> Step
     ensures { result ≡ after_number_of reader mode }
 {
@@ -492,6 +439,7 @@ fn after_number(reader: Reader, mode: Mode) -> Step
 }
 
 // The open number ends, on a byte that leads to a mode.
+#[tactic(auto, using(exact::proofs::Rules::rules), unfolding(reader::specs::Step::close_of, reader::specs::Step::close_with))]
 fn close(reader: Reader, mode: Mode) -> Step
     ensures { result ≡ close_of reader mode }
 {
@@ -503,57 +451,46 @@ fn close(reader: Reader, mode: Mode) -> Step
 }
 
 // The reader in an open number.
+#[tactic(auto, using(exact::proofs::Rules::rules), unfolding(reader::specs::Reader::open_of))]
 fn open(reader: Reader, number: Number) -> Step
     ensures { result ≡ open_of reader number }
 {
-    let numbers = reader.numbers;
     Step {
         reader: Reader {
             mode: Mode::InNumber,
-            op: reader.op,
-            numbers: numbers,
-            number: number,
+            number,
+            ..reader
         },
         event: Event::Nothing,
     }
 }
 
+#[tactic(auto, using(exact::proofs::Rules::rules), unfolding(reader::specs::Reader::with_numbers))]
 fn with_numbers(reader: Reader, numbers: Numbers) -> Reader
     ensures { result ≡ with_numbers reader numbers }
 {
-    let mode = reader.mode;
-    let number = reader.number;
-    Reader {
-        mode: mode,
-        op: reader.op,
-        numbers: numbers,
-        number: number,
-    }
+    Reader { numbers, ..reader }
 }
 
 // The reader goes on in a mode, and the byte has a meaning: an event, nothing yet, or a refusal.
+#[tactic(auto, using(exact::proofs::Rules::rules), unfolding(reader::specs::Reader::go_on_of))]
 fn go_on(reader: Reader, mode: Mode, event: Event) -> Step
     ensures { result ≡ go_on_of reader mode event }
 {
-    let numbers = reader.numbers;
-    let number = reader.number;
     Step {
-        reader: Reader {
-            mode: mode,
-            op: reader.op,
-            numbers: numbers,
-            number: number,
-        },
-        event: event,
+        reader: Reader { mode, ..reader },
+        event,
     }
 }
 
+#[tactic(auto, using(exact::proofs::Rules::rules), unfolding(reader::specs::Reader::quiet_of))]
 fn quiet(reader: Reader, mode: Mode) -> Step
     ensures { result ≡ quiet_of reader mode }
 {
     go_on(reader, mode, Event::Nothing)
 }
 
+#[tactic(auto, using(exact::proofs::Rules::rules), unfolding(reader::specs::Reader::refuse_of))]
 fn refuse(reader: Reader, mode: Mode, cause: u8) -> Step
     ensures { result ≡ refuse_of reader mode cause }
 {

@@ -1,5 +1,5 @@
 -- A whole number's decimal text, as the reader takes it: a sign, digits and no point. It reads as that number.
-use Rattle.std.specs.Prelude.{Bool, true, false, cond, List, [], ◌∷◌, ◌++◌, ◌≡◌, refl, ℕ, zero, suc, ◌+◌, ◌*◌, ◌/◌, ◌%◌, ◌≤◌, T, ltb, ℤ, pos, negsuc, neg_ℤ, ◌+ℤ◌, ◌*ℤ◌}
+use Rattle.std.specs.Prelude.{Bool, true, false, cond, List, [], ◌∷◌, ◌++◌, ◌≡◌, refl, ℕ, zero, suc, ◌+◌, ◌*◌, ◌/◌, ◌%◌, ◌≤◌, T, ltb, ℤ, pos, negsuc, neg_ℤ, ◌+ℤ◌, ◌*ℤ◌, None, Some}
 use Rattle.std.proofs.Common.{append-nil, sym, ap, ◌∙◌, arith, ltb-true, lt-ltb}
 use Prim.Native.Char.{code}
 use Rattle.exact.specs.Whole.{◌≤ᶻ◌, ◌<ᶻ◌, is, Z, ord, le-le_z}
@@ -7,7 +7,6 @@ use Rattle.exact.specs.Divide.{nearest_div}
 use Rattle.exact.specs.Int16.{int16, int16-iff, least16, most16}
 use Rattle.exact.specs.Nearest.{nearest-only}
 use Rattle.decimals.specs.Decimal.{digit, digits_within, decimal, natural, whole}
-use Rattle.numerals.specs.declared.number.Value.TheVariants.{Good, Bad}
 use Rattle.numerals.specs.Numeral.{bare, minus, none, Numeral, text, digits_text, Digits, decimals, worth, worth_from, signed, some, in_range, nearest, value_of}
 use Rattle.reader.specs.Written.{Literal}
 
@@ -156,15 +155,15 @@ unfolding numeral_of
 numeral-some (pos n) = figures-some n []
 numeral-some (negsuc n) = figures-some (suc n) []
 
-judged : (z : ℤ) → int16 z ≡ true → cond true (cond (in_range (kept z)) (Good (kept z)) Bad) Bad ≡ Good (kept z)
+judged : (z : ℤ) → int16 z ≡ true → cond true (cond (in_range (kept z)) (Some (kept z)) None) None ≡ Some (kept z)
 judged z h = rw (kept-range z h) refl
 
-pub numeral-value : (z : ℤ) → int16 z ≡ true → value_of (numeral_of z) ≡ Good (kept z)
+pub numeral-value : (z : ℤ) → int16 z ≡ true → value_of (numeral_of z) ≡ Some (kept z)
 unfolding value_of numeral_of
 numeral-value (pos n) h =
-    (λ i. cond (numeral-some (pos n) i) (cond (in_range (numeral-nearest (pos n) i)) (Good (numeral-nearest (pos n) i)) Bad) Bad) ∙ judged (pos n) h
+    (λ i. cond (numeral-some (pos n) i) (cond (in_range (numeral-nearest (pos n) i)) (Some (numeral-nearest (pos n) i)) None) None) ∙ judged (pos n) h
 numeral-value (negsuc n) h =
-    (λ i. cond (numeral-some (negsuc n) i) (cond (in_range (numeral-nearest (negsuc n) i)) (Good (numeral-nearest (negsuc n) i)) Bad) Bad) ∙ judged (negsuc n) h
+    (λ i. cond (numeral-some (negsuc n) i) (cond (in_range (numeral-nearest (negsuc n) i)) (Some (numeral-nearest (negsuc n) i)) None) None) ∙ judged (negsuc n) h
 
 -- as the reader's laws want it
 digits-some : (ds : List ℕ) → some (ds ++ []) ≡ true → T (some (digits_text ds ++ []))

@@ -1,6 +1,6 @@
 -- "numbers as short as they go" (document 02, CR 6): no text that reads as the same number is shorter than the one that is written.
 -- Why: the whole part of a text has as many digits as its value, or one fewer where the decimals round up to it, and then there is a point; below zero there is a minus.
-use Rattle.std.specs.Prelude.{Bool, true, false, cond, List, [], ◌∷◌, ◌++◌, ◌≡◌, refl, ℕ, zero, suc, ◌+◌, ◌*◌, ◌^◌, ◌≤◌, ◌<◌, ℤ, pos, negsuc, neg_ℤ, nat_abs, ◌*ℤ◌, length}
+use Rattle.std.specs.Prelude.{Bool, true, false, cond, List, [], ◌∷◌, ◌++◌, ◌≡◌, refl, ℕ, zero, suc, ◌+◌, ◌*◌, ◌^◌, ◌≤◌, ◌<◌, ℤ, pos, negsuc, neg_ℤ, nat_abs, ◌*ℤ◌, length, Option, None, Some}
 use Rattle.std.proofs.Common.{true≢false, append-nil, sym, ap, ◌∙◌, subst, pow-suc, mul-le-mul, le_refl, arith, length-append}
 use Rattle.exact.specs.Whole.{◌≤ᶻ◌, ◌<ᶻ◌, ord, up_neg, dn-neg, up-mul, dn-mul}
 use Rattle.exact.specs.Fit.{abs}
@@ -9,8 +9,6 @@ use Rattle.exact.specs.Divide.{nearest_div}
 use Rattle.exact.specs.Nearest.{nearest-mono}
 use Rattle.decimals.specs.Decimal.{decimal, sign, whole}
 use Rattle.decimals.proofs.DecimalLaws.{decimal-length}
-use Rattle.numerals.specs.declared.number.Value.{Value}
-use Rattle.numerals.specs.declared.number.Value.TheVariants.{Good, Bad}
 use Rattle.numerals.specs.Numeral.{Sign, bare, plus, minus, Fraction, none, point, Numeral, text, sign_text, digits_text, fraction_text, Digits, worth, worth_from, decimals, ten, signed, some, in_range, nearest, value_of}
 use Rattle.redrawn.specs.RedrawnLaws.{whole_long}
 use Rattle.redrawn.specs.Numerals.{kept, multiple, exactly}
@@ -85,24 +83,24 @@ module _ (a c t : ℕ) (h : 1 ≤ t) (l : a ≤ c * t) where
 
 -- ---- what a text's value says of its parts
 
-abbrev good_or : Value → ℤ
-good_or (Good v) = v
-good_or Bad = pos 0
+abbrev good_or : Option ℤ → ℤ
+good_or (Some v) = v
+good_or None = pos 0
 
-abbrev is_good : Value → Bool
-is_good (Good v) = true
-is_good Bad = false
+abbrev is_good : Option ℤ → Bool
+is_good (Some v) = true
+is_good None = false
 
 -- its value, and that it has a digit
 record Reads (n : Numeral) (v : ℤ) : Type 0 where
   value : nearest n ≡ v
   digit : some (n.whole ++ decimals n.fraction) ≡ true
 
-reads : (n : Numeral) (v : ℤ) → value_of n ≡ Good v → Reads n v
+reads : (n : Numeral) (v : ℤ) → value_of n ≡ Some v → Reads n v
 unfolding value_of
 reads n v = go (some (n.whole ++ decimals n.fraction)) (in_range (nearest n)) refl
   where
-    go : (a b : Bool) → some (n.whole ++ decimals n.fraction) ≡ a → cond a (cond b (Good (nearest n)) Bad) Bad ≡ Good v → Reads n v
+    go : (a b : Bool) → some (n.whole ++ decimals n.fraction) ≡ a → cond a (cond b (Some (nearest n)) None) None ≡ Some v → Reads n v
     go true true e h = record { value = ap good_or h; digit = e }
     go true false e h = absurd (true≢false (sym (ap is_good h)))
     go false b e h = absurd (true≢false (sym (ap is_good h)))
@@ -176,7 +174,7 @@ number-long s ws (point ds) h k z r =
     let l = decimal-length (length ws) (nat_abs z) (omega (arith, size s ws (point ds) h k z r, few ws h, pow-suc 10 (length ws))) in
     omega (arith, l, digits_long ds)
 
-pub shortest : (n : Numeral) → Digits n.whole → Digits (decimals n.fraction) → (z : ℤ) → value_of n ≡ Good (kept z) →
+pub shortest : (n : Numeral) → Digits n.whole → Digits (decimals n.fraction) → (z : ℤ) → value_of n ≡ Some (kept z) →
     (byte : ℕ) → length (whole z byte) ≤ length (text n ++ (byte ∷ []))
 shortest n h k z e byte =
     let r = reads n (kept z) e in

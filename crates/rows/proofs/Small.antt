@@ -1,40 +1,18 @@
--- The tests of a number that is read, and its cast: what `byte_of`, `short_of` and `word_of` ask.
-use mathlib.Core.Path.{◌≡◌, refl, sym, ap}
-use mathlib.Core.Bool.{true, false}
-use Prim.Native.Nat.{ℕ, ◌^◌}
-use lib.Dec.{T, ltb}
-use lib.IntN.{ℤ, pos, nat_abs}
-use lib.Signed.{le_z, non_neg}
-use mir.Syntax.{Width, w64}
-use mir.Val.{Fits, SFits, bits}
-use native.Mathlib.Nat.{zero-add}
-use Rattle.exact.specs.Whole.{◌≤?◌, ≤?-true}
-use Rattle.exact.specs.Fit.{Bd, bd-range, arg, num, within, to-nat, m64, le?-is}
+-- A number that is read into a smaller type: what `byte_of`, `short_of`, `word_of` and `place_number` ask of std's `try_from`.
+use Rattle.std.specs.Prelude.{◌≡◌, refl, ℕ, suc, ◌^◌, ◌≤◌, ◌<◌, ℤ, pos, negsuc, Result, Ok, Err, OkIff, unsigned_abs}
+use Rattle.std.proofs.Common.{sym, arith}
+use Rattle.std.proofs.Math.Nat.{lt_of_not-le}
+use Rattle.std.specs.Result.{result_unwrap_or}
+use Rattle.std.specs.Int.{FitsUnsignedBits}
+use Rattle.exact.specs.Whole.{◌≤?◌, ord, le-≤?, lt-≤?}
 use Rattle.rows.specs.Rows.{small_of}
 
-module _ (most : ℕ) (z : ℤ) (fits : SFits w64 z) where
-  module _ (least : le_z (pos 0) (m64 z) ≡ true) where
-    not-below : (pos 0 ≤? z) ≡ true
-    not-below = le?-is (num (pos 0)) (arg w64 fits) least
-
-    module _ (largest : le_z (m64 z) (pos most) ≡ true) where
-      not-past : (z ≤? pos most) ≡ true
-      not-past = le?-is (arg w64 fits) (num (pos most)) largest
-
-      pub small-casts : (w : Width) → T (ltb most (2 ^ bits w)) → T (non_neg (m64 z)) × Fits w (nat_abs (m64 z))
-      small-casts w t =
-          let least = ≤?-true _ _ not-below in
-          let bound : Bd z most = rw (sym (zero-add most)) (bd-range least (≤?-true _ _ not-past)) in
-          to-nat w64 w (within (arg w64 fits) bound) least t
-
-      pub small-kept : nat_abs (m64 z) ≡ small_of most z
-      unfolding small_of
-      small-kept = rw (not-below, not-past) (ap nat_abs (arg w64 fits).is)
-
-    pub small-past : le_z (m64 z) (pos most) ≡ false → 0 ≡ small_of most z
-    unfolding small_of
-    small-past e = rw (not-below, le?-is (arg w64 fits) (num (pos most)) e) refl
-
-  pub small-below : le_z (pos 0) (m64 z) ≡ false → 0 ≡ small_of most z
-  unfolding small_of
-  small-below e = rw (le?-is (num (pos 0)) (arg w64 fits) e) refl
+pub small-read : {E : Type 0} (most k : ℕ) (z m : ℤ) (r : Result ℕ E) → m ≡ z → OkIff r (FitsUnsignedBits k m) (unsigned_abs m) → suc most ≡ 2 ^ k → result_unwrap_or r 0 ≡ small_of most z
+unfolding small_of
+small-read most k z m r e f w = go z r (rw e at f)
+  where
+    go : {E : Type 0} (z : ℤ) (r : Result ℕ E) → OkIff r (FitsUnsignedBits k z) (unsigned_abs z) → result_unwrap_or r 0 ≡ small_of most z
+    go (pos n) (Ok x) f = rw (le-≤? {a = pos 0} {b = pos n} (omega (arith, ord)), le-≤? {a = pos n} {b = pos most} (omega (arith, ord, w, f.0))) f.1
+    go (pos n) (Err x) f = rw (le-≤? {a = pos 0} {b = pos n} (omega (arith, ord)), lt-≤? {a = pos n} {b = pos most} (let past : most < n = lt_of_not-le (λ h. f (omega (arith, w, h))) in omega (arith, ord, past))) refl
+    go (negsuc n) (Ok x) f = absurd f.0
+    go (negsuc n) (Err x) f = rw (lt-≤? {a = pos 0} {b = negsuc n} (omega (arith, ord))) refl

@@ -21,6 +21,10 @@ columns_of p part all = pos 5 *ℤ total_of all +ℤ weigh_of p part
 abbrev pub no_row : Row
 no_row = row (pos 0) (pos 0) (pos 0) (pos 0) (pos 0)
 
+-- what a row of std's default is
+pub row-none : (r : Row) → r.a ≡ pos 0 × (r.b ≡ pos 0 × (r.c ≡ pos 0 × (r.d ≡ pos 0 × r.e ≡ pos 0))) → r ≡ no_row
+row-none r h = λ i. row (h.0 i) (h.1.0 i) (h.1.1.0 i) (h.1.1.1.0 i) (h.1.1.1.1 i)
+
 pub columns-none : (p : ℕ) → columns_of (pos p) no_row no_row ≡ pos 0
 unfolding columns_of total_of weigh_of
 columns-none p = go (pos p)

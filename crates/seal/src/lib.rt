@@ -53,18 +53,9 @@ fn checksum(numbers: &[i64]) -> i64
     requires { L.Light numbers.now }
     ensures { result ≡ S.checksum_of numbers.now }
 {
-    let none = Row {
-        a: 0,
-        b: 0,
-        c: 0,
-        d: 0,
-        e: 0,
-    };
-    let mut part = none;
-    let mut all = none;
-    let mut k = ROWS;
-    while 0 < k {
-        k -= 1;
+    let mut part = Row::default();
+    let mut all = Row::default();
+    for k in (0..ROWS).rev() {
         all = plus(all, part);
         part = plus(part, row_at(numbers, k * ROW));
     }
@@ -72,19 +63,20 @@ fn checksum(numbers: &[i64]) -> i64
 }
 
 // Whether a row may be a header, its sum apart.
+#[tactic(auto, using(exact::proofs::Rules::rules64), unfolding(crate::specs::Seal::header_sound))]
 pub fn header_sound(r: Row) -> bool
     ensures { result ≡ S.header_sound r }
 {
-    if r.a == VERSION {
-        if r.c == 0 {
-            if r.d == 0 {
-                return r.e == 0;
-            }
-            return false;
+    matches!(
+        r,
+        Row {
+            a: VERSION,
+            c: 0,
+            d: 0,
+            e: 0,
+            ..
         }
-        return false;
-    }
-    false
+    )
 }
 
 // Whether the sum in the header is that of the numbers after it.
@@ -103,15 +95,10 @@ pub fn seal(numbers: &mut [i64])
     ensures { numbers.new ≡ S.sealed_of (drop 5 numbers.old) }
 {
     let sum = checksum(&numbers[ROW..]);
-    put_row(
-        numbers,
-        0,
-        Row {
-            a: VERSION,
-            b: sum,
-            c: 0,
-            d: 0,
-            e: 0,
-        },
-    );
+    let header = Row {
+        a: VERSION,
+        b: sum,
+        ..Row::default()
+    };
+    put_row(numbers, 0, header);
 }

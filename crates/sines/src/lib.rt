@@ -82,7 +82,8 @@ const SINES: [u32; 901] = [
     99998, 99999, 99999, 100000, 100000,
 ];
 
-// The table, laid out once for many sines: each mention of the constant lays it out anew.
+// The table, laid out once for many sines: each mention of the constant lays it out anew. It is lent as a list and is no type of its own: sine and cosine, of
+// docs/CONTRACTS.md, take every list that is the table.
 pub fn table() -> [u32; 901]
     ensures { result ≡ sines }
 {
@@ -93,18 +94,14 @@ fn entry(table: &[u32], i: usize) -> i64
     requires { (table.now ≡ sines) × (i ≤ 900) }
     ensures { result ≡ pos (sine_at i) }
 {
-    table[i] as i64
+    i64::from(table[i])
 }
 
-// The angle less its whole turns. `%` has the sign of the angle.
+// The angle less its whole turns.
 fn rest(tenths: i64) -> usize
     ensures { result ≡ rest_of tenths }
 {
-    let r = tenths % TURN;
-    if r < 0 {
-        return (r + TURN) as usize;
-    }
-    r as usize
+    tenths.rem_euclid(TURN) as usize
 }
 
 // The sine of an angle i past q quarters.
@@ -112,19 +109,13 @@ fn sine_in(table: &[u32], q: usize, i: usize) -> i64
     requires { (table.now ≡ sines) × (q ≤ 4) × (i ≤ 900) }
     ensures { result ≡ sine_in q i }
 {
-    if q == 0 {
-        return entry(table, i);
+    match q {
+        0 => entry(table, i),
+        1 => entry(table, QUARTER - i),
+        2 => -entry(table, i),
+        3 => -entry(table, QUARTER - i),
+        _ => entry(table, i),
     }
-    if q == 1 {
-        return entry(table, QUARTER - i);
-    }
-    if q == 2 {
-        return -entry(table, i);
-    }
-    if q == 3 {
-        return -entry(table, QUARTER - i);
-    }
-    entry(table, i)
 }
 
 pub fn sine(table: &[u32], tenths: i64) -> i64

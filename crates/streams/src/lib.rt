@@ -31,19 +31,13 @@ impl<T> Stream<T> {
         ensures inner { result.inner ≡ inner }
         ensures error { result.error ≡ pos 0 }
     {
-        Stream {
-            inner: inner,
-            error: 0,
-        }
+        Stream { inner, error: 0 }
     }
 }
 
 // The number of an error. One that is not the system's own is of an argument that it could not take.
 pub fn number_of(error: &Error) -> i32 {
-    match error.raw_os_error() {
-        Some(number) => number,
-        None => INVALID,
-    }
+    error.raw_os_error().unwrap_or(INVALID)
 }
 
 // Where a program's input comes from: standard input, or a file in its place. Neither is read before it is asked for, nor further.
@@ -64,13 +58,10 @@ impl Read for Source {
 
 // Opens a file to read it, by its name, which has to be text.
 pub fn open(rt: &HostRuntime, name: &[u8]) -> Result<Stream<Source>> {
-    match str::from_utf8(name) {
-        Ok(path) => {
-            let file = fs::open(rt, path)?;
-            Ok(Stream::new(Source::Named(file)))
-        }
-        Err(_) => Err(Error::from_raw_os_error(NO_TEXT)),
-    }
+    let Ok(path) = str::from_utf8(name) else {
+        return Err(Error::from_raw_os_error(NO_TEXT));
+    };
+    Ok(Stream::new(Source::Named(fs::open(rt, path)?)))
 }
 
 // Standard input.
@@ -80,11 +71,11 @@ pub fn standard(rt: &HostRuntime) -> Stream<Source> {
 
 // Whether the call that has just failed is to be tried again, at once: a signal came in between, or it has to wait.
 fn again(error: &Error) -> bool {
-    let kind = error.kind();
-    kind == ErrorKind::Interrupted || kind == ErrorKind::WouldBlock
+    matches!(error.kind(), ErrorKind::Interrupted | ErrorKind::WouldBlock)
 }
 
-// What a read gave: so many bytes at the start of the block, none at the end of the input; or nothing where it failed.
+// What a read gave: so many bytes at the start of the block, none at the end of the input; or nothing where it failed. A count beside a flag and no Result, since
+// read_full tells how much it had read before a failure too.
 #[derive(Clone, Copy)]
 pub struct Got {
     pub count: usize,
@@ -98,15 +89,9 @@ pub fn read<R: Read>(file: &mut Stream<R>, block: &mut [u8]) -> Got
     ensures bytes { Consumes (R.remaining file.old.inner) (R.remaining file.new.inner) (take result.count block.new) }
     ensures end { result.good ≡ true → result.count ≡ 0 → 0 < length block.old → IsAtEnd (R.remaining file.new.inner) }
 {
-    let mut tries = TRIES;
-    while tries > 0 {
+    for _ in 0..TRIES {
         match file.inner.read(block) {
-            Ok(count) => {
-                return Got {
-                    count: count,
-                    good: true,
-                };
-            }
+            Ok(count) => return Got { count, good: true },
             Err(error) => {
                 file.error = number_of(&error);
                 if !again(&error) {
@@ -114,7 +99,6 @@ pub fn read<R: Read>(file: &mut Stream<R>, block: &mut [u8]) -> Got
                 }
             }
         }
-        tries -= 1;
     }
     Got {
         count: 0,
@@ -129,6 +113,7 @@ pub fn read_full<R: Read>(file: &mut Stream<R>, block: &mut [u8]) -> Got
     ensures end { result.good ≡ true → result.count < length block.old → IsAtEnd (R.remaining file.new.inner) }
 {
     let mut done = 0;
+    // a while, since each read gives as many bytes as it likes
     while done < block.len() {
         let got = read(file, &mut block[done..]);
         if got.count == 0 {
@@ -145,13 +130,12 @@ pub fn read_full<R: Read>(file: &mut Stream<R>, block: &mut [u8]) -> Got
     }
 }
 
-// One write: how many of the first bytes it took; 0 where it failed.
+// One write: how many of the first bytes it took; 0 where it failed, as where it took none: either ends the writing.
 fn write_some<W: Write>(file: &mut Stream<W>, text: &[u8]) -> usize
     ensures prefix_len { IsPrefixLen result text.now }
     ensures bytes { Appends (W.contents file.old.inner) (W.contents file.new.inner) (take result text.now) }
 {
-    let mut tries = TRIES;
-    while tries > 0 {
+    for _ in 0..TRIES {
         match file.inner.write(text) {
             Ok(count) => return count,
             Err(error) => {
@@ -161,7 +145,6 @@ fn write_some<W: Write>(file: &mut Stream<W>, text: &[u8]) -> usize
                 }
             }
         }
-        tries -= 1;
     }
     0
 }
@@ -172,6 +155,7 @@ pub fn write_all<W: Write>(file: &mut Stream<W>, text: &[u8]) -> bool
     ensures beginning { (n : ℕ) × (n ≤ length text.now) × Appends (W.contents file.old.inner) (W.contents file.new.inner) (take n text.now) }
 {
     let mut done = 0;
+    // a while, since each write takes as many bytes as it likes
     while done < text.len() {
         let put = write_some(file, &text[done..]);
         if put == 0 {
@@ -191,8 +175,8 @@ fn words_of(error: i32, buffer: &mut [u8; 256]) -> usize
     let _ = write!(rest, "{}", Error::from_raw_os_error(error));
     let left = rest.len();
     let mut end = 256usize.saturating_sub(left);
-    for at in 0..256 {
-        if buffer[at] == b'(' && 0 < at && at <= end {
+    for (at, byte) in buffer.iter().enumerate() {
+        if *byte == b'(' && 0 < at && at <= end {
             end = at - 1;
         }
     }

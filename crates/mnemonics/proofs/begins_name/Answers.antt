@@ -1,15 +1,12 @@
 -- The proof of `begins_name`: a capital by its bit, and no other byte.
-use native.Mathlib.Omega.{arith}
+use Rattle.std.proofs.Common.{arith, ◌∙◌}
 use Rattle.mnemonics.specs.Table.{cell_of, begins_from, begins_name}
 use Rattle.mnemonics.proofs.Letters.{capital, no-capital}
 use Rattle.mnemonics.proofs.begins_name.Goals as goal
 
-pub returns-then-first-lt65 : goal.returns-then-first-lt65
-returns-then-first-lt65 c = no-capital _ (λ h k. omega (arith, h, c.if-first-lt65.true))
-
-pub returns-then-first-gt90 : goal.returns-then-first-gt90
-returns-then-first-gt90 c = no-capital _ (λ h k. omega (arith, k, c.if-first-gt90.true))
-
-pub returns : goal.returns
+pub returns-then-is_ascii_uppercase : goal.returns-then-is_ascii_uppercase
 unfolding begins_name begins_from cell_of
-returns c = capital _ c.if-first-lt65.false c.if-first-gt90.false
+returns-then-is_ascii_uppercase c = let k = c.if-is_ascii_uppercase.ensures.cases in capital _ k.0 k.1
+
+pub returns-else-is_ascii_uppercase : goal.returns-else-is_ascii_uppercase
+returns-else-is_ascii_uppercase c = c.if-is_ascii_uppercase.false ∙ no-capital _ (λ h k. omega (arith, h, k, c.if-is_ascii_uppercase.ensures.cases))

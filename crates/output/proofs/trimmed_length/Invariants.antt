@@ -1,12 +1,7 @@
 -- The bytes after the first n are blanks.
 use mathlib.Core.Path.{◌≡◌}
-use Prim.Native.Nat.{◌≤◌}
-use lib.ListN.{length}
 use Rattle.output.specs.Words.{trimmed, trimmed_to}
 use Rattle.output.proofs.trimmed_length.Given as goal
 
 abbrev pub invariant-loop-n : goal.invariant-loop-n
-invariant-loop-n l = (l.n ≤ length l.text) × (trimmed l.text ≡ trimmed_to l.text l.n)
-
-abbrev pub decreases-loop-n : goal.decreases-loop-n
-decreases-loop-n l = l.n
+invariant-loop-n l = trimmed l.text ≡ trimmed_to l.text l.n

@@ -11,7 +11,7 @@ use Rattle.exact.specs.Fit.{Num, m64, num, put, fit, ret, ◌⊕◌, ◌⊗◌}
 use Rattle.seal.specs.Seal.{weighed, checksum_of}
 use Rattle.seal.specs.Light.{row_count, most_at, LightRow, weighed-all}
 use Rattle.seal.proofs.Weighing.{columns-step}
-use Rattle.seal.specs.Columns.{plus_of, total_of, columns_of, columns-none, part_bound, all_bound, most_part, most_all, most_column, part-most, all_most, part-more, all_more, none-light, light-plus, light-most, weigh-size, total_size}
+use Rattle.seal.specs.Columns.{plus_of, total_of, columns_of, columns-none, part_bound, all_bound, most_part, most_all, most_column, part-most, all_most, part-more, all_more, none-light, row-none, light-plus, light-most, weigh-size, total_size}
 use Rattle.seal.proofs.checksum.Goals as goal
 use Rattle.seal.proofs.checksum.Lts
 use Rattle.seal.proofs.checksum.Tie
@@ -47,7 +47,9 @@ module _ (l : At-loop-k) where
   all-light = light-most (all_most (row_count - k) (omega arith)) l.loop-k.invariant.2
 
 pub loop-k-init : goal.loop-k-init
-loop-k-init c = (omega arith, none-light _, none-light _, columns-none _ ∙ sym (weighed-all c.args.numbers.now row_count c.requires.long (omega arith)))
+loop-k-init c =
+    rw (row-none _ c.default-part.ensures, row-none _ c.default-all.ensures)
+    (omega arith, none-light _, none-light _, columns-none _ ∙ sym (weighed-all c.args.numbers.now row_count c.requires.long (omega arith)))
 
 pub plus-all-requires : goal.plus-all-requires
 plus-all-requires c = (light-most (omega arith) (all-light c.before), light-most (omega arith) (part-light c.before))

@@ -23,30 +23,30 @@ size s = record { bd = at_most s.args.i s.requires.2 }
 size_back : (s : Start) → Bd (pos (sine_at (900 - s.args.i))) 100000
 size_back s = record { bd = at_most (900 - s.args.i) (sub-le 900 s.args.i) }
 
-pub returns-then-q-eq0 : goal.returns-then-q-eq0
+pub returns-in-0 : goal.returns-in-0
 unfolding sine_in
-returns-then-q-eq0 c = rw c.if-q-eq0.true (got w64 c.entry.type_inv ∙ c.entry.ensures)
+returns-in-0 c = rw c.in-0.is (got w64 c.entry.type_inv ∙ c.entry.ensures)
 
-pub returns-then-q-eq1 : goal.returns-then-q-eq1
+pub returns-in-1 : goal.returns-in-1
 unfolding sine_in
-returns-then-q-eq1 c = rw c.if-q-eq1.true (got w64 c.entry-then-q-eq1.type_inv ∙ c.entry-then-q-eq1.ensures)
+returns-in-1 c = rw c.in-1.is (got w64 c.entry-in-1.type_inv ∙ c.entry-in-1.ensures)
 
 pub overflow_sub-result : goal.overflow_sub-result
-overflow_sub-result c = fit w64 (neg (ret w64 c.entry-then-q-eq2.type_inv c.entry-then-q-eq2.ensures (size search))) tt
+overflow_sub-result c = fit w64 (neg (ret w64 c.entry-in-2.type_inv c.entry-in-2.ensures (size search))) tt
 
-pub returns-then-q-eq2 : goal.returns-then-q-eq2
+pub returns-in-2 : goal.returns-in-2
 unfolding sine_in
-returns-then-q-eq2 c = rw c.if-q-eq2.true (put w64 (neg (ret w64 c.entry-then-q-eq2.type_inv c.entry-then-q-eq2.ensures (size search))) tt).is
+returns-in-2 c = rw c.in-2.is (put w64 (neg (ret w64 c.entry-in-2.type_inv c.entry-in-2.ensures (size search))) tt).is
 
-pub overflow_sub-result-then-q-eq3 : goal.overflow_sub-result-then-q-eq3
-overflow_sub-result-then-q-eq3 c = fit w64 (neg (ret w64 c.entry-then-q-eq3.type_inv c.entry-then-q-eq3.ensures (size_back search))) tt
+pub overflow_sub-result-in-3 : goal.overflow_sub-result-in-3
+overflow_sub-result-in-3 c = fit w64 (neg (ret w64 c.entry-in-3.type_inv c.entry-in-3.ensures (size_back search))) tt
 
-pub returns-then-q-eq3 : goal.returns-then-q-eq3
+pub returns-in-3 : goal.returns-in-3
 unfolding sine_in
-returns-then-q-eq3 c = rw c.if-q-eq3.true (put w64 (neg (ret w64 c.entry-then-q-eq3.type_inv c.entry-then-q-eq3.ensures (size_back search))) tt).is
+returns-in-3 c = rw c.in-3.is (put w64 (neg (ret w64 c.entry-in-3.type_inv c.entry-in-3.ensures (size_back search))) tt).is
 
-pub returns : goal.returns
+pub returns-in_default : goal.returns-in_default
 unfolding sine_in
-returns c =
+returns-in_default c =
     let t : c.args.q ≡ 4 = search rules in
-    rw t (got w64 c.entry-2.type_inv ∙ c.entry-2.ensures ∙ sym (neg_ℤ-neg_ℤ (pos (sine_at c.args.i))))
+    rw t (got w64 c.entry-in_default.type_inv ∙ c.entry-in_default.ensures ∙ sym (neg_ℤ-neg_ℤ (pos (sine_at c.args.i))))

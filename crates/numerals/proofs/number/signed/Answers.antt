@@ -13,6 +13,6 @@ pub returns-then-negative : goal.returns-then-negative
 unfolding signed_of
 returns-then-negative c = simp c.if-negative.true (minus_is c.args.magnitude (omega arith))
 
-pub returns : goal.returns
+pub returns-else-negative : goal.returns-else-negative
 unfolding signed_of
-returns c = simp c.if-negative.false (to_z_pos w64 (omega arith))
+returns-else-negative c = simp c.if-negative.false (to_z_pos w64 (omega arith))
