@@ -1,8 +1,7 @@
 -- Words beside names, and the sheets that have one.
-use Rattle.std.specs.Prelude.{Bool, true, false, cond, List, [], ◌∷◌, ℕ, eqb, pos, neg_ℤ}
+use Rattle.std.specs.Prelude.{Bool, true, false, cond, List, [], ◌∷◌, ℕ, eqb, pos, neg_ℤ, Option, None, Some}
 use Rattle.hpgl.specs.Trace.{bytes}
-use Rattle.textlines.specs.declared.word.Limits.{Limits}
-use Rattle.textlines.specs.declared.word.Limits.TheVariants.{Four, Nothing}
+use Rattle.clip.specs.declared.Rect.{Rect}
 
 unfoldable pub same : List ℕ → List ℕ → Bool
 same [] [] = true
@@ -11,7 +10,7 @@ same (w ∷ word) [] = false
 same (w ∷ word) (n ∷ name) = cond (eqb w n) (same word name) false
 
 -- the hard limits of each sheet: those of its rink in millimetres, (0,0) its middle (drawings/data/RINKS.md)
-unfoldable pub sheet_named : List ℕ → Limits
+unfoldable pub sheet_named : List ℕ → Option Rect
 sheet_named word =
-    cond (same word (bytes "hockey")) (Four (neg_ℤ (pos 30000)) (neg_ℤ (pos 15000)) (pos 30000) (pos 15000))
-    (cond (same word (bytes "curling")) (Four (neg_ℤ (pos 22860)) (neg_ℤ (pos 2500)) (pos 22860) (pos 2500)) Nothing)
+    cond (same word (bytes "hockey")) (Some (record { left = neg_ℤ (pos 30000); bottom = neg_ℤ (pos 15000); right = pos 30000; top = pos 15000 }))
+    (cond (same word (bytes "curling")) (Some (record { left = neg_ℤ (pos 22860); bottom = neg_ℤ (pos 2500); right = pos 22860; top = pos 2500 })) None)

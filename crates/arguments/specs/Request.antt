@@ -1,15 +1,11 @@
 -- What a program is asked for by its arguments, word by word: limits, as four numbers or by the name of a sheet, a scale, a file, help or the version; or
 -- which word is wrong, and why.
-use Rattle.std.specs.Prelude.{true, false, cond, List, [], ◌∷◌, ℕ, ◌+◌, eqb, ℤ, pos, neg_ℤ, nat_abs}
+use Rattle.std.specs.Prelude.{true, false, cond, List, [], ◌∷◌, ℕ, ◌+◌, eqb, ℤ, pos, neg_ℤ, nat_abs, Option, None, Some}
 use Prim.Native.Char.{code}
 use Rattle.exact.specs.Whole.{◌<?◌}
 use Rattle.exact.specs.Int16.{int16}
 use Rattle.clip.specs.declared.Rect.{Rect}
 use Rattle.hpgl.specs.Trace.{bytes}
-use Rattle.textlines.specs.declared.word.Whole.{Whole}
-use Rattle.textlines.specs.declared.word.Whole.TheVariants as whole
-use Rattle.textlines.specs.declared.word.Limits.{Limits}
-use Rattle.textlines.specs.declared.word.Limits.TheVariants as limits
 use Rattle.textlines.specs.Word.{whole_of}
 use Rattle.arguments.specs.declared.Request.{Request}
 use Rattle.arguments.specs.Names.{same, sheet_named}
@@ -170,17 +166,17 @@ unfoldable pub file_of : Request → ℕ → List ℕ → Request
 file_of r at [] = decided_of r at unknown
 file_of r at (byte ∷ bytes) = cond (eqb byte (code "-")) (decided_of r at unknown) (cond (eqb r.file 0) (filed_of r at) (decided_of r at again))
 
-abbrev number_or : Request → ℕ → List ℕ → Whole → Request
-number_or r at word (whole.Number z) = limit_of r at z
-number_or r at word whole.Nothing = file_of r at word
+abbrev number_or : Request → ℕ → List ℕ → Option ℤ → Request
+number_or r at word (Some z) = limit_of r at z
+number_or r at word None = file_of r at word
 
 -- a word that is no option
 unfoldable pub plain_of : Request → ℕ → List ℕ → Request
 plain_of r at word = number_or r at word (whole_of word)
 
-abbrev named_or : Request → ℕ → Limits → Request
-named_or r at (limits.Four left bottom right top) = bounded_of r at (record { left = left; bottom = bottom; right = right; top = top }) 4
-named_or r at limits.Nothing = decided_of r at no_sheet
+abbrev named_or : Request → ℕ → Option Rect → Request
+named_or r at (Some limits) = bounded_of r at limits 4
+named_or r at None = decided_of r at no_sheet
 
 -- after --sheet
 unfoldable pub sheet_of : Request → ℕ → List ℕ → Request
@@ -190,9 +186,9 @@ sheet_of r at word = named_or r at (sheet_named word)
 unfoldable pub scale_number : Request → ℕ → ℤ → Request
 scale_number r at z = cond (pos 0 <? z) (cond (z <? pos 256) (scaled_of r at (nat_abs z)) (decided_of r at no_scale)) (decided_of r at no_scale)
 
-abbrev scale_or : Request → ℕ → Whole → Request
-scale_or r at (whole.Number z) = scale_number r at z
-scale_or r at whole.Nothing = decided_of r at no_scale
+abbrev scale_or : Request → ℕ → Option ℤ → Request
+scale_or r at (Some z) = scale_number r at z
+scale_or r at None = decided_of r at no_scale
 
 -- after --scale
 unfoldable pub scale_of : Request → ℕ → List ℕ → Request

@@ -8,7 +8,7 @@ ghost use Rattle.arguments.specs.Request as S;
 
 use clip::Rect;
 use exact::int16;
-use textlines::word::{Limits, Whole, whole_of};
+use textlines::word::whole_of;
 
 pub mod desk;
 
@@ -176,16 +176,26 @@ fn same(word: &[u8], name: &[u8]) -> bool
 }
 
 // The hard limits of each sheet that has a name.
-fn sheet_named(word: &[u8]) -> Limits
+fn sheet_named(word: &[u8]) -> Option<Rect>
     ensures { result ≡ N.sheet_named word.now }
 {
     if same(word, b"hockey") {
-        return Limits::Four(-30000, -15000, 30000, 15000);
+        return Some(Rect {
+            left: -30000,
+            bottom: -15000,
+            right: 30000,
+            top: 15000,
+        });
     }
     if same(word, b"curling") {
-        return Limits::Four(-22860, -2500, 22860, 2500);
+        return Some(Rect {
+            left: -22860,
+            bottom: -2500,
+            right: 22860,
+            top: 2500,
+        });
     }
-    Limits::Nothing
+    None
 }
 
 // The third limit has to be above the first.
@@ -300,8 +310,7 @@ fn file(r: Request, at: usize, word: &[u8]) -> Request
 fn plain(r: Request, at: usize, word: &[u8]) -> Request
     ensures { result ≡ S.plain_of r at word.now }
 {
-    let read = whole_of(word);
-    let Whole::Number(z) = read else {
+    let Some(z) = whole_of(word) else {
         return file(r, at, word);
     };
     limit(r, at, z)
@@ -311,21 +320,10 @@ fn plain(r: Request, at: usize, word: &[u8]) -> Request
 fn sheet(r: Request, at: usize, word: &[u8]) -> Request
     ensures { result ≡ S.sheet_of r at word.now }
 {
-    let named = sheet_named(word);
-    let Limits::Four(left, bottom, right, top) = named else {
+    let Some(limits) = sheet_named(word) else {
         return decided(r, at, NO_SHEET);
     };
-    bounded(
-        r,
-        at,
-        Rect {
-            left: left,
-            bottom: bottom,
-            right: right,
-            top: top,
-        },
-        4,
-    )
+    bounded(r, at, limits, 4)
 }
 
 // A scale is a whole number from 1 to 255.
@@ -345,8 +343,7 @@ fn scale_number(r: Request, at: usize, z: i64) -> Request
 fn scale(r: Request, at: usize, word: &[u8]) -> Request
     ensures { result ≡ S.scale_of r at word.now }
 {
-    let read = whole_of(word);
-    let Whole::Number(z) = read else {
+    let Some(z) = whole_of(word) else {
         return decided(r, at, NO_SCALE);
     };
     scale_number(r, at, z)

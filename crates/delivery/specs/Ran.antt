@@ -1,12 +1,10 @@
 -- A run over an input: all that its reads gave, and all the text that was handed over. No contract of the kit says which bytes a read gives or a write
 -- takes. So these are lists that exist, as long as the code has counted at its edge, the last block among them as it lies in memory; and no text is
 -- handed over but the next part of what is printed of all these bytes, with places counted from the first of them.
-use Rattle.std.specs.Prelude.{◌≡◌, ℕ, ◌+◌, ◌%◌, ◌^◌, Bool, true, List, [], ◌++◌, length, ◌≢◌}
+use Rattle.std.specs.Prelude.{◌≡◌, ℕ, ◌+◌, ◌%◌, ◌^◌, Bool, true, List, [], ◌++◌, length, ◌≢◌, Option, None, Some}
 use Rattle.clip.specs.declared.Rect.{Rect}
 use Rattle.hpgl.specs.declared.State.{State}
-use Rattle.hpgl.specs.Machine.{rect, fresh_state, fresh_number}
-use Rattle.textlines.specs.declared.word.Limits.{Limits}
-use Rattle.textlines.specs.declared.word.Limits.TheVariants as limits
+use Rattle.hpgl.specs.Machine.{fresh_state, fresh_number}
 use Rattle.delivery.specs.declared.files.Finished.{Finished}
 use Rattle.delivery.specs.declared.files.End.{End}
 use Rattle.delivery.specs.declared.files.End.TheVariants.{NoLimits, Refused, Undelivered}
@@ -57,6 +55,6 @@ pub record Within (hard : Rect) (f : Finished) : Type 0 where
   pub bad : (fresh_number hard ≢ 0) → Unbegun Refused f
 
 -- what the program answers to the limits that it is asked for
-abbrev pub Answers : Limits → Finished → Type 0
-Answers (limits.Four left bottom right top) f = Within (rect left bottom right top) f
-Answers limits.Nothing f = Unbegun NoLimits f
+abbrev pub Answers : Option Rect → Finished → Type 0
+Answers (Some hard) f = Within hard f
+Answers None f = Unbegun NoLimits f

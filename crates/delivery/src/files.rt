@@ -7,11 +7,11 @@ ghost use Rattle.delivery.specs.Ran.{Begins, Leaves, Ran, Unbegun, Answers};
 ghost use Rattle.delivery.specs.Tally.{read_of, handed_of, ended_of};
 
 use super::edge::{HANDED, READ, SAME, Tally, bytes_read, hand, read_block};
+use clip::Rect;
 use machine::Machine;
 use plotting::{begun, emptied, fill};
 use std::io::Stdout;
 use streams::{Source, Stream};
-use textlines::word::Limits;
 
 // A proved loop has to end: this one reads so many blocks of at most 64 KB, which no file uses up.
 const BLOCKS: u64 = 0x800000000000;
@@ -163,13 +163,13 @@ fn unbegun(end: End) -> Finished
 }
 
 // The lines of a file, from a machine with these hard limits.
-pub fn run(asked: Limits, file: &mut Stream<Source>, sink: &mut Sink) -> Finished
+pub fn run(asked: Option<Rect>, file: &mut Stream<Source>, sink: &mut Sink) -> Finished
     ensures { Answers asked result }
 {
-    let Limits::Four(left, bottom, right, top) = asked else {
+    let Some(hard) = asked else {
         return unbegun(End::NoLimits);
     };
-    let started = Machine::fresh(left, bottom, right, top);
+    let started = Machine::fresh(hard.left, hard.bottom, hard.right, hard.top);
     if started.number != 0 {
         return unbegun(End::Refused);
     }

@@ -6,10 +6,11 @@
 ghost use Rattle.std.specs.Prelude.{◌≡◌, ◌+◌, ◌≤◌, length, drop};
 ghost use Rattle.drawings.specs.Part.{index_of, Within};
 
+use clip::Rect;
 use delivery::files::{End, Sink, run};
 use output::{finish, put_bytes, put_natural};
 use streams::{Source, Stream, number_of, read_full, tell};
-use textlines::word::{Limits, Whole, limits_of, whole_of};
+use textlines::word::{limits_of, whole_of};
 
 // Where a word of a line starts and ends.
 #[derive(Clone, Copy)]
@@ -54,7 +55,7 @@ fn word_after(line: &[u8], w: Part) -> Part
     word_at(line, to)
 }
 
-fn limit(line: &[u8], w: Part) -> Whole
+fn limit(line: &[u8], w: Part) -> Option<i64>
     requires { Within w line.now }
 {
     let from = w.from;
@@ -108,7 +109,7 @@ fn compare(
     rt: &HostRuntime,
     line: &[u8],
     w: Part,
-    asked: Limits,
+    asked: Option<Rect>,
     mut drawing: Stream<Source>,
     stored: Stream<Source>,
 )
@@ -134,7 +135,7 @@ fn compare(
     );
 }
 
-fn check_files(rt: &HostRuntime, line: &[u8], drawn: Part, kept: Part, asked: Limits)
+fn check_files(rt: &HostRuntime, line: &[u8], drawn: Part, kept: Part, asked: Option<Rect>)
     requires within { Within drawn line.now }
     requires within_2 { Within kept line.now }
 {

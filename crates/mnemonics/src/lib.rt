@@ -5,6 +5,7 @@ ghost use Rattle.std.specs.Prelude.{◌≡◌, ◌+◌, ◌*◌, ◌<◌, ◌≤
 ghost use Rattle.mnemonics.specs.Table.{rows, table, row_of, names_of, find_of, begins_name, is_label, count_fits, takes_pairs, has_room, known_in_polygon, changes_settings};
 
 // An instruction's code is its place in the table. The four that take pairs come first; another instruction is another row at the end, so that no code changes.
+// Numbers and no enum: count_fits and the others of docs/CONTRACTS.md answer for every number, and the list of a saved machine holds the code.
 pub const PU: usize = 0;
 
 pub const PD: usize = 1;
@@ -54,7 +55,7 @@ pub const OE: usize = 22;
 pub const ROWS: usize = 23;
 
 // The columns: two letters, least and most numbers, what the count goes up by, and whether the instruction is known in
-// polygon mode and changes settings.
+// polygon mode and changes settings. Numbers in a row and no struct of names: a row reads as its row of specs/Table.antt does.
 const FIRST: usize = 0;
 
 const SECOND: usize = 1;

@@ -42,7 +42,7 @@ pub struct Scanned {
     pub at: usize,
 }
 
-// Where a run of digits ends, and the magnitude that it comes to.
+// Where a run of digits ends, and the magnitude that it comes to. No type in common with Scanned: a field says which of the two is read.
 #[derive(Clone, Copy)]
 pub struct Run {
     pub magnitude: u32,

@@ -5,7 +5,6 @@
 use arguments::desk::{asked, ready, unread};
 use delivery::files::{End, Sink, run};
 use streams::{Stream, write_all};
-use textlines::word::Limits;
 
 // Says what went wrong, if anything did, by the error of the read or of the write. Limits that are asked for are never refused.
 fn tell(rt: &HostRuntime, end: End, file: usize, read: i32, written: i32) {
@@ -35,13 +34,8 @@ fn main(rt: HostRuntime) {
     ) else {
         return;
     };
-    let hard = r.limits;
     let mut sink = Sink::Write(Stream::new(rt.stdout()));
-    let finished = run(
-        Limits::Four(hard.left, hard.bottom, hard.right, hard.top),
-        &mut source,
-        &mut sink,
-    );
+    let finished = run(Some(r.limits), &mut source, &mut sink);
     let end = finished.end;
     tell(&rt, end, r.file, source.error, sink.error());
 }

@@ -1,10 +1,7 @@
 -- Words that are whole numbers: an optional minus, then at least one digit.
-use Rattle.std.specs.Prelude.{ℕ, ◌+◌, ◌-◌, ◌*◌, Bool, true, false, cond, List, [], ◌∷◌, ℤ, pos, neg_ℤ, ◌==◌, nat_le, nat_lt}
+use Rattle.std.specs.Prelude.{ℕ, ◌+◌, ◌-◌, ◌*◌, Bool, true, false, cond, List, [], ◌∷◌, ℤ, pos, neg_ℤ, ◌==◌, nat_le, nat_lt, Option, None, Some}
 use Prim.Native.Char.{code}
-use Rattle.textlines.specs.declared.word.Whole.{Whole}
-use Rattle.textlines.specs.declared.word.Whole.TheVariants.{Number, Nothing}
-use Rattle.textlines.specs.declared.word.Limits.{Limits}
-use Rattle.textlines.specs.declared.word.Limits.TheVariants as limits
+use Rattle.clip.specs.declared.Rect.{Rect}
 
 unfoldable pub is_digit : ℕ → Bool
 is_digit byte = cond (nat_lt byte (code "0")) false (nat_le byte (code "9"))
@@ -18,24 +15,24 @@ signed true n = neg_ℤ (pos n)
 signed false n = pos n
 
 -- the digits from here on, with those before them worth n
-unfoldable pub value_from : Bool → ℕ → List ℕ → Whole
-value_from minus n [] = Number (signed minus n)
+unfoldable pub value_from : Bool → ℕ → List ℕ → Option ℤ
+value_from minus n [] = Some (signed minus n)
 value_from minus n (byte ∷ bytes) =
-    cond (is_digit byte) (cond (nat_lt n too_large) (value_from minus (n * 10 + (byte - code "0")) bytes) Nothing) Nothing
+    cond (is_digit byte) (cond (nat_lt n too_large) (value_from minus (n * 10 + (byte - code "0")) bytes) None) None
 
-unfoldable pub digits_of : Bool → List ℕ → Whole
-digits_of minus [] = Nothing
+unfoldable pub digits_of : Bool → List ℕ → Option ℤ
+digits_of minus [] = None
 digits_of minus (byte ∷ bytes) = value_from minus 0 (byte ∷ bytes)
 
-unfoldable pub whole_of : List ℕ → Whole
-whole_of [] = Nothing
+unfoldable pub whole_of : List ℕ → Option ℤ
+whole_of [] = None
 whole_of (byte ∷ bytes) = cond (byte == (code "-")) (digits_of true bytes) (digits_of false (byte ∷ bytes))
 
 -- limits are four numbers
-abbrev with_number : Whole → (ℤ → Limits) → Limits
-with_number (Number z) next = next z
-with_number Nothing next = limits.Nothing
+abbrev with_number : Option ℤ → (ℤ → Option Rect) → Option Rect
+with_number (Some z) next = next z
+with_number None next = None
 
-unfoldable pub limits_of : Whole → Whole → Whole → Whole → Limits
+unfoldable pub limits_of : Option ℤ → Option ℤ → Option ℤ → Option ℤ → Option Rect
 limits_of left bottom right top =
-    with_number left (λ l. with_number bottom (λ b. with_number right (λ r. with_number top (λ t. limits.Four l b r t))))
+    with_number left (λ l. with_number bottom (λ b. with_number right (λ r. with_number top (λ t. Some (record { left = l; bottom = b; right = r; top = t })))))

@@ -1,11 +1,10 @@
 -- How a word is read, byte by byte.
-use Rattle.std.specs.Prelude.{◌≡◌, ℕ, ◌+◌, ◌-◌, ◌*◌, ◌<◌, ◌≤◌, Bool, true, false, cond, List, [], ◌∷◌, length, drop, ◌≢◌, nat_le, nat_lt, slice_index, refl}
+use Rattle.std.specs.Prelude.{◌≡◌, ℕ, ◌+◌, ◌-◌, ◌*◌, ◌<◌, ◌≤◌, Bool, true, false, cond, List, [], ◌∷◌, length, drop, ◌≢◌, nat_le, nat_lt, slice_index, refl, None, Some}
 use Rattle.std.proofs.lemmas.Bool.{false≢true}
 use Prim.Native.Char.{code}
 use Rattle.std.proofs.Common.{arith, add-one, drop-cons}
 use borrow.Author.Tests.{lt-ltb, le-ltb, ltb-false, leb-true, eq-eqb, ne_eqb}
 use Rattle.std.proofs.Math.Seq.{drop-length}
-use Rattle.textlines.specs.declared.word.Whole.TheVariants.{Number, Nothing}
 use Rattle.textlines.specs.Word.{is_digit, too_large, signed, value_from, digits_of, whole_of}
 
 pub digit-range : (b : ℕ) → is_digit b ≡ true → (code "0" ≤ b) × (b ≤ code "9")
@@ -23,11 +22,11 @@ module _ (minus : Bool) (word : List ℕ) (n at : ℕ) (within : at < length wor
   unfolding value_from
   value-more e l = rw (drop-cons word at 0 within, add-one) (rw (e, lt-ltb n too_large l) refl)
 
-  pub value-other : is_digit (slice_index word at) ≡ false → value_from minus n (drop at word) ≡ Nothing
+  pub value-other : is_digit (slice_index word at) ≡ false → value_from minus n (drop at word) ≡ None
   unfolding value_from
   value-other e = rw (drop-cons word at 0 within) (rw e refl)
 
-  pub value-large : too_large ≤ n → is_digit (slice_index word at) ≡ true → value_from minus n (drop at word) ≡ Nothing
+  pub value-large : too_large ≤ n → is_digit (slice_index word at) ≡ true → value_from minus n (drop at word) ≡ None
   unfolding value_from
   value-large l e = rw (drop-cons word at 0 within) (rw (e, le-ltb n too_large l) refl)
 
@@ -35,11 +34,11 @@ module _ (minus : Bool) (word : List ℕ) (n at : ℕ) (within : at < length wor
   unfolding digits_of
   digits-some = rw (drop-cons word at 0 within)
 
-pub value-end : (minus : Bool) (word : List ℕ) (n : ℕ) → value_from minus n (drop (length word) word) ≡ Number (signed minus n)
+pub value-end : (minus : Bool) (word : List ℕ) (n : ℕ) → value_from minus n (drop (length word) word) ≡ Some (signed minus n)
 unfolding value_from
 value-end minus word n = rw (drop-length word)
 
-pub whole-empty : (word : List ℕ) → length word ≡ 0 → whole_of word ≡ Nothing
+pub whole-empty : (word : List ℕ) → length word ≡ 0 → whole_of word ≡ None
 unfolding whole_of
 whole-empty [] e = refl
 whole-empty (b ∷ bs) e = absurd (omega arith)

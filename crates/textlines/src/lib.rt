@@ -49,7 +49,7 @@ fn mark_line(out: &mut [u8], at: usize, numbers: &[i64], i: usize, before: u64) 
     let pen = i * 5;
     if numbers[pen] == 0 {
         let number = size(numbers[pen + 1]);
-        let byte = std::num::wrapping_add_u64(before, size(numbers[pen + 2]));
+        let byte = before.wrapping_add(size(numbers[pen + 2]));
         return refusal_line(out, at, number, byte);
     }
     stroke_line(out, at, numbers, i)
@@ -63,10 +63,8 @@ pub fn mark_lines(out: &mut [u8], at: usize, numbers: &[i64], count: usize, befo
     ensures upper_bound { result ≤ at + count * longest }
 {
     let mut end = at;
-    let mut i = 0;
-    while i < count {
+    for i in 0..count {
         end = mark_line(out, end, numbers, i, before);
-        i += 1;
     }
     end
 }

@@ -7,9 +7,9 @@ use Rattle.arguments.proofs.sheet.Goals as goal
 pub returns-in_default : goal.returns-in_default
 unfolding sheet_of
 returns-in_default c =
-    rw (sym c.sheet_named-named.ensures ∙ c.in_default.is) c.decided.ensures
+    rw (sym c.sheet_named.ensures ∙ c.in_default.is) c.decided.ensures
 
 pub returns : goal.returns
 unfolding sheet_of
 returns c =
-    rw (sym c.sheet_named-named.ensures ∙ c.in-Four.is) (c.bounded.ensures ∙ search rules)
+    rw (sym c.sheet_named.ensures ∙ c.in-Some.is) (c.bounded.ensures ∙ search rules)

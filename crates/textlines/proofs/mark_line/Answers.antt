@@ -21,15 +21,15 @@ sized f e = e ∙ ap nat_abs (arg w64 f).is
 
 pub returns-then-numbers-pen-eq0 : goal.returns-then-numbers-pen-eq0
 returns-then-numbers-pen-eq0 c =
-    let s = c.before.before.before.before.before.before.before.before.before.before.before.before.before in
+    let s : Start = search in
     let number = sized {z = nth s (s.args.i * 5 + 1)} (search rules) c.size-number.ensures in
     let place = sized {z = nth s (s.args.i * 5 + 2)} (search rules) c.size.ensures in
-    let byte = c.wrapping_add_u64-byte.ensures.value ∙ ap (λ (n : ℕ). (s.args.before + n) % 2 ^ 64) place in
+    let byte = ap (λ (n : ℕ). (s.args.before + n) % 2 ^ 64) place in
     let e = c.refusal_line.ensures in
     record { puts = puts-same ((λ i. refusal_text (number i) (byte i)) ∙ sym (mark-refusal s.args.before s.args.numbers.now s.args.i (eq64-t (nth s (s.args.i * 5)) (pos 0) (search rules) (search rules) c.if-numbers-pen-eq0.true))) e.puts; upper_bound = e.upper_bound }
 
 pub returns : goal.returns
 returns c =
-    let s = c.before.before.before.before.before.before.before.before in
+    let s : Start = search in
     let e = c.stroke_line.ensures in
     record { puts = puts-same (sym (mark-stroke s.args.before s.args.numbers.now s.args.i (eq64-f (nth s (s.args.i * 5)) (pos 0) (search rules) (search rules) c.if-numbers-pen-eq0.false))) e.puts; upper_bound = e.upper_bound }

@@ -6,23 +6,16 @@ use Rattle.textlines.proofs.mark_lines.Goals as goal
 
 pub loop-i-init : goal.loop-i-init
 unfolding marks_below
-loop-i-init c = (puts-nothing _ (omega arith), omega arith, omega arith)
+loop-i-init c = (puts-nothing _ (omega arith), omega arith)
 
 pub mark_line-end-requires : goal.mark_line-end-requires
-mark_line-end-requires c = let i = c.loop-i.invariant in record { longest_in_bounds = omega (arith, puts-length i.0); i_in_bounds = omega arith }
-
-pub overflow_add-i : goal.overflow_add-i
-overflow_add-i c = omega arith
-
-pub loop-i-smaller : goal.loop-i-smaller
-loop-i-smaller c = omega arith
+mark_line-end-requires c = record { longest_in_bounds = omega (arith, puts-length c.loop-i.invariant.0); i_in_bounds = omega arith }
 
 pub loop-i-preserved : goal.loop-i-preserved
 unfolding marks_below
 loop-i-preserved c =
     let e = c.mark_line-end.ensures in
-    let i = c.loop-i.invariant in
-    (rw add-one (puts_then i.0 e.puts), omega (arith, e.upper_bound), omega arith)
+    (rw add-one (puts_then c.loop-i.invariant.0 e.puts), omega (arith, e.upper_bound))
 
 pub shape_of-out : goal.shape_of-out
 shape_of-out c = puts-length c.loop-i.invariant.0

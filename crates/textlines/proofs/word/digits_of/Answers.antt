@@ -1,79 +1,54 @@
--- What the word is worth is what the bytes from `at` on are worth, after those before them.
-use Rattle.std.proofs.Common.{◌≡◌, ℕ, true, length, get_or, drop, sym, refl, ap, ◌∙◌, arith, drop_of_length-le, w64}
+-- What the digits are is what those left are, after those before them.
+use Rattle.std.specs.Prelude.{◌≡◌, ℕ, ◌≤◌, Bool, true, false, List, [], ◌∷◌, refl, None, Some}
+use Rattle.std.proofs.Common.{sym, ap, ◌∙◌, arith, w64, inl, inr, drop, length}
+use borrow.Author.Tests.{lt-ltb, le-ltb, le-leb, lt-leb, eqb-true, eqb-false}
+use Rattle.std.specs.Int.{IsOutOfRange}
 use Rattle.exact.specs.Fit.{got}
-use Rattle.textlines.specs.declared.word.Whole.TheVariants.{Number}
 use Rattle.textlines.specs.Word.{is_digit, value_from, digits_of}
-use Rattle.textlines.specs.WordLaws.{digit-range, value-more, value-other, value-large, digits-some, value-end}
+use Rattle.textlines.specs.WordLaws.{value-more, value-other, value-large, digits-some, value-end}
 use Rattle.textlines.proofs.word.digits_of.Goals as goal
-use Rattle.textlines.proofs.word.digits_of.Lts
-use Rattle.textlines.proofs.word.digits_of.Tie
-use Rattle.textlines.proofs.word.digits_of.Reads
+use Rattle.textlines.proofs.word.digits_of.Goals.{then-not-is_ascii_digit-via-then-not-is_ascii_digit, then-not-is_ascii_digit-via-else-not-is_ascii_digit+then-n-ge-TOO_LARGE}
 
-abbrev After-is_digit : Type 0
-After-is_digit = Lts.After-is_digit Tie.the-claims Reads.Pre Reads.Post goal.the-invariant-loop-at goal.the-decreases-loop-at
+-- the byte that is read is a digit, or none
+one : (b : ℕ) → (48 ≤ b) × (b ≤ 57) → is_digit b ≡ true
+unfolding is_digit
+one b h = simp (le-ltb b 48 h.0, le-leb b 57 h.1) refl
 
-abbrev Else-not-is_digit : Type 0
-Else-not-is_digit = Lts.Else2 Tie.the-claims Reads.Pre Reads.Post goal.the-invariant-loop-at goal.the-decreases-loop-at
+none : (b : ℕ) → IsOutOfRange 48 57 b → is_digit b ≡ false
+unfolding is_digit
+none b (inl h) = rw (lt-ltb b 48 h) refl
+none b (inr h) = rw (le-ltb b 48 (omega arith), lt-leb b 57 h) refl
 
--- the byte that is read, and that it is a digit
-abbrev byte : After-is_digit → ℕ
-byte c = get_or c.args.word.now c.loop-at.at 0
-
-digit : (c : Else-not-is_digit) → is_digit (byte c.before) ≡ true
-digit c = sym c.is_digit.ensures ∙ c.if-not-is_digit.false
-
-pub returns-then-from-word : goal.returns-then-from-word
+empty : (minus : Bool) (digits : List ℕ) → length digits ≡ 0 → digits_of minus digits ≡ None
 unfolding digits_of
-returns-then-from-word c = rw (drop_of_length-le c.args.word.now c.if-from-word.true) refl
+empty minus [] e = refl
+empty minus (b ∷ bs) e = absurd (omega arith)
 
-pub loop-at-init : goal.loop-at-init
-loop-at-init c = (omega arith, omega arith, digits-some c.args.minus c.args.word.now 0 c.args.from c.if-from-word.false)
+pub returns-then-is_empty : goal.returns-then-is_empty
+returns-then-is_empty c = sym (empty _ _ (eqb-true _ 0 (sym c.if-is_empty.ensures)))
 
-pub bounds-word-at : goal.bounds-word-at
-bounds-word-at c = omega arith
+pub loop-byte-init : goal.loop-byte-init
+loop-byte-init c = (omega arith, digits-some c.args.minus c.args.digits.now 0 0 (let some : length c.args.digits.now ≡ 0 → ⊥ = eqb-false _ 0 (sym c.if-is_empty.ensures) in omega (arith, some)))
 
-pub returns-then-not-is_digit : goal.returns-then-not-is_digit
-returns-then-not-is_digit c =
-    let l = c.loop-at in
-    sym (l.invariant.2 ∙ value-other _ _ l.n l.at c.loop-at-test.true (sym c.is_digit.ensures ∙ c.if-not-is_digit.true))
+pub returns-then-not-is_ascii_digit : goal.returns-then-not-is_ascii_digit
+returns-then-not-is_ascii_digit c =
+    let l = c.loop-byte in
+    elim c.then-not-is_ascii_digit.branch [
+      | then-not-is_ascii_digit-via-then-not-is_ascii_digit w ↦ sym (l.invariant.1 ∙ value-other _ _ l.n l.byte-index c.loop-byte-test.true (none _ w.if-not-is_ascii_digit.ensures.cases))
+      | then-not-is_ascii_digit-via-else-not-is_ascii_digit+then-n-ge-TOO_LARGE w ↦ sym (l.invariant.1 ∙ value-large _ _ l.n l.byte-index c.loop-byte-test.true w.if-n-ge-TOO_LARGE.true (one _ w.if-not-is_ascii_digit.ensures.cases))
+    ]
 
-pub returns-then-n-ge-TOO_LARGE : goal.returns-then-n-ge-TOO_LARGE
-returns-then-n-ge-TOO_LARGE c =
-    let l = c.loop-at in
-    sym (l.invariant.2 ∙ value-large _ _ l.n l.at c.loop-at-test.true c.if-n-ge-TOO_LARGE.true (digit c.before.before))
-
-pub overflow_mul-n : goal.overflow_mul-n
-overflow_mul-n c = omega arith
-
-pub overflow_sub-n : goal.overflow_sub-n
-overflow_sub-n c = omega (arith, digit-range (byte c.before.before.before) (digit c.before.before))
-
-pub overflow_cast-n : goal.overflow_cast-n
-overflow_cast-n c = omega (arith, digit-range (byte c.before.before.before) (digit c.before.before))
-
-pub overflow_add-n : goal.overflow_add-n
-overflow_add-n c = omega (arith, digit-range (byte c.before.before.before) (digit c.before.before))
-
-pub overflow_add-at : goal.overflow_add-at
-overflow_add-at c = omega arith
-
-pub loop-at-smaller : goal.loop-at-smaller
-loop-at-smaller c = omega arith
-
-pub loop-at-preserved : goal.loop-at-preserved
-loop-at-preserved c =
-    let l = c.loop-at in
-    let r = digit-range (byte c.before.before.before) (digit c.before.before) in
-    (omega arith, omega arith, l.invariant.2 ∙ value-more _ _ l.n l.at c.loop-at-test.true (digit c.before.before) c.if-n-ge-TOO_LARGE.false)
-
-pub signed-requires : goal.signed-requires
-signed-requires c = omega arith
+pub loop-byte-preserved : goal.loop-byte-preserved
+loop-byte-preserved c =
+    let l = c.loop-byte in
+    let d = c.if-not-is_ascii_digit.ensures.cases in
+    (omega (arith, c.from.ensures), rw c.from.ensures (l.invariant.1 ∙ value-more _ _ l.n l.byte-index c.loop-byte-test.true (one _ d) c.if-n-ge-TOO_LARGE.false))
 
 pub returns : goal.returns
 returns c =
     let a = c.args in
-    let l = c.loop-at in
-    let e : l.at ≡ length a.word.now = omega arith in
+    let l = c.loop-byte in
+    let e : l.byte-index ≡ length a.digits.now = omega arith in
     sym
-    (l.invariant.2 ∙ ap (λ (k : ℕ). value_from a.minus l.n (drop k a.word.now)) e ∙ value-end a.minus a.word.now l.n
-    ∙ ap Number (sym (got w64 c.signed.type_inv ∙ c.signed.ensures)))
+    (l.invariant.1 ∙ ap (λ (k : ℕ). value_from a.minus l.n (drop k a.digits.now)) e ∙ value-end a.minus a.digits.now l.n
+    ∙ ap Some (sym (got w64 c.signed.type_inv ∙ c.signed.ensures)))

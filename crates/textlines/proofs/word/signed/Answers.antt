@@ -12,5 +12,5 @@ overflow_sub-result c = fit w64 (neg (small c.args.n c.requires)) tt
 pub returns-then-minus : goal.returns-then-minus
 returns-then-minus c = rw c.if-minus.true (put w64 (neg (small c.args.n c.requires)) tt).is
 
-pub returns : goal.returns
-returns c = rw c.if-minus.false (small c.args.n c.requires).is
+pub returns-else-minus : goal.returns-else-minus
+returns-else-minus c = rw c.if-minus.false (small c.args.n c.requires).is
