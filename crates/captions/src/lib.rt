@@ -204,7 +204,8 @@ fn groups(
     let mut shown = 0;
     let mut i: usize = 0;
     while i < SHOWN {
-        let count = r.counts[i];
+        let g = r.groups[i];
+        let count = g.count;
         if count == 0 {
             return Below {
                 used: end,
@@ -213,7 +214,7 @@ fn groups(
             };
         }
         end = row(rt, text, end, s.margin, y);
-        end = group(rt, text, end, r.keys[i], count, r.places[i * 6]);
+        end = group(rt, text, end, g.key, count, g.places[0]);
         end = put_bytes(rt, text, end, b"</text>\n");
         shown = sum(shown, count);
         y = sum(y, s.line);

@@ -1,5 +1,5 @@
 -- The name of what is refused, from the bytes before it.
-use Rattle.std.specs.Prelude.{cond, List, [], ◌∷◌, ℕ, zero, suc, ◌-◌, eqb, ltb, leb, get_or}
+use Rattle.std.specs.Prelude.{Option, Some, None, cond, List, [], ◌∷◌, ℕ, zero, suc, ◌-◌, eqb, ltb, leb, get_or}
 use Prim.Native.Char.{code}
 use Rattle.counting.specs.declared.names.Letters.{Letters}
 
@@ -18,6 +18,11 @@ escaped = letters (code "^") (code "[")
 unfoldable pub letter_of : ℕ → ℕ
 letter_of b = cond (ltb b (code "A")) 0 (cond (leb b (code "Z")) b (cond (ltb b (code "a")) 0 (cond (leb b (code "z")) (b - 32) 0)))
 
+-- a letter, if it is one
+unfoldable pub seen : ℕ → Option ℕ
+seen zero = None
+seen (suc n) = Some (suc n)
+
 -- the letter before the place n, which counts the bytes before it; 0 where there is none
 unfoldable pub letter_before : List ℕ → ℕ → ℕ
 letter_before bytes zero = 0
@@ -27,6 +32,11 @@ letter_before bytes (suc n) = letter_of (get_or bytes n 0)
 unfoldable pub letter_end : List ℕ → ℕ → ℕ
 letter_end bytes zero = 0
 letter_end bytes (suc n) = cond (eqb (letter_before bytes (suc n)) 0) (letter_end bytes n) (suc n)
+
+-- where the last letter of the first n bytes stands, and the letter
+unfoldable pub last_letter : List ℕ → ℕ → Option (ℕ × ℕ)
+last_letter bytes zero = None
+last_letter bytes (suc n) = cond (eqb (letter_before bytes (suc n)) 0) (last_letter bytes n) (Some (n, letter_before bytes (suc n)))
 
 -- how many of the first n bytes stand before the first letter
 unfoldable pub letterless : ℕ → List ℕ → ℕ

@@ -1,5 +1,5 @@
 -- What is counted of a drawing, segment by segment.
-use Rattle.std.specs.Prelude.{Bool, true, false, cond, List, ℕ, ltb, pos, set, get_or, replicate}
+use Rattle.std.specs.Prelude.{Option, Some, None, Bool, true, false, cond, List, ℕ, ltb, set, get_or, replicate}
 use Rattle.exact.specs.Whole.{◌≡?◌}
 use Rattle.clip.specs.declared.Point.{Point}
 use Rattle.clip.specs.declared.Rect.{Rect}
@@ -11,16 +11,8 @@ use Rattle.hpgl.specs.declared.Segment.{Segment}
 use Rattle.hpgl.specs.declared.Segment.TheVariants as segment
 use Rattle.console.specs.Sums.{added}
 use Rattle.measure.specs.Root.{squares, tenths_of}
-use Rattle.counting.specs.declared.tally.Extent.{Extent}
-use Rattle.counting.specs.declared.tally.End.{End}
 use Rattle.counting.specs.declared.tally.Paint.{Paint}
 use Rattle.counting.specs.declared.tally.Tally.{Tally}
-
-abbrev pub origin : Point
-origin = record { x = pos 0; y = pos 0 }
-
-abbrev pub no_extent : Extent
-no_extent = record { some = false; area = record { left = pos 0; bottom = pos 0; right = pos 0; top = pos 0 } }
 
 -- pens are 0 to 8
 abbrev pub pens : ℕ
@@ -31,8 +23,8 @@ nothing_of = record {
   whole = 0;
   clipped = 0;
   hidden = 0;
-  paint = record { strokes = replicate pens 0; lengths = replicate pens 0; empty = 0; end = record { some = false; at = origin }; area = no_extent };
-  asked = no_extent;
+  paint = record { strokes = replicate pens 0; lengths = replicate pens 0; empty = 0; end = None; area = None };
+  asked = None;
 }
 
 -- the smallest box that holds both
@@ -45,16 +37,18 @@ joined_of a b = record {
 }
 
 -- a box with the line between two points; the first line is the box
-unfoldable pub widened_of : Extent → Point → Point → Extent
-widened_of e a b = cond e.some (record { some = true; area = joined_of e.area (ordered_of a b) }) (record { some = true; area = ordered_of a b })
+unfoldable pub widened_of : Option Rect → Point → Point → Option Rect
+widened_of None a b = Some (ordered_of a b)
+widened_of (Some area) a b = Some (joined_of area (ordered_of a b))
 
 -- from a to b, in tenths of a unit: ten times the root of dx * dx + dy * dy, rounded to the nearest
 unfoldable pub way_of : Point → Point → ℕ
 way_of a b = tenths_of (squares a.x a.y b.x b.y)
 
 -- from the end of the last stroke to the beginning of the next; before the first stroke none
-unfoldable pub driven_of : End → Point → ℕ
-driven_of e to = cond e.some (way_of e.at to) 0
+unfoldable pub driven_of : Option Point → Point → ℕ
+driven_of None to = 0
+driven_of (Some at) to = way_of at to
 
 -- so much more for a pen
 unfoldable pub for_pen : List ℕ → ℕ → ℕ → List ℕ
@@ -72,7 +66,7 @@ painted_of p s = record {
   strokes = for_pen p.strokes s.pen 1;
   lengths = for_pen p.lengths s.pen (way_of (start_of s) (end_of s));
   empty = added p.empty (driven_of p.end (start_of s));
-  end = record { some = true; at = end_of s };
+  end = Some (end_of s);
   area = widened_of p.area (start_of s) (end_of s);
 }
 

@@ -6,6 +6,8 @@ use Rattle.std.proofs.Math.Path.{refl}
 use Rattle.std.proofs.Common.{arith}
 use borrow.Author.Tests.{ltb-false, le-ltb}
 use Rattle.std.proofs.Math.Dec.{ltb}
+use Rattle.std.specs.Option.{is_some}
+use Rattle.counting.specs.declared.refusals.Group.{Group}
 use Rattle.console.specs.Sums.{largest, added}
 use Rattle.counting.specs.declared.refusals.Refusals.{Refusals}
 use Rattle.counting.specs.declared.tally.Tally.{Tally}
@@ -26,13 +28,12 @@ sum-none : (a : ℕ) → added a 0 ≡ a
 unfolding added
 sum-none a = rw (le-ltb (largest - a) 0 (omega arith)) (omega arith)
 
-harm-parts : (keys counts : List ℕ) (others broken : ℕ) → harm_in keys counts (added others broken) ≡ 0 → (harm_in keys counts others ≡ 0) × (broken ≡ 0)
+harm-parts : (list : List Group) (others broken : ℕ) → harm_in list (added others broken) ≡ 0 → (harm_in list others ≡ 0) × (broken ≡ 0)
 unfolding harm_in
-harm-parts [] counts others broken e = sum-parts others broken e
-harm-parts (k ∷ keys) [] others broken e = sum-parts others broken e
-harm-parts (k ∷ keys) (n ∷ counts) others broken e =
-    let p = sum-parts (harm_of k n) (harm_in keys counts (added others broken)) e in
-    let q = harm-parts keys counts others broken p.1 in
+harm-parts [] others broken e = sum-parts others broken e
+harm-parts (g ∷ list) others broken e =
+    let p = sum-parts (harm_of g.key g.count) (harm_in list (added others broken)) e in
+    let q = harm-parts list others broken p.1 in
     (rw (p.0, q.0) (sum-none 0), q.1)
 
 module _ (t : Tally) (r : Refusals) (broken types lost : ℕ) (unended unread : Bool) where
@@ -41,7 +42,7 @@ module _ (t : Tally) (r : Refusals) (broken types lost : ℕ) (unended unread : 
   fit-says = go (ltb 0 (harms_of r broken)) (ltb 0 types) (ltb 0 lost) (ltb 0 (cut_off t)) unended unread refl refl refl refl refl refl
     where
       go : (a b c d u q : Bool) → ltb 0 (harms_of r broken) ≡ a → ltb 0 types ≡ b → ltb 0 lost ≡ c → ltb 0 (cut_off t) ≡ d → unended ≡ u → unread ≡ q
-          → cond a false (cond b false (cond c false (cond d false (cond u false (cond q false t.paint.end.some))))) ≡ true
+          → cond a false (cond b false (cond c false (cond d false (cond u false (cond q false (is_some t.paint.end)))))) ≡ true
           → Fit t r broken types lost unended unread
       go true b c d u q x y z w v o e = absurd (false≢true e)
       go false true c d u q x y z w v o e = absurd (false≢true e)
@@ -55,7 +56,7 @@ module _ (t : Tally) (r : Refusals) (broken types lost : ℕ) (unended unread : 
           let c : lost ≤ 0 = ltb-false 0 lost z in
           let d : cut_off t ≤ 0 = ltb-false 0 (cut_off t) w in
           let n : harms_of r broken ≡ 0 = omega (arith, a) in
-          let h = harm-parts r.keys r.counts r.others broken n in
+          let h = harm-parts r.groups r.others broken n in
           record { harmless = h.0; unbroken = h.1; whole-lines = omega arith; inked = omega arith; uncut = omega arith; ended = v; read = o; painted = e }
 
   pub says-fit : Fit t r broken types lost unended unread → fit_of t r broken types lost unended unread ≡ true

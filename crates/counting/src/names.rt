@@ -1,9 +1,11 @@
 // The name of what is refused, from the bytes before it.
-ghost use Rattle.std.specs.Prelude.{◌≡◌, ◌-◌, drop};
+ghost use Rattle.std.specs.Prelude.{◌≡◌, length, take, drop, not};
+ghost use Rattle.std.specs.List.{take_while};
+ghost use Rattle.std.specs.Option.{is_some};
 ghost use Rattle.counting.specs.Names as S;
 
 // Two letters: the last two before a place, or a name.
-#[derive(Clone, Copy)]
+#[derive(Clone, Copy, PartialEq, Eq)]
 pub struct Letters {
     pub first: u8,
     pub second: u8,
@@ -28,100 +30,69 @@ pub fn escape_letters() -> Letters
     }
 }
 
-// A letter, as a capital; 0 for any other byte.
-fn letter(byte: u8) -> u8
-    ensures { result ≡ S.letter_of byte }
+// A letter, as a capital.
+#[tactic(auto, unfolding(crate::specs::Names::letter_of, crate::specs::Names::seen))]
+fn letter(byte: u8) -> Option<u8>
+    ensures { result ≡ S.seen (S.letter_of byte) }
 {
-    if byte < b'A' {
-        return 0;
+    match byte {
+        b'A'..=b'Z' => Some(byte),
+        b'a'..=b'z' => Some(byte - 32),
+        _ => None,
     }
-    if byte <= b'Z' {
-        return byte;
-    }
-    if byte < b'a' {
-        return 0;
-    }
-    if byte <= b'z' {
-        return byte - 32;
-    }
-    0
 }
 
-fn one_less(n: usize) -> usize
-    ensures { result ≡ n - 1 }
+// The letter before a place.
+fn letter_before(bytes: &[u8], at: usize) -> Option<u8>
+    ensures { result ≡ S.seen (S.letter_before bytes.now at) }
 {
-    if n == 0 {
-        return 0;
-    }
-    n - 1
+    letter(*bytes.get(at.checked_sub(1)?)?)
 }
 
-// The letter before a place; 0 where there is none.
-fn letter_before(bytes: &[u8], at: usize) -> u8
-    ensures { result ≡ S.letter_before bytes.now at }
+// Those of so many bytes from a place on that stand before the first letter, counted.
+fn before_letter(bytes: &[u8], from: usize, most: usize) -> usize
+    ensures { result ≡ length (take_while (λ b. not (is_some (S.seen (S.letter_of b)))) (take most (drop from bytes.now))) }
 {
-    if at == 0 {
-        return 0;
-    }
-    if at <= bytes.len() {
-        return letter(bytes[at - 1]);
-    }
-    0
+    bytes
+        .iter()
+        .skip(from)
+        .take(most)
+        .take_while(|b| letter(**b).is_none())
+        .count()
 }
 
 // How many bytes from a place on are no letters, of so many at most.
 pub fn letterless(bytes: &[u8], from: usize, most: usize) -> usize
     ensures { result ≡ S.letterless most (drop from bytes.now) }
 {
-    let mut n = 0;
-    while n < most {
-        if bytes.len() <= from {
-            return n;
-        }
-        if bytes.len() - from <= n {
-            return n;
-        }
-        if letter(bytes[from + n]) != 0 {
-            return n;
-        }
-        n += 1;
-    }
-    n
+    before_letter(bytes, from, most)
 }
 
-// The place after the last letter before a place; 0 where there is none.
-fn letter_end(bytes: &[u8], at: usize) -> usize
-    ensures { result ≡ S.letter_end bytes.now at }
+// Where the last letter before a place stands, and the letter.
+fn last_letter(bytes: &[u8], at: usize) -> Option<(usize, u8)>
+    ensures { result ≡ S.last_letter bytes.now at }
 {
-    let mut n = at;
-    while n > 0 {
-        if letter_before(bytes, n) != 0 {
-            return n;
+    for n in (0..at).rev() {
+        if let Some(found) = letter_before(bytes, n + 1) {
+            return Some((n, found));
         }
-        n -= 1;
     }
-    n
+    None
 }
 
 // The last two letters before a place; l is for those before these bytes.
 pub fn letters_before(l: Letters, bytes: &[u8], at: usize) -> Letters
     ensures { result ≡ S.letters_before l bytes.now at }
 {
-    let end = letter_end(bytes, at);
-    if end == 0 {
+    let Some((end, second)) = last_letter(bytes, at) else {
         return l;
-    }
-    let last = letter_before(bytes, end);
-    let start = letter_end(bytes, end - 1);
-    if start == 0 {
-        return Letters {
+    };
+    match last_letter(bytes, end) {
+        Some((_, first)) => Letters { first, second },
+        None => Letters {
             first: l.second,
-            second: last,
-        };
-    }
-    Letters {
-        first: letter_before(bytes, start),
-        second: last,
+            second,
+        },
     }
 }
 
@@ -130,17 +101,16 @@ pub fn letters_before(l: Letters, bytes: &[u8], at: usize) -> Letters
 pub fn name_of(l: Letters, nobody: Letters, bytes: &[u8], at: usize, number: u8) -> Letters
     ensures { result ≡ S.name_of l nobody bytes.now at number }
 {
-    let earlier = one_less(at);
-    if number == 1 {
-        let second = letter_before(bytes, at);
-        if second == 0 {
-            return nobody;
-        }
-        let before = letters_before(l, bytes, earlier);
-        return Letters {
-            first: before.second,
-            second: second,
-        };
+    let earlier = at.saturating_sub(1);
+    if number != 1 {
+        return letters_before(l, bytes, earlier);
     }
-    letters_before(l, bytes, earlier)
+    let Some(second) = letter_before(bytes, at) else {
+        return nobody;
+    };
+    let before = letters_before(l, bytes, earlier);
+    Letters {
+        first: before.second,
+        second,
+    }
 }

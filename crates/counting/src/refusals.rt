@@ -1,5 +1,6 @@
 // What was refused, in groups of one name and one number: how often, and the first places of each.
-ghost use Rattle.std.specs.Prelude.{◌≡◌};
+ghost use Rattle.std.specs.Prelude.{◌≡◌, ◌==◌, ◌||◌, position};
+ghost use Rattle.counting.specs.declared.refusals.Group.{Group};
 ghost use Rattle.counting.specs.Refusals as S;
 
 use super::names::Letters;
@@ -10,27 +11,38 @@ pub const GROUPS: usize = 16;
 
 pub const PLACES: usize = 6;
 
-// A group has a key, which is 0 where it is free, a count, and six places; refusals for which no group is free are counted alone.
+// Refusals of one name and number, which its key has in one and which is 0 where the group is free: how many, and the first places.
+// A key is one number and no struct of both: it is compared group by group for each refusal, and number_of, name_in and kind_of promise what it has.
+#[derive(Clone, Copy)]
+pub struct Group {
+    pub key: u64,
+    pub count: u64,
+    pub places: [u64; PLACES],
+}
+
+// Refusals in groups; those for which no group is free are counted alone.
 #[derive(Clone, Copy)]
 pub struct Refusals {
-    pub keys: [u64; 16],
-    pub counts: [u64; 16],
-    pub places: [u64; 96],
+    pub groups: [Group; GROUPS],
     pub others: u64,
 }
 
 pub fn none() -> Refusals
     ensures { result ≡ S.none_of }
 {
+    let free = Group {
+        key: 0,
+        count: 0,
+        places: [0; PLACES],
+    };
     Refusals {
-        keys: [0; 16],
-        counts: [0; 16],
-        places: [0; 96],
+        groups: [free; GROUPS],
         others: 0,
     }
 }
 
 // A number and a name in one.
+#[tactic(auto, unfolding(crate::specs::Refusals::key_of))]
 fn key_of(number: u8, name: Letters) -> u64
     ensures { result ≡ S.key_of number name }
 {
@@ -38,12 +50,14 @@ fn key_of(number: u8, name: Letters) -> u64
 }
 
 // The number and the name of a key.
+#[tactic(auto, unfolding(crate::specs::Refusals::number_of))]
 pub fn number_of(key: u64) -> u8
     ensures { result ≡ S.number_of key }
 {
     (key / 65536 % 256) as u8
 }
 
+#[tactic(auto, unfolding(crate::specs::Refusals::name_in))]
 pub fn name_in(key: u64) -> Letters
     ensures { result ≡ S.name_in key }
 {
@@ -53,68 +67,48 @@ pub fn name_in(key: u64) -> Letters
     }
 }
 
-// The group of a key, or the first that is free; 16 where there is neither.
-fn group_of(keys: [u64; 16], key: u64) -> usize
-    ensures { result ≡ S.group_in keys key }
+// The group of a key, or the first that is free.
+fn group_of(groups: &[Group], key: u64) -> Option<usize>
+    ensures { result ≡ position (λ (g : Group). (g.key == key) || (g.key == 0)) groups.now }
 {
-    let mut i = 0;
-    while i < GROUPS {
-        if keys[i] == key {
-            return i;
-        }
-        if keys[i] == 0 {
-            return i;
-        }
-        i += 1;
-    }
-    i
+    groups.iter().position(|g| g.key == key || g.key == 0)
 }
 
-// One more place in a group that has so many.
-fn put_place(places: &mut [u64; 96], group: usize, count: u64, place: u64)
-    ensures { places.new ≡ S.with_place places.old group count place }
+// One refusal more in a group; past the sixth its place is not kept.
+#[tactic(auto, unfolding(crate::specs::Refusals::one_more, crate::specs::Refusals::with_place))]
+fn one_more(g: Group, key: u64, place: u64) -> Group
+    ensures { result ≡ S.one_more g key place }
 {
-    if group < GROUPS {
-        if count < 6 {
-            places[group * PLACES + count as usize] = place;
-            return;
-        }
-        return;
+    let mut places = g.places;
+    if g.count < 6 {
+        places[g.count as usize] = place;
+    }
+    Group {
+        key,
+        count: sum(g.count, 1),
+        places,
     }
 }
 
-// Refusals of one number and name at these places, bytes counted from 1. The lists are changed in place: to copy them takes longer than all the rest.
+// Refusals of one number and name at these places, bytes counted from 1. The groups are changed in place: to copy them takes longer than all the rest.
 pub fn noted(r: Refusals, number: u8, name: Letters, bytes: &[u64]) -> Refusals
     ensures { result ≡ S.noted_all r number name bytes.now }
 {
     let key = key_of(number, name);
-    let mut keys = r.keys;
-    let mut counts = r.counts;
-    let mut places = r.places;
+    let mut groups = r.groups;
     let mut others = r.others;
-    let mut i = 0;
-    while i < bytes.len() {
-        let place = bytes[i];
-        let group = group_of(keys, key);
-        i += 1;
-        if group < GROUPS {
-            let count = counts[group];
-            keys[group] = key;
-            counts[group] = sum(count, 1);
-            put_place(&mut places, group, count, place);
+    for &place in bytes {
+        let Some(i) = group_of(&groups, key) else {
+            others = sum(others, 1);
             continue;
-        }
-        others = sum(others, 1);
+        };
+        groups[i] = one_more(groups[i], key, place);
     }
-    Refusals {
-        keys: keys,
-        counts: counts,
-        places: places,
-        others: others,
-    }
+    Refusals { groups, others }
 }
 
 // The kind of a group: what becomes of it.
+#[tactic(auto, unfolding(crate::specs::Refusals::kind_of_key))]
 pub fn kind_of(key: u64) -> u8
     ensures { result ≡ S.kind_of_key key }
 {
@@ -123,6 +117,7 @@ pub fn kind_of(key: u64) -> u8
 }
 
 // Of a group's count, what changes the drawing.
+#[tactic(auto, unfolding(crate::specs::Refusals::harm_of))]
 fn harm_of(key: u64, count: u64) -> u64
     ensures { result ≡ S.harm_of key count }
 {
@@ -133,14 +128,13 @@ fn harm_of(key: u64, count: u64) -> u64
 }
 
 // How many refusals change the drawing: those of harmful groups, and all that have no group.
-pub fn harm(keys: [u64; 16], counts: [u64; 16], others: u64) -> u64
-    ensures { result ≡ S.harm_in keys counts others }
+pub fn harm(groups: [Group; GROUPS], others: u64) -> u64
+    ensures { result ≡ S.harm_in groups others }
 {
     let mut n = others;
-    let mut i = GROUPS;
-    while i > 0 {
-        i -= 1;
-        n = sum(harm_of(keys[i], counts[i]), n);
+    for i in (0..GROUPS).rev() {
+        let g = groups[i];
+        n = sum(harm_of(g.key, g.count), n);
     }
     n
 }

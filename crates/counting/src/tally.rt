@@ -8,52 +8,25 @@ use hpgl::{Drawn, Segment, Stroke};
 use measure::length;
 use turns::turn::{greater, lesser, ordered};
 
-// A box that may be none: with no box the area means nothing.
-#[derive(Clone, Copy)]
-pub struct Extent {
-    pub some: bool,
-    pub area: Rect,
-}
-
-// Where the last stroke ended, if there was one.
-#[derive(Clone, Copy)]
-pub struct End {
-    pub some: bool,
-    pub at: Point,
-}
-
-// What is painted: strokes and their lengths by pen, the ways between strokes, the end of the last one, and the box of all. Lengths are in tenths of a unit.
+// What is painted: strokes and their lengths by pen, the ways between strokes, the end of the last one, and the box of all, both none before the first stroke. Lengths are in tenths of a unit.
+// By pen there are two lists and no list of pairs: total and for_pen take one of them.
 #[derive(Clone, Copy)]
 pub struct Paint {
     pub strokes: [u64; 9],
     pub lengths: [u64; 9],
     pub empty: u64,
-    pub end: End,
-    pub area: Extent,
+    pub end: Option<Point>,
+    pub area: Option<Rect>,
 }
 
-// Segments by what the limits leave of them, what is painted, and the box of all segments before the limits cut them.
+// Segments by what the limits leave of them, what is painted, and the box of all segments before the limits cut them, if there are any.
 #[derive(Clone, Copy)]
 pub struct Tally {
     pub whole: u64,
     pub clipped: u64,
     pub hidden: u64,
     pub paint: Paint,
-    pub asked: Extent,
-}
-
-fn no_extent() -> Extent
-    ensures { result ≡ S.no_extent }
-{
-    Extent {
-        some: false,
-        area: Rect {
-            left: 0,
-            bottom: 0,
-            right: 0,
-            top: 0,
-        },
-    }
+    pub asked: Option<Rect>,
 }
 
 pub fn nothing() -> Tally
@@ -67,13 +40,10 @@ pub fn nothing() -> Tally
             strokes: [0; 9],
             lengths: [0; 9],
             empty: 0,
-            end: End {
-                some: false,
-                at: Point { x: 0, y: 0 },
-            },
-            area: no_extent(),
+            end: None,
+            area: None,
         },
-        asked: no_extent(),
+        asked: None,
     }
 }
 
@@ -81,33 +51,23 @@ pub fn nothing() -> Tally
 fn joined(a: Rect, b: Rect) -> Rect
     ensures { result ≡ S.joined_of a b }
 {
-    let left = lesser(a.left, b.left);
-    let bottom = lesser(a.bottom, b.bottom);
-    let right = greater(a.right, b.right);
-    let top = greater(a.top, b.top);
     Rect {
-        left: left,
-        bottom: bottom,
-        right: right,
-        top: top,
+        left: lesser(a.left, b.left),
+        bottom: lesser(a.bottom, b.bottom),
+        right: greater(a.right, b.right),
+        top: greater(a.top, b.top),
     }
 }
 
 // A box with the line between two points.
-fn widened(e: Extent, a: Point, b: Point) -> Extent
+#[tactic(auto, unfolding(crate::specs::Tally::widened_of))]
+fn widened(e: Option<Rect>, a: Point, b: Point) -> Option<Rect>
     ensures { result ≡ S.widened_of e a b }
 {
     let line = ordered(a, b);
-    let old = e.area;
-    if e.some {
-        return Extent {
-            some: true,
-            area: joined(old, line),
-        };
-    }
-    Extent {
-        some: true,
-        area: line,
+    match e {
+        Some(area) => Some(joined(area, line)),
+        None => Some(line),
     }
 }
 
@@ -119,17 +79,18 @@ fn way(a: Point, b: Point) -> u64
 }
 
 // The way from the last stroke to the beginning of the next; none before the first stroke.
-fn driven(e: End, to: Point) -> u64
+#[tactic(auto, unfolding(crate::specs::Tally::driven_of))]
+fn driven(e: Option<Point>, to: Point) -> u64
     ensures { result ≡ S.driven_of e to }
 {
-    let at = e.at;
-    if e.some {
-        return way(at, to);
+    match e {
+        Some(at) => way(at, to),
+        None => 0,
     }
-    0
 }
 
 // So much more for a pen, in a list by pens.
+#[tactic(auto, unfolding(crate::specs::Tally::for_pen))]
 pub fn for_pen(list: [u64; 9], pen: u8, more: u64) -> [u64; 9]
     ensures { result ≡ S.for_pen list pen more }
 {
@@ -137,7 +98,6 @@ pub fn for_pen(list: [u64; 9], pen: u8, more: u64) -> [u64; 9]
     if pen < 9 {
         let k = pen as usize;
         changed[k] = sum(changed[k], more);
-        return changed;
     }
     changed
 }
@@ -156,21 +116,18 @@ fn finish(s: Stroke) -> Point
 }
 
 // One more stroke.
+#[tactic(auto, unfolding(crate::specs::Tally::painted_of))]
 fn painted(p: Paint, s: Stroke) -> Paint
     ensures { result ≡ S.painted_of p s }
 {
     let from = start(s);
     let to = finish(s);
-    let strokes = p.strokes;
-    let lengths = p.lengths;
-    let end = p.end;
-    let area = p.area;
     Paint {
-        strokes: for_pen(strokes, s.pen, 1),
-        lengths: for_pen(lengths, s.pen, way(from, to)),
-        empty: sum(p.empty, driven(end, from)),
-        end: End { some: true, at: to },
-        area: widened(area, from, to),
+        strokes: for_pen(p.strokes, s.pen, 1),
+        lengths: for_pen(p.lengths, s.pen, way(from, to)),
+        empty: sum(p.empty, driven(p.end, from)),
+        end: Some(to),
+        area: widened(p.area, from, to),
     }
 }
 
@@ -178,63 +135,45 @@ fn painted(p: Paint, s: Stroke) -> Paint
 fn same_ends(a: Point, b: Point, s: Stroke) -> bool
     ensures { result ≡ S.same_ends a b s }
 {
-    if a.x != s.x0 {
-        return false;
-    }
-    if a.y != s.y0 {
-        return false;
-    }
-    if b.x != s.x1 {
-        return false;
-    }
-    if b.y != s.y1 {
-        return false;
-    }
-    true
+    a.x == s.x0 && a.y == s.y0 && b.x == s.x1 && b.y == s.y1
 }
 
 // A segment of which the limits leave a stroke.
+#[tactic(auto, unfolding(crate::specs::Tally::shown_of))]
 fn shown(t: Tally, a: Point, b: Point, s: Stroke) -> Tally
     ensures { result ≡ S.shown_of t a b s }
 {
-    let before = t.paint;
-    let needed = t.asked;
-    let paint = painted(before, s);
-    let asked = widened(needed, a, b);
+    let kept = Tally {
+        paint: painted(t.paint, s),
+        asked: widened(t.asked, a, b),
+        ..t
+    };
     if same_ends(a, b, s) {
         return Tally {
             whole: sum(t.whole, 1),
-            clipped: t.clipped,
-            hidden: t.hidden,
-            paint: paint,
-            asked: asked,
+            ..kept
         };
     }
     Tally {
-        whole: t.whole,
         clipped: sum(t.clipped, 1),
-        hidden: t.hidden,
-        paint: paint,
-        asked: asked,
+        ..kept
     }
 }
 
 // A segment that the limits hide.
+#[tactic(auto, unfolding(crate::specs::Tally::hidden_of))]
 fn hidden(t: Tally, a: Point, b: Point) -> Tally
     ensures { result ≡ S.hidden_of t a b }
 {
-    let paint = t.paint;
-    let needed = t.asked;
     Tally {
-        whole: t.whole,
-        clipped: t.clipped,
         hidden: sum(t.hidden, 1),
-        paint: paint,
-        asked: widened(needed, a, b),
+        asked: widened(t.asked, a, b),
+        ..t
     }
 }
 
 // A line, by what is drawn of it.
+#[tactic(auto, unfolding(crate::specs::Tally::line_of))]
 fn line(t: Tally, a: Point, b: Point, d: Drawn) -> Tally
     ensures { result ≡ S.line_of t a b d }
 {
@@ -246,12 +185,12 @@ fn line(t: Tally, a: Point, b: Point, d: Drawn) -> Tally
 }
 
 // A segment, by what is drawn of it. One that was reached pen up is nobody's line, and is not counted.
+#[tactic(auto, unfolding(crate::specs::Tally::counted_of))]
 pub fn counted(t: Tally, s: Segment, d: Drawn) -> Tally
     ensures { result ≡ S.counted_of t s d }
 {
     match s {
-        Segment::Nothing => t,
-        Segment::PenUp => t,
+        Segment::Nothing | Segment::PenUp => t,
         Segment::Line(a, b) => line(t, a, b, d),
     }
 }

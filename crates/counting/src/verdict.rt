@@ -3,7 +3,7 @@ ghost use Rattle.std.specs.Prelude.{◌≡◌};
 ghost use Rattle.counting.specs.Verdict as S;
 
 use super::refusals::{Refusals, harm};
-use super::tally::{Extent, Tally};
+use super::tally::Tally;
 use clip::Rect;
 use console::sum;
 use measure::narrow;
@@ -23,16 +23,17 @@ pub fn segments(t: Tally) -> u64
 }
 
 // How many refusals change the drawing. An escape sequence that is broken off is none, and its refusals are not harmless: one counts.
+#[tactic(auto, unfolding(crate::specs::Verdict::harms_of))]
 pub fn harms(r: Refusals, broken: u64) -> u64
     ensures { result ≡ S.harms_of r broken }
 {
-    let keys = r.keys;
-    let counts = r.counts;
-    harm(keys, counts, sum(r.others, broken))
+    harm(r.groups, sum(r.others, broken))
 }
 
+// What it goes by is seven parameters and no struct: fit_of, fit-says and says-fit take them so.
 // Something is painted, nothing is cut off, no refusal changes the drawing, no escape sequence is broken off, no line has another type or no pen, and it was
 // read to its end.
+#[tactic(auto, unfolding(crate::specs::Verdict::fit_of))]
 pub fn fit(
     t: Tally,
     r: Refusals,
@@ -44,27 +45,13 @@ pub fn fit(
 ) -> bool
     ensures { result ≡ S.fit_of t r broken types lost unended unread }
 {
-    let paint = t.paint;
-    let end = paint.end;
-    if harms(r, broken) > 0 {
-        return false;
-    }
-    if types > 0 {
-        return false;
-    }
-    if lost > 0 {
-        return false;
-    }
-    if cut_off(t) > 0 {
-        return false;
-    }
-    if unended {
-        return false;
-    }
-    if unread {
-        return false;
-    }
-    end.some
+    harms(r, broken) == 0
+        && types == 0
+        && lost == 0
+        && cut_off(t) == 0
+        && !unended
+        && !unread
+        && t.paint.end.is_some()
 }
 
 // Whether a box is less than nine tenths as wide as another, and as high.
@@ -81,17 +68,14 @@ fn lower(r: Rect, sheet: Rect) -> bool
 }
 
 // Whether what is painted leaves more than a tenth of the sheet free, across and along: it may have been written at another scale.
-pub fn little(e: Extent, sheet: Rect) -> bool
+#[tactic(auto, unfolding(crate::specs::Verdict::little_of))]
+pub fn little(e: Option<Rect>, sheet: Rect) -> bool
     ensures { result ≡ S.little_of e sheet }
 {
-    let area = e.area;
-    if !e.some {
-        return false;
+    match e {
+        Some(area) => narrower(area, sheet) && lower(area, sheet),
+        None => false,
     }
-    if narrower(area, sheet) {
-        return lower(area, sheet);
-    }
-    false
 }
 
 // The sum of a list by pens.
@@ -99,9 +83,7 @@ pub fn total(list: [u64; 9]) -> u64
     ensures { result ≡ S.total_of list }
 {
     let mut n = 0;
-    let mut i: usize = 9;
-    while i > 0 {
-        i -= 1;
+    for i in (0..9).rev() {
         n = sum(list[i], n);
     }
     n

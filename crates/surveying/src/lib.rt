@@ -53,7 +53,7 @@ struct Drawing {
     replies: u64,
 }
 
-// What drawing leaves: the machine, and the counts.
+// What drawing leaves: the machine, and the counts. This and the next are structs and no tuples, so that each part has its name.
 #[derive(Clone, Copy)]
 struct Painted {
     machine: Machine,
@@ -94,17 +94,15 @@ pub struct Surveyed {
     pub unread: bool,
 }
 
+#[tactic(auto, unfolding(crate::specs::Drawing::waits_of))]
 fn waits(s: Segment) -> bool
     ensures { result ≡ S.waits_of s }
 {
-    match s {
-        Segment::Nothing => false,
-        Segment::PenUp => true,
-        Segment::Line(_, _) => true,
-    }
+    matches!(s, Segment::PenUp | Segment::Line(_, _))
 }
 
 // A stroke as a line among those that were painted: its ends, whatever its pen.
+#[tactic(auto, unfolding(crate::specs::Strokes::ends_of))]
 fn ends_of(s: Stroke) -> Row
     ensures { result ≡ T.ends_of s }
 {
@@ -118,13 +116,12 @@ fn ends_of(s: Stroke) -> Row
 }
 
 // What is drawn of a segment is looked for among the lines that were painted, and kept.
+#[tactic(auto, unfolding(crate::specs::Strokes::rows_of, repeats::specs::Repeats::painted_all))]
 fn traced(lines: &mut [i64], d: Drawn)
     ensures { lines.new ≡ painted_all lines.old (T.rows_of d) }
 {
-    match d {
-        Drawn::Idle => {}
-        Drawn::Hidden => {}
-        Drawn::Stroke(s) => painted(lines, ends_of(s)),
+    if let Drawn::Stroke(s) = d {
+        painted(lines, ends_of(s));
     }
 }
 
@@ -139,10 +136,7 @@ fn drawn_off(first: Machine, before: Tally, lines: &mut [i64]) -> Painted
     loop {
         let s = machine.segment();
         if !waits(s) {
-            return Painted {
-                machine: machine,
-                tally: tally,
-            };
+            return Painted { machine, tally };
         }
         let w = machine.draw();
         let drawn = w.drawn;
@@ -159,20 +153,20 @@ fn fetched_off(machine: Machine, before: u64) -> Replied
 {
     let mut buffer = [0; REPLY];
     let f = machine.fetch(&mut buffer);
-    let next = f.machine;
     if f.length == 0 {
         return Replied {
-            machine: next,
+            machine: f.machine,
             replies: before,
         };
     }
     Replied {
-        machine: next,
+        machine: f.machine,
         replies: sum(before, 1),
     }
 }
 
 // The number of a run's last byte. A byte that met a waiting reply was not taken, and is not refused: it comes again.
+#[tactic(auto, unfolding(crate::specs::Drawing::judged_of, feeding::specs::DrawOff::untaken))]
 fn judged(number: u8) -> u8
     ensures { result ≡ S.judged_of number }
 {
@@ -212,10 +206,8 @@ fn places(numbers: &[i64], count: usize, before: u64) -> [u64; STRETCH]
     ensures { take count result ≡ S.places_of before numbers.now count }
 {
     let mut list = [0; STRETCH];
-    let mut i = 0;
-    while i < count {
+    for i in 0..count {
         list[i] = sum(before, size(numbers[i * 5 + 2]));
-        i += 1;
     }
     list
 }
@@ -246,16 +238,14 @@ fn ended(
 ) -> Drawing
     ensures { result ≡ S.ended_of (S.gone_to d machine tally refusals replies) block.now }
 {
-    let letters = d.letters;
-    let nobody = d.nobody;
     Drawing {
-        machine: machine,
+        machine,
         before: sum(d.before, block.len() as u64),
-        letters: letters_before(letters, block, block.len()),
-        nobody: nobody,
-        tally: tally,
-        refusals: refusals,
-        replies: replies,
+        letters: letters_before(d.letters, block, block.len()),
+        tally,
+        refusals,
+        replies,
+        ..d
     }
 }
 
@@ -307,17 +297,12 @@ fn with_pen(d: Drawing) -> Drawing
     requires { Usable d.machine.state × (occupied d.machine.state.work ≡ false) }
     ensures { (result ≡ S.with_pen d) × Usable result.machine.state }
 {
-    let machine = d.machine;
-    let letters = d.letters;
-    let nobody = d.nobody;
     Drawing {
-        machine: inked(machine),
-        before: d.before,
-        letters: letters,
-        nobody: nobody,
+        machine: inked(d.machine),
         tally: nothing(),
         refusals: none(),
         replies: 0,
+        ..d
     }
 }
 
@@ -326,19 +311,19 @@ fn lost_in(d: Drawing, piece: &[u8]) -> u64
     requires { Usable d.machine.state × (occupied d.machine.state.work ≡ false) }
     ensures { result ≡ S.lost_in d piece.now }
 {
-    let machine = d.machine;
-    let seen = machine.look();
+    let seen = d.machine.look();
     if seen.pen == 0 {
         // a list without room: what is not painted is not painted twice
         let mut none = [0; 1];
         let drawn = block_of(with_pen(d), piece, &mut none);
-        let tally = drawn.tally;
-        return segments(tally);
+        return segments(drawn.tally);
     }
     0
 }
 
+// It stands beside the count of what is lost and is no Option: fit goes by the count, which says whether there is one.
 // From where on there was no pen: as it was, or from this piece on where the first line is lost.
+#[tactic(auto, unfolding(crate::specs::Drawing::first_of))]
 fn first_of(lost: u64, first: u64, more: u64, place: u64) -> u64
     ensures { result ≡ S.first_of lost first more place }
 {
@@ -352,45 +337,28 @@ fn first_of(lost: u64, first: u64, more: u64, place: u64) -> u64
 }
 
 // The name of a byte that belongs to none: that of an escape sequence, or nobody's.
+#[tactic(auto, unfolding(crate::specs::Drawing::byte_name))]
 fn byte_name(escape: u8, piece: &[u8]) -> Letters
     ensures { result ≡ S.byte_name escape piece.now }
 {
-    if piece.len() == 0 {
-        return no_letters();
+    match piece.first() {
+        Some(&byte) if belongs(escape, byte) => escape_letters(),
+        _ => no_letters(),
     }
-    if belongs(escape, piece[0]) {
-        return escape_letters();
-    }
-    no_letters()
 }
 
 // The drawing at the beginning of a piece.
 fn entered(d: Drawing, nobody: Letters) -> Drawing
     ensures { result ≡ S.entered_of d nobody }
 {
-    let machine = d.machine;
-    let letters = d.letters;
-    let tally = d.tally;
-    let refusals = d.refusals;
-    Drawing {
-        machine: machine,
-        before: d.before,
-        letters: letters,
-        nobody: nobody,
-        tally: tally,
-        refusals: refusals,
-        replies: d.replies,
-    }
+    Drawing { nobody, ..d }
 }
 
+#[tactic(auto, unfolding(crate::specs::Drawing::last_of))]
 fn last(piece: &[u8]) -> u8
     ensures { result ≡ S.last_of piece.now }
 {
-    let n = piece.len();
-    if n == 0 {
-        return 0;
-    }
-    piece[n - 1]
+    piece.last().copied().unwrap_or(0)
 }
 
 // A piece: within it no other pen is taken, and all bytes belong to an escape sequence or none does.
@@ -421,16 +389,14 @@ fn pieces(w: Watched, block: &[u8], lines: &mut [i64]) -> Watched
 {
     let mut far = w;
     let mut at = 0;
-    let mut turns = block.len();
-    while turns > 0 {
+    // no piece is empty: there are no more of them than bytes
+    for turn in 0..block.len() {
         if block.len() <= at {
             return far;
         }
-        let escapes = far.escapes;
-        let n = piece(far.mode, escapes.state, block, at);
+        let n = piece(far.mode, far.escapes.state, block, at);
         far = piece_of(far, &block[at..at + n], lines);
         at += n;
-        turns -= 1;
     }
     far
 }
@@ -441,9 +407,8 @@ fn open_end(machine: Machine) -> bool
     ensures { result ≡ S.open_end machine.state }
 {
     let t = machine.take(b';');
-    let next = t.machine;
     if t.number == 0 {
-        return waits(next.segment());
+        return waits(t.machine.segment());
     }
     true
 }
@@ -454,21 +419,17 @@ fn finished(w: Watched, types: Types, unread: bool, lines: &[i64]) -> Surveyed
     ensures { result ≡ S.finished_of w types unread lines.now }
 {
     let d = w.drawing;
-    let machine = d.machine;
-    let tally = d.tally;
-    let refusals = d.refusals;
-    let escapes = w.escapes;
     Surveyed {
-        tally: tally,
+        tally: d.tally,
         repeats: told(lines),
-        refusals: refusals,
-        broken: broken_at_end(escapes),
+        refusals: d.refusals,
+        broken: broken_at_end(w.escapes),
         replies: d.replies,
         types: types.count,
         lost: w.lost,
         first: w.first,
-        unended: open_end(machine),
-        unread: unread,
+        unended: open_end(d.machine),
+        unread,
     }
 }
 
@@ -478,7 +439,7 @@ fn begun(machine: Machine) -> Watched
 {
     Watched {
         drawing: Drawing {
-            machine: machine,
+            machine,
             before: 0,
             letters: no_letters(),
             nobody: no_letters(),
@@ -506,8 +467,7 @@ pub fn survey(
     let mut lines = [0; ROOM];
     let mut types = no_types();
     let mut w = begun(machine);
-    let mut turns = TURNS;
-    while turns > 0 {
+    for _ in 0..TURNS {
         let got = read(source, &mut block);
         if !got.good {
             write_all(&mut Stream::new(rt.stderr()), b"survey: ");
@@ -520,7 +480,6 @@ pub fn survey(
         }
         types = types_in(types, &block[..n]);
         w = pieces(w, &block[..n], &mut lines);
-        turns -= 1;
     }
     finished(w, types, true, &lines)
 }

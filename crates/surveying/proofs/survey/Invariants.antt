@@ -7,9 +7,6 @@ use Rattle.hpgl.specs.Valid.{Usable}
 use Rattle.repeats.specs.Repeats.{room}
 use Rattle.surveying.proofs.survey.Given as goal
 
-abbrev pub invariant-loop-turns : goal.invariant-loop-turns
-invariant-loop-turns l =
+abbrev pub invariant-loop : goal.invariant-loop
+invariant-loop l =
     (65536 ≡ length l.block) × (room ≡ length l.lines) × Usable l.w.drawing.machine.state × (occupied l.w.drawing.machine.state.work ≡ false)
-
-abbrev pub decreases-loop-turns : goal.decreases-loop-turns
-decreases-loop-turns l = l.turns

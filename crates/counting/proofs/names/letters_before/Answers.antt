@@ -1,22 +1,15 @@
--- The definition, case by case.
-use borrow.Author.Tests.{eq-eqb, ne_eqb}
-use mathlib.Core.Path.{sym, ◌∙◌}
-use Rattle.counting.specs.Names.{letter_end, two_letters, letters_before}
+-- The definition, by what the two searches find.
+use Rattle.std.proofs.Common.{sym, ◌∙◌}
+use Rattle.counting.specs.Laws.{letters-none, letters-one, letters-two}
 use Rattle.counting.proofs.names.letters_before.Goals as goal
 
-pub returns-then-end-eq0 : goal.returns-then-end-eq0
-unfolding letters_before
-returns-then-end-eq0 c =
-    rw (eq-eqb (letter_end c.args.bytes.now c.args.at) 0 (sym c.letter_end-end.ensures ∙ c.if-end-eq0.true))
+pub returns-in_default : goal.returns-in_default
+returns-in_default c = sym (letters-none c.args.bytes.now c.args.at c.args.l (sym c.last_letter.ensures ∙ c.in_default.is))
 
-pub returns-then-start-eq0 : goal.returns-then-start-eq0
-unfolding letters_before two_letters
-returns-then-start-eq0 c =
-    rw
-    (← c.letter_end-end.ensures, ne_eqb c.letter_end-end.result 0 c.if-end-eq0.false, ← c.letter_end-start.ensures, eq-eqb c.letter_end-start.result 0 c.if-start-eq0.true, c.letter_before-last.ensures)
+pub returns-in-Some-last_letter : goal.returns-in-Some-last_letter
+returns-in-Some-last_letter c =
+    sym (letters-two c.args.bytes.now c.args.at c.in-Some.end c.in-Some.second c.in-Some-last_letter.field-0-0 c.in-Some-last_letter.first c.args.l (sym c.last_letter.ensures ∙ c.in-Some.is) (sym c.last_letter-2.ensures ∙ c.in-Some-last_letter.is))
 
-pub returns : goal.returns
-unfolding letters_before two_letters
-returns c =
-    rw
-    (← c.letter_end-end.ensures, ne_eqb c.letter_end-end.result 0 c.if-end-eq0.false, ← c.letter_end-start.ensures, ne_eqb c.letter_end-start.result 0 c.if-start-eq0.false, c.letter_before-last.ensures, c.letter_before.ensures)
+pub returns-in-None : goal.returns-in-None
+returns-in-None c =
+    sym (letters-one c.args.bytes.now c.args.at c.in-Some.end c.in-Some.second (sym c.last_letter.ensures ∙ c.in-Some.is) c.args.l (sym c.last_letter-2.ensures ∙ c.in-None.is))

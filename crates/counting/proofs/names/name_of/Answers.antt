@@ -1,21 +1,22 @@
 -- The definition, case by case.
-use borrow.Author.Tests.{eq-eqb, ne_eqb}
-use mathlib.Core.Path.{refl, sym, ◌∙◌}
-use Rattle.counting.specs.Names.{letter_before, name_of}
+use Rattle.std.proofs.Common.{refl, sym, ap, ◌∙◌, ne_eqb, eq-eqb}
+use Rattle.counting.specs.Names.{letters, letter_before, letters_before, name_of}
+use Rattle.counting.specs.Laws.{some-seen, none-seen}
 use Rattle.counting.proofs.names.name_of.Goals as goal
 
-pub returns-then-second-eq0 : goal.returns-then-second-eq0
+pub returns-then-number-ne1 : goal.returns-then-number-ne1
 unfolding name_of
-returns-then-second-eq0 c =
-    rw (eq-eqb c.args.number 1 c.if-number-eq1.true, eq-eqb (letter_before c.args.bytes.now c.args.at) 0 (sym c.letter_before-second.ensures ∙ c.if-second-eq0.true)) refl
+returns-then-number-ne1 c = rw (ne_eqb c.args.number 1 c.if-number-ne1.true) (c.letters_before.ensures ∙ ap (letters_before c.args.l c.args.bytes.now) c.saturating_sub-earlier.ensures)
 
-pub returns-then-number-eq1 : goal.returns-then-number-eq1
+pub returns-in_default : goal.returns-in_default
 unfolding name_of
-returns-then-number-eq1 c =
-    rw
-    (eq-eqb c.args.number 1 c.if-number-eq1.true, ← c.letter_before-second.ensures, ne_eqb c.letter_before-second.result 0 c.if-second-eq0.false, c.letters_before-before.ensures, c.one_less-earlier.ensures)
+returns-in_default c =
+    rw (eq-eqb c.args.number 1 c.if-number-ne1.false, eq-eqb (letter_before c.args.bytes.now c.args.at) 0 (none-seen _ (sym c.letter_before.ensures ∙ c.in_default.is))) refl
 
 pub returns : goal.returns
 unfolding name_of
 returns c =
-    rw (ne_eqb c.args.number 1 c.if-number-eq1.false, c.letters_before.ensures, c.one_less-earlier.ensures)
+    let s = some-seen _ c.in-Some.second (sym c.letter_before.ensures ∙ c.in-Some.is) in
+    let b = c.letters_before-before.ensures ∙ ap (letters_before c.args.l c.args.bytes.now) c.saturating_sub-earlier.ensures in
+    rw (eq-eqb c.args.number 1 c.if-number-ne1.false, ne_eqb (letter_before c.args.bytes.now c.args.at) 0 s.1)
+    (λ i. letters (b i).second (sym s.0 i))

@@ -19,8 +19,8 @@ returns c =
     let br : SFits w64 c.args.b.right = search rules in
     let bb : SFits w64 c.args.b.bottom = search rules in
     let bt : SFits w64 c.args.b.top = search rules in
-    let el = got w64 c.lesser-left.type_inv ∙ c.lesser-left.ensures ∙ (λ i. lesser_of ((arg w64 al).is i) ((arg w64 bl).is i)) in
-    let eb = got w64 c.lesser-bottom.type_inv ∙ c.lesser-bottom.ensures ∙ (λ i. lesser_of ((arg w64 ab).is i) ((arg w64 bb).is i)) in
-    let er = got w64 c.greater-right.type_inv ∙ c.greater-right.ensures ∙ (λ i. greater_of ((arg w64 ar).is i) ((arg w64 br).is i)) in
-    let et = got w64 c.greater-top.type_inv ∙ c.greater-top.ensures ∙ (λ i. greater_of ((arg w64 at).is i) ((arg w64 bt).is i)) in
+    let el = got w64 c.lesser.type_inv ∙ c.lesser.ensures ∙ (λ i. lesser_of ((arg w64 al).is i) ((arg w64 bl).is i)) in
+    let eb = got w64 c.lesser-2.type_inv ∙ c.lesser-2.ensures ∙ (λ i. lesser_of ((arg w64 ab).is i) ((arg w64 bb).is i)) in
+    let er = got w64 c.greater.type_inv ∙ c.greater.ensures ∙ (λ i. greater_of ((arg w64 ar).is i) ((arg w64 br).is i)) in
+    let et = got w64 c.greater-2.type_inv ∙ c.greater-2.ensures ∙ (λ i. greater_of ((arg w64 at).is i) ((arg w64 bt).is i)) in
     λ i. record { left = el i; bottom = eb i; right = er i; top = et i }

@@ -1,9 +1,0 @@
--- There are sixteen.
-use Prim.Native.Nat.{◌≤◌, ◌-◌}
-use Rattle.survey.proofs.page.groups.Given as goal
-
-abbrev pub invariant-loop-i : goal.invariant-loop-i
-invariant-loop-i l = l.i ≤ 16
-
-abbrev pub decreases-loop-i : goal.decreases-loop-i
-decreases-loop-i l = 16 - l.i
