@@ -165,7 +165,7 @@ stands-next {started} {read} {block} m h e =
 
 -- ---- from fresh on
 
-module _ {s : Started} (hard : Rect) (e : started_by s ≡ started_of hard) where
+module _ (s : Started) (hard : Rect) (e : started_by s ≡ started_of hard) where
   number : s.number ≡ fresh_number hard
   unfolding started_of
   number = ap (λ (t : Numbered). t.number) e
