@@ -2,7 +2,6 @@
 #![tactic(auto)]
 
 ghost use Rattle.std.specs.Prelude.{◌≡◌, ◌&&◌, ◌+◌, ◌*◌, ◌≤◌, ◌<◌, eqb, ltb, length, take};
-ghost use Rattle.hpgl.specs.Valid.{Usable};
 ghost use Rattle.feeding.specs.DrawOff.{list_full};
 ghost use Rattle.batches.specs.Batches.{Batched, blanks, begun};
 ghost use Rattle.batches.specs.Records.{stroke_at, strokes_of, PenAt, PensBefore};
@@ -121,7 +120,7 @@ fn zeros() -> [i64; 320]
 
 // The next strokes, at most 64, from f on; the list has `room` records.
 pub fn next_batch(f: Fed, bytes: &[u8], room: usize) -> Batch
-    requires { (Usable f.machine.state) × (f.stored ≤ room) }
+    requires { f.stored ≤ room }
     ensures { Batched bytes.now room f result }
 {
     let machine = f.machine;

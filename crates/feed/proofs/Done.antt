@@ -9,11 +9,10 @@ use Rattle.std.proofs.Math.Seq.{drop-drop, take-append_seam, drop-append_seam}
 use Rattle.hpgl.specs.declared.Stroke.{Stroke}
 use Rattle.feeding.specs.Feed.{Feed, feed_of, feed_from, laid}
 use Rattle.feeding.proofs.PartsOfFeed.{store_all}
-use Rattle.hpgl.specs.Valid.{Usable}
 use Rattle.machine.specs.declared.Machine.{Machine}
 use Rattle.batches.specs.declared.Batch.{Batch}
 use Rattle.feed.specs.Fed.{fed_of}
-use Rattle.batches.specs.Batches.{begun, ended, rest, Batched}
+use Rattle.batches.specs.Batches.{fed_by, begun, ended, rest, Batched}
 
 abbrev one-if : Bool → ℕ
 one-if true = 1
@@ -35,26 +34,24 @@ module _ (m : Machine) (bytes : List ℕ) (xs : List Stroke) where
 
   -- what comes after the batch
   abbrev after : Batch → Feed
-  after b = rest b.more bytes (length xs) b.fed
+  after b = rest b.more bytes (length xs) (fed_by b.fed)
 
   pub record Far (b : Batch) (ys : List Stroke) : Type 0 where
     pub long : length ys ≡ length xs
     pub room : b.fed.stored ≤ length xs
-    pub usable : Usable b.fed.machine.state
     pub front : whole ≡ store_all (take b.fed.stored ys) (after b)
     pub back : drop b.fed.stored ys ≡ drop b.fed.stored xs
 
-  far-begun : Usable m.state → Far (begun m) xs
-  far-begun usable = record {
+  far-begun : Far (begun m) xs
+  far-begun = record {
     long = refl;
     room = omega arith;
-    usable = usable;
     front = sym (ap (λ (k : ℕ). feed_from m.state bytes 0 k) (sub-zero (length xs)));
     back = refl;
   }
 
-  pub far-start : (b : Batch) → Usable m.state → b ≡ begun m → Far b xs
-  far-start b usable e = subst (λ (c : Batch). Far c xs) (sym e) (far-begun usable)
+  pub far-start : (b : Batch) → b ≡ begun m → Far b xs
+  far-start b e = subst (λ (c : Batch). Far c xs) (sym e) far-begun
 
   module _ (b : Batch) (ys : List Stroke) (far : Far b ys) where
     -- a batch follows, and its strokes, `new`, are stored after those before it
@@ -102,9 +99,8 @@ module _ (m : Machine) (bytes : List ℕ) (xs : List Stroke) where
         far-batch = record {
           long = ap length is ∙ length-append front-part (drop n ys) ∙ omega (arith, front-long, length-drop n ys, far.long, h.within);
           room = h.within;
-          usable = h.usable;
           front =
-              far.front ∙ ap (λ (z : Bool). store_all (take b.fed.stored ys) (rest z bytes (length xs) b.fed)) more ∙ ap (store_all (take b.fed.stored ys)) h.next
+              far.front ∙ ap (λ (z : Bool). store_all (take b.fed.stored ys) (rest z bytes (length xs) (fed_by b.fed))) more ∙ ap (store_all (take b.fed.stored ys)) h.next
               ∙ ap (λ (l : List Stroke). record { state = (after c).state; taken = (after c).taken; strokes = l; number = (after c).number }) (sym (append_assoc (take b.fed.stored ys) (take c.count c.list) (after c).strokes))
               ∙ ap (λ (l : List Stroke). store_all (take b.fed.stored ys ++ l) (after c)) (sym copied) ∙ ap (λ (l : List Stroke). store_all l (after c)) (sym front-is);
           back = back-is ∙ past ys ∙ ap (drop c.count) far.back ∙ sym (past xs);
@@ -114,8 +110,8 @@ module _ (m : Machine) (bytes : List ℕ) (xs : List Stroke) where
       abbrev stored : List Stroke
       stored = take b.fed.stored ys
 
-      is_whole : whole ≡ store_all stored (ended b.fed)
-      is_whole = far.front ∙ ap (λ (z : Bool). store_all stored (rest z bytes (length xs) b.fed)) last
+      is_whole : whole ≡ store_all stored (ended (fed_by b.fed))
+      is_whole = far.front ∙ ap (λ (z : Bool). store_all stored (rest z bytes (length xs) (fed_by b.fed))) last
 
       strokes : whole.strokes ≡ stored
       strokes = ap (λ (f : Feed). f.strokes) is_whole ∙ append-nil stored
@@ -123,9 +119,9 @@ module _ (m : Machine) (bytes : List ℕ) (xs : List Stroke) where
       count : length whole.strokes ≡ b.fed.stored
       count = ap length strokes ∙ length-take-le b.fed.stored ys (omega (arith, far.long, far.room))
 
-      pub far-end : (b.fed ≡ fed_of whole) × (ys ≡ laid whole.strokes xs)
+      pub far-end : (fed_by b.fed ≡ fed_of whole) × (ys ≡ laid whole.strokes xs)
       far-end = (
-        sym (ap (λ (f : Feed). fed_of f) is_whole ∙ ap (λ (k : ℕ). record { machine = b.fed.machine; taken = b.fed.taken; stored = k; number = b.fed.number })
+        sym (ap (λ (f : Feed). fed_of f) is_whole ∙ ap (λ (k : ℕ). record { state = b.fed.machine.state; at = b.fed.taken; stored = k; number = b.fed.number })
             (ap length (append-nil stored) ∙ ap length (sym strokes) ∙ count)),
         sym (take-append-drop b.fed.stored ys) ∙ ap (λ (l : List Stroke). l ++ drop b.fed.stored ys) (sym strokes)
             ∙ ap (λ (l : List Stroke). whole.strokes ++ l) (far.back ∙ ap (λ (k : ℕ). drop k xs) (sym count)),

@@ -3,8 +3,8 @@
 
 ghost use Rattle.std.specs.Prelude.{◌≡◌, length};
 ghost use Rattle.feeding.specs.Feed.{feed_of, laid};
-ghost use Rattle.feed.specs.Fed.{fed_of, listed_of};
-ghost use Rattle.hpgl.specs.Valid.{Usable};
+ghost use Rattle.batches.specs.Batches.{fed_by};
+ghost use Rattle.feed.specs.Fed.{fed_of, listed_by, listed_of};
 
 pub use batches::Fed;
 use batches::{begin, blank, next_batch};
@@ -13,8 +13,7 @@ use machine::Machine;
 
 // Feeds bytes, up to one that is refused or a stroke for which the list has no room, and stores the strokes from the start of the list on.
 pub fn feed(machine: Machine, bytes: &[u8], out: &mut [Stroke]) -> Fed
-    requires { Usable machine.state }
-    ensures value { result ≡ fed_of (feed_of machine.state bytes.now (length out.old)) }
+    ensures value { fed_by result ≡ fed_of (feed_of machine.state bytes.now (length out.old)) }
     ensures out_after { out.new ≡ laid (feed_of machine.state bytes.now (length out.old)).strokes out.old }
 {
     let mut b = begin(machine);
@@ -36,8 +35,7 @@ pub struct Listed {
 
 // A feed into a list of its own, for a caller that has no records to lend: such a caller is covered by the prover.
 pub fn feed_list(machine: Machine, bytes: &[u8]) -> Listed
-    requires { Usable machine.state }
-    ensures { result ≡ listed_of (feed_of machine.state bytes.now 64) }
+    ensures { listed_by result ≡ listed_of (feed_of machine.state bytes.now 64) }
 {
     let mut list = blank();
     let fed = feed(machine, bytes, &mut list);

@@ -14,13 +14,13 @@ use Rattle.feeding.specs.DrawOff.{list_full}
 use Rattle.feeding.specs.Feed.{Feed, feed_from, laid_numbers}
 use Rattle.feeding.proofs.PartsOfFeed.{store_all, Roomier, feed-room}
 use Rattle.feeding.proofs.StrokePens.{feed-pens}
-use Rattle.feeding.proofs.FeedLaws.{feed-place, feed-stored, feed-usable}
-use Rattle.hpgl.specs.Valid.{Usable}
+use Rattle.feeding.proofs.FeedLaws.{feed-place, feed-stored}
+use Rattle.gathering.specs.declared.Stopped.{Stopped}
 use Rattle.machine.specs.declared.Gathered.{Gathered}
-use Rattle.machine.specs.Gather.{gathered_of}
+use Rattle.machine.specs.Gather.{gathered_by, gathered_of}
 use Rattle.batches.specs.declared.Fed.{Fed}
 use Rattle.batches.specs.declared.Batch.{Batch}
-use Rattle.batches.specs.Batches.{goes_on, ended, rest, Batched}
+use Rattle.batches.specs.Batches.{fed_by, goes_on, ended, rest, Batched}
 use Rattle.batches.specs.Records.{strokes_of, PenAt, PensBefore, laid-long, records-back, pens-back}
 use Rattle.batches.proofs.next_batch.Goals as goal
 use Rattle.batches.proofs.next_batch.Lts
@@ -45,11 +45,26 @@ module _ (f : Fed) (bytes : List ℕ) (room most : ℕ) where
   abbrev part : Feed
   part = feed_from f.machine.state (drop f.taken bytes) f.taken most
 
-  abbrev reached : Gathered → Fed
-  reached g = record { machine = g.machine; taken = g.at; stored = f.stored + g.stored; number = g.number }
+  -- where feed has got to with what was gathered after f
+  abbrev reached : Stopped → Stopped
+  reached g = record { state = g.state; at = g.at; stored = f.stored + g.stored; number = g.number }
+
+  -- whether it goes on there
+  abbrev goes : Stopped → Bool
+  goes g = eqb g.number list_full && ltb (reached g).stored room
+
+  -- the batch follows f, said of the state
+  abbrev Follows : Stopped → Bool → List Stroke → Type 0
+  Follows g more list =
+      (goes_on bytes room (fed_by f) ≡ store_all (take g.stored list) (rest more bytes room (reached g)))
+      × ((g.stored ≤ 64) × (((reached g).stored ≤ room) × (more ≡ true → 0 < g.stored)))
 
   abbrev batchOf : Gathered → Bool → List Stroke → Batch
-  batchOf g more list = record { count = g.stored; more = more; list = list; fed = reached g }
+  batchOf g more list =
+      record { count = g.stored; more = more; list = list; fed = record { machine = g.machine; taken = g.at; stored = f.stored + g.stored; number = g.number } }
+
+  batched : (g : Gathered) (more : Bool) (list : List Stroke) → Follows (gathered_by g) more list → Batched bytes room f (batchOf g more list)
+  batched g more list h = record { next = h.0; counted = refl; held = h.1.0; within = h.1.1.0; some = h.1.1.1 }
 
   module _ (enough : f.stored ≤ room) (within : most ≤ room - f.stored) where
     abbrev left : ℕ
@@ -62,7 +77,7 @@ module _ (f : Fed) (bytes : List ℕ) (room most : ℕ) where
     wider : Roomier (drop f.taken bytes) f.taken left most part (feed_from f.machine.state (drop f.taken bytes) f.taken (most + left))
     wider = feed-room f.machine.state (drop f.taken bytes) f.taken most left
 
-    whole : goes_on bytes room f ≡ cond (eqb part.number list_full) (store_all part.strokes then) part
+    whole : goes_on bytes room (fed_by f) ≡ cond (eqb part.number list_full) (store_all part.strokes then) part
     whole = ap (feed_from f.machine.state (drop f.taken bytes) f.taken) (omega (arith, within)) ∙ wider.on
 
     -- where nothing follows
@@ -75,7 +90,7 @@ module _ (f : Fed) (bytes : List ℕ) (room most : ℕ) where
         drop-drop (part.taken - f.taken) f.taken bytes ∙ ap (λ (k : ℕ). drop k bytes) place
 
     next-is : (z y : Bool) → eqb part.number list_full ≡ z → ltb (f.stored + length part.strokes) room ≡ y →
-        goes_on bytes room f ≡ store_all part.strokes (rest (z && y) bytes room (reached (gathered_of part)))
+        goes_on bytes room (fed_by f) ≡ store_all part.strokes (rest (z && y) bytes room (reached (gathered_of part)))
     next-is false y e h = whole ∙ ap (λ (z : Bool). cond z (store_all part.strokes then) part) e ∙ last
     next-is true true e h =
         whole ∙ ap (λ (z : Bool). cond z (store_all part.strokes then) part) e
@@ -95,19 +110,16 @@ module _ (f : Fed) (bytes : List ℕ) (room most : ℕ) where
       some_is true false e h k = absurd (false≢true k)
       some_is false y e h k = absurd (false≢true k)
 
-      batched : (list : List Stroke) → take (length part.strokes) list ≡ part.strokes → most ≤ 64 → Usable f.machine.state →
-          Batched bytes room f (batchOf (gathered_of part) (eqb part.number list_full && ltb (f.stored + length part.strokes) room) list)
-      batched list e small h =
-          let stored = feed-stored f.machine.state (drop f.taken bytes) f.taken most in
-          record {
-            next = next-is (eqb part.number list_full) (ltb (f.stored + length part.strokes) room) refl refl
-                ∙ ap (λ (ss : List Stroke). store_all ss (rest (eqb part.number list_full && ltb (f.stored + length part.strokes) room) bytes room (reached (gathered_of part)))) (sym e);
-            counted = refl;
-            held = omega (arith, stored, small);
-            within = omega (arith, stored, within, enough);
-            some = some_is (eqb part.number list_full) (ltb (f.stored + length part.strokes) room) refl refl;
-            usable = feed-usable f.machine.state (drop f.taken bytes) f.taken most h;
-          }
+      follows : (list : List Stroke) → take (length part.strokes) list ≡ part.strokes → most ≤ 64 → Follows (gathered_of part) (goes (gathered_of part)) list
+      follows list e small =
+          let stored = feed-stored f.machine.state (drop f.taken bytes) f.taken most in (
+            next-is (eqb part.number list_full) (ltb (f.stored + length part.strokes) room) refl refl
+                ∙ ap (λ (ss : List Stroke). store_all ss (rest (goes (gathered_of part)) bytes room (reached (gathered_of part)))) (sym e),
+            (
+              omega (arith, stored, small),
+              (omega (arith, stored, within, enough), some_is (eqb part.number list_full) (ltb (f.stored + length part.strokes) room) refl refl),
+            ),
+          )
 
 -- ---- the code
 
@@ -147,11 +159,11 @@ module _ (g : After-gather-g) where
   lent-long : length (take (most * 5) zeros) ≡ most * 5
   lent-long = part-long most zeros sized.0 g.zeros-numbers.ensures
 
-  gathered : g.gather-g.result ≡ gathered_of did
+  gathered : gathered_by g.gather-g.result ≡ gathered_of did
   gathered = g.gather-g.ensures.value ∙ ap (λ (k : ℕ). gathered_of (feed_from f.machine.state (drop f.taken bytes) f.taken k)) (fifth most _ lent-long)
 
   counted : g.gather-g.result.stored ≡ length did.strokes
-  counted = ap (λ (r : Gathered). r.stored) gathered
+  counted = ap (λ (r : Stopped). r.stored) gathered
 
   few : length did.strokes ≤ most
   few = feed-stored f.machine.state (drop f.taken bytes) f.taken most
@@ -177,7 +189,7 @@ module _ (g : After-gather-g) where
   penned i h =
       subst (λ (l : List ℤ). PenAt l i) (sym numbers-are)
       (pens-back did.strokes (take (most * 5) zeros) (drop (most * 5) zeros)
-      (feed-pens f.machine.state (drop f.taken bytes) f.taken most s.requires.0.valid) i (omega (arith, h, counted)))
+      (feed-pens f.machine.state (drop f.taken bytes) f.taken most f.machine.usable.valid) i (omega (arith, h, counted)))
 
   -- the records are the strokes
   listed : (list : List Stroke) → take g.gather-g.result.stored list ≡ strokes_of numbers g.gather-g.result.stored → take (length did.strokes) list ≡ did.strokes
@@ -185,16 +197,14 @@ module _ (g : After-gather-g) where
       ap (λ (k : ℕ). take k list) (sym counted) ∙ e ∙ ap (λ (l : List ℤ). strokes_of l g.gather-g.result.stored) numbers-are
       ∙ ap (strokes_of (laid ++ drop (most * 5) zeros)) counted ∙ records-back did.strokes (take (most * 5) zeros) (drop (most * 5) zeros)
 
-  abbrev goes : Gathered → Bool
-  goes r = eqb r.number list_full && ltb (f.stored + r.stored) s.args.room
-
   -- the batch that is answered
-  answer : (more : Bool) (list : List Stroke) → more ≡ goes g.gather-g.result → take g.gather-g.result.stored list ≡ strokes_of numbers g.gather-g.result.stored →
-      Batched bytes s.args.room f (batchOf f bytes s.args.room most g.gather-g.result more list)
+  answer : (more : Bool) (list : List Stroke) → more ≡ goes f bytes s.args.room most (gathered_by g.gather-g.result) →
+      take g.gather-g.result.stored list ≡ strokes_of numbers g.gather-g.result.stored → Batched bytes s.args.room f (batchOf f bytes s.args.room most g.gather-g.result more list)
   answer more list e h =
-      subst (Batched bytes s.args.room f)
-      (ap (λ (r : Gathered). batchOf f bytes s.args.room most r (goes r) list) (sym gathered) ∙ ap (λ (z : Bool). batchOf f bytes s.args.room most g.gather-g.result z list) (sym e))
-      (batched f bytes s.args.room most s.requires.1 sized.1.0 sized.1.1 list (listed list h) sized.0 s.requires.0)
+      let room = s.args.room in
+      let is = follows f bytes room most s.requires sized.1.0 sized.1.1 list (listed list h) sized.0 in
+      let at-g = subst (λ (r : Stopped). Follows f bytes room most r (goes f bytes room most r) list) (sym gathered) is in
+      batched f bytes room most g.gather-g.result more list (subst (λ (z : Bool). Follows f bytes room most (gathered_by g.gather-g.result) z list) (sym e) at-g)
 
 pub slice_bounds-gather-end : goal.slice_bounds-gather-end
 slice_bounds-gather-end c = sym (part-long _ _ c.batch_room-most.ensures.0 c.zeros-numbers.ensures)
@@ -210,7 +220,7 @@ records-list-requires c =
 pub overflow_add-stored : goal.overflow_add-stored
 overflow_add-stored c =
     let g = c.before.before.before.before.before.before in
-    omega (arith, counted g, few g, (sized g).1.0, (s g).requires.1, (s g).ranges.room)
+    omega (arith, counted g, few g, (sized g).1.0, (s g).requires, (s g).ranges.room)
 
 pub returns : goal.returns
 returns c =
