@@ -147,6 +147,7 @@ pub fn ordered(p: Point, q: Point) -> Rect
 }
 
 // The box on the page: two corners turned, and put in order.
+// Two functions and no turning handed over as a closure: that would be longer than the two calls it saves.
 pub fn turned_box(r: Rect, turn: usize) -> Rect
     requires { SmallRect r × (turn < turn_count) }
     ensures { result ≡ turned_box_of r turn }
