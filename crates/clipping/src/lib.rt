@@ -10,7 +10,7 @@ ghost use Rattle.clip.specs.Reach.{reach, most_extent, most_steps, SmallPoint, S
 use clip::{Point, Rect};
 use exact::nearest_div;
 
-// |q - p|, or 1 where they are equal.
+// |q - p|, or 1 where they are equal. Three cases and no abs_diff, which answers a u64 and 0.
 fn extent(p: i64, q: i64) -> i64
     requires { Bd p reach × Bd q reach }
     ensures { result ≡ S.extent p q }
@@ -151,7 +151,7 @@ fn outside_to_outside(r: Rect, a: Point, b: Point) -> Option<(Point, Point)>
     Some((place(a, b, m), place(b, a, n)))
 }
 
-// What is left of the segment from a to b in the box, by its type.
+// What is left of the segment from a to b in the box, by its type. A box and two points, each with its bound: callers have them apart.
 pub fn clip(r: Rect, a: Point, b: Point) -> Option<(Point, Point)>
     requires { SmallRect r × SmallPoint a × SmallPoint b }
     ensures { result ≡ S.clip r a b }

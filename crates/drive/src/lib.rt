@@ -52,7 +52,7 @@ pub enum Moves {
     One(Move),
 }
 
-// The pitch of a code, in millimetres a unit.
+// The pitch of a code, in millimetres a unit. A code and no enum: drive takes any byte, and refuses those past the last.
 fn pitch_of(code: u8) -> f32
     requires { code ≤ last_code }
     ensures { result ≡ f32_of (pos (pitch_of code)) }

@@ -81,6 +81,7 @@ fn ends_fit(c: Centre, distance: usize) -> bool
 }
 
 // Whether the points at the length of the way are in range, on both axes: then every vertex is.
+// The two centres and the way one by one: a type of the three would ask callers for what these clauses ask, and more.
 pub fn round_fits(cx: Centre, cy: Centre, w: Way) -> bool
     requires { CentreBounds cx × CentreBounds cy × WayBounds w }
     ensures { result ≡ round_fits cx cy w }

@@ -15,6 +15,7 @@ const REACH: i64 = 1_000_000;
 const UNSCALED: i64 = 10_000;
 
 // The scale that the settings make of the points P1, P2 and of the numbers that stand there.
+// A flag and numbers, and no Option: the list that C keeps has the numbers of a scale that is off too (Saved.antt).
 pub fn axis_of(scaled: bool, p1: i64, p2: i64, least: i64, most: i64) -> Axis
     requires { Bd p1 most_point × Bd p2 most_point × Bd least most_number × Bd most most_number }
     ensures { result ≡ axis_of scaled p1 p2 least most }

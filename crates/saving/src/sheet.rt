@@ -60,7 +60,7 @@ fn window_row(w: Window) -> Row
     }
 }
 
-// The box, or one of the two points or ranges, of a row.
+// The box, or one of the two points or ranges, of a row: a function for each, as in the definition.
 fn box_of(row: Row) -> Rect
     ensures { result ≡ S.box_of row }
 {

@@ -106,7 +106,7 @@ fn memory_sound(r: Row) -> bool
     between(low, r, high) && (r.a <= 3 || 6 <= r.a)
 }
 
-// Whether the position of a row may be kept.
+// Whether the position of a row may be kept. The crate saving builds it too, in a module of its own that it hands to nobody.
 fn placed_row(s: Settings, r: Row) -> bool
     requires { ValidSettings s }
     ensures { result ≡ S.placed_of s (position_of r) }

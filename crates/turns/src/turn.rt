@@ -23,45 +23,25 @@ pub struct Rows {
 #[derive(Clone, Copy)]
 struct Turn {
     degrees: i64,
-    rows: Rows,
+    table: [[i64; 2]; 2],
 }
 
 const TURNS: [Turn; TURN_COUNT] = [
     Turn {
         degrees: 0,
-        rows: Rows {
-            xx: 1,
-            xy: 0,
-            yx: 0,
-            yy: 1,
-        },
+        table: [[1, 0], [0, 1]],
     },
     Turn {
         degrees: 90,
-        rows: Rows {
-            xx: 0,
-            xy: -1,
-            yx: 1,
-            yy: 0,
-        },
+        table: [[0, -1], [1, 0]],
     },
     Turn {
         degrees: 180,
-        rows: Rows {
-            xx: -1,
-            xy: 0,
-            yx: 0,
-            yy: -1,
-        },
+        table: [[-1, 0], [0, -1]],
     },
     Turn {
         degrees: 270,
-        rows: Rows {
-            xx: 0,
-            xy: 1,
-            yx: -1,
-            yy: 0,
-        },
+        table: [[0, 1], [-1, 0]],
     },
 ];
 
@@ -91,7 +71,8 @@ pub fn rows_of(turn: usize) -> Rows
     requires { turn < turn_count }
     ensures { result ≡ rows_of turn }
 {
-    TURNS[turn].rows
+    let [[xx, xy], [yx, yy]] = TURNS[turn].table;
+    Rows { xx, xy, yx, yy }
 }
 
 // A table times a point.
@@ -166,6 +147,7 @@ pub fn ordered(p: Point, q: Point) -> Rect
 }
 
 // The box on the page: two corners turned, and put in order.
+// Two functions and no turning handed over as a closure: that would be longer than the two calls it saves.
 pub fn turned_box(r: Rect, turn: usize) -> Rect
     requires { SmallRect r × (turn < turn_count) }
     ensures { result ≡ turned_box_of r turn }
