@@ -1,55 +1,51 @@
 -- The proof of `fetch`: the reply is gone exactly where bytes were written (FetchLaws.antt).
-use mathlib.Core.Path.{◌≡◌, sym, ◌∙◌}
-use lib.ListN.{length}
-use Rattle.hpgl.specs.Machine.{replying, fetch_number, fetch_text, fetch_out}
-use Rattle.replies.specs.Fetch.{number_for}
-use Rattle.machine.specs.Calls.{fetched_from}
+use Rattle.std.specs.Prelude.{Result, List, ℕ, length}
+use Rattle.std.proofs.Common.{◌≡◌, sym, ap, ◌∙◌}
+use Rattle.replies.specs.declared.writing.ShortBuffer.{ShortBuffer}
+use Rattle.replies.specs.Fetch.{number_for, bytes_of, number_of, Fetches}
+use Rattle.hpgl.specs.declared.State.{State}
+use Rattle.hpgl.specs.Machine.{replied, replying, fetch_number, fetch_text, fetch_out}
 use Rattle.hpgl.proofs.FetchLaws.{unfetched, fetched}
+use Rattle.machine.specs.Calls.{fetched_from}
 use Rattle.machine.proofs.Machine.fetch.Goals as goal
-use Rattle.machine.proofs.Machine.fetch.Lts
-use Rattle.machine.proofs.Machine.fetch.Tie
-use Rattle.machine.proofs.Machine.fetch.Reads
 
-abbrev After-fetch-w : Type 0
-After-fetch-w = Lts.After-fetch Tie.the-claims Reads.Pre Reads.Post Tie.handed_clauses
+-- what is answered and written, as the machine's calls have it
+module _ (m : State) {before after : List ℕ} {w : Result ℕ ShortBuffer} (f : Fetches (replied m.work) before after w) where
+  bytes : bytes_of w ≡ length (fetch_text m (length before))
+  unfolding fetch_text
+  bytes = f.count
 
-abbrev Start : Type 0
-Start = Lts.Start Tie.the-claims Reads.Pre Reads.Post Tie.handed_clauses
+  number : number_of w ≡ fetch_number m (length before)
+  unfolding fetch_number replying number_for
+  number = f.number
 
-pub fetch-w-requires : goal.fetch-w-requires
-fetch-w-requires c = c.requires.valid.work
+  writes : after ≡ fetch_out m before
+  unfolding fetch_out fetch_text
+  writes = f.out
 
-abbrev start : After-fetch-w → Start
-start f = f.before.before.before.before
+pub fetch-requires : goal.fetch-requires
+fetch-requires c = c.requires.valid.work
 
--- how many bytes were written
-counts : (f : After-fetch-w) → let s = (start f).args in f.fetch-w.result.length ≡ length (fetch_text s.self.state (length s.out.now))
-unfolding fetch_text
-counts f = f.fetch-w.ensures.count
-
-numbers : (f : After-fetch-w) → let s = (start f).args in f.fetch-w.result.number ≡ fetch_number s.self.state (length s.out.now)
-unfolding fetch_number replying number_for
-numbers f = f.fetch-w.ensures.number
-
-writes : (f : After-fetch-w) → let s = (start f).args in f.fetch-w.new.out ≡ fetch_out s.self.state s.out.now
-unfolding fetch_out fetch_text
-writes f = f.fetch-w.ensures.out
-
-pub returns-then-w-eq0 : goal.returns-then-w-eq0
+pub returns-then-length-eq0 : goal.returns-then-length-eq0
 unfolding fetched_from
-returns-then-w-eq0 c =
-    let f = c.before.before.before.before.before in
-    let s = (start f).args in
-    let m = s.self.state in
-    let room = length s.out.now in
-    let none = sym c.if-w-eq0.true ∙ counts f in
-    record { value = (λ i. record { machine = record { state = sym (unfetched m room (sym none)) i }; length = none i; number = numbers f i }); out_after = writes f }
+returns-then-length-eq0 c =
+    let m = c.args.self.state in
+    let none = sym c.if-length-eq0.true ∙ sym (ap bytes_of c.in-Ok.is) ∙ bytes m c.fetch.ensures in
+    let zero = sym (ap number_of c.in-Ok.is) ∙ number m c.fetch.ensures in
+    record { value = (λ i. record { machine = record { state = sym (unfetched m (length c.args.out.now) (sym none)) i }; length = none i; number = zero i }); out_after = writes m c.fetch.ensures }
 
-pub returns : goal.returns
+pub returns-else-length-eq0 : goal.returns-else-length-eq0
 unfolding fetched_from
-returns c =
-    let f = c.before.before.before.before.before.before.before.before in
-    let s = (start f).args in
-    let m = s.self.state in
-    let room = length s.out.now in
-    record { value = (λ i. record { machine = record { state = sym (fetched m room (λ z. c.if-w-eq0.false (counts f ∙ z))) i }; length = counts f i; number = numbers f i }); out_after = writes f }
+returns-else-length-eq0 c =
+    let m = c.args.self.state in
+    let some = sym (ap bytes_of c.in-Ok.is) ∙ bytes m c.fetch.ensures in
+    let zero = sym (ap number_of c.in-Ok.is) ∙ number m c.fetch.ensures in
+    record { value = (λ i. record { machine = record { state = sym (fetched m (length c.args.out.now) (λ z. c.if-length-eq0.false (some ∙ z))) i }; length = some i; number = zero i }); out_after = writes m c.fetch.ensures }
+
+pub returns-in-Err : goal.returns-in-Err
+unfolding fetched_from
+returns-in-Err c =
+    let m = c.args.self.state in
+    let none = sym (ap bytes_of c.in-Err.is) ∙ bytes m c.fetch.ensures in
+    let short = sym (ap number_of c.in-Err.is) ∙ number m c.fetch.ensures in
+    record { value = (λ i. record { machine = record { state = sym (unfetched m (length c.args.out.now) (sym none)) i }; length = none i; number = short i }); out_after = writes m c.fetch.ensures }
