@@ -16,6 +16,7 @@ use hpgl::Work;
 use machine::Machine;
 use replies::writing::fetch;
 use rows::put_row;
+use rulekit::numbers::SHORT_BUFFER;
 use saving::work::{put_work, work_at};
 
 pub fn fresh_in(left: i64, bottom: i64, right: i64, top: i64, numbers: &mut [i64]) -> u8
@@ -72,13 +73,20 @@ pub fn fetch_in(numbers: &mut [i64], out: &mut [u8], answer: &mut [u64]) -> u8
     ensures out_after { out.new ≡ fetch_out (loaded_of numbers.old) out.old }
     ensures answer_after { answer.new ≡ over answer.old 0 (length (fetch_text (loaded_of numbers.old) (length out.old)) ∷ []) }
 {
-    let written = fetch(work_at(numbers), out);
-    answer[0] = written.length as u64;
-    if written.length == 0 {
-        return written.number;
+    match fetch(work_at(numbers), out) {
+        Ok(length) => {
+            answer[0] = length as u64;
+            if length == 0 {
+                return 0;
+            }
+            put_work(Work::Nothing, numbers);
+            0
+        }
+        Err(_) => {
+            answer[0] = 0;
+            SHORT_BUFFER
+        }
     }
-    put_work(Work::Nothing, numbers);
-    written.number
 }
 
 pub fn feed_in(numbers: &mut [i64], bytes: &[u8], records: &mut [i64], answer: &mut [u64]) -> u8

@@ -61,7 +61,7 @@ fn gathered(
     }
 }
 
-// Stores a record after `count` others, and answers how many there are then.
+// Stores a record after `count` others, and answers how many there are then: five stores, where a slice of an array would be made first and copied.
 #[tactic(auto, unfolding(crate::specs::Gather::with_stroke))]
 fn put_record(numbers: &mut [i64], count: usize, s: Stroke) -> usize
     requires { count * 5 + 5 ≤ length numbers.old }
@@ -288,6 +288,7 @@ pub fn gather(m: State, bytes: &[u8], from: usize, numbers: &mut [i64], on: bool
     let mut at = from;
     let mut count = 0;
     let room = numbers.len() / NUMBERS;
+    // no for: a turn takes as many bytes as the reader passes over, or none while work waits
     while remains(work, at, bytes.len()) {
         let halt = halted(on, work, count, room);
         if halt > 0 {

@@ -14,7 +14,7 @@ use shapes::arcs::{aa_rule, ar_rule};
 use shapes::circles::ci_rule;
 use shapes::polygons::{ea_rule, ep_rule, er_rule, pm_rule};
 
-// An instruction ends. PU, PD, PA and PR have done their work.
+// An instruction ends. PU, PD, PA and PR have done their work. A match and no table of functions: rules with numbers and without have other types.
 pub fn end_rule(c: Core, op: usize, n: Numbers) -> Acted
     requires { ValidCore c × Small n }
     ensures { result ≡ R.end_rule c op n }

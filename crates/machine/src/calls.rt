@@ -19,7 +19,7 @@ use hpgl::{State, Work};
 use queue::drawing::{draw_first, edge_place, first_segment, work_after};
 use queue::storing::waiting;
 use replies::writing::fetch;
-use rulekit::numbers::{BAD_LIMITS, BUSY, LIST_FULL};
+use rulekit::numbers::{BAD_LIMITS, BUSY, LIST_FULL, SHORT_BUFFER};
 use rulekit::places::located;
 use saving::{load, save};
 use settings::{fresh_state, good_limits};
@@ -127,23 +127,31 @@ impl Machine {
         ensures out_after { out.new ≡ M.fetch_out self.state out.old }
     {
         let m = self.state;
-        let w = fetch(m.work, out);
-        if w.length == 0 {
-            return Fetched {
+        match fetch(m.work, out) {
+            Ok(length) => {
+                if length == 0 {
+                    return Fetched {
+                        machine: self,
+                        length: 0,
+                        number: 0,
+                    };
+                }
+                Fetched {
+                    machine: Machine {
+                        state: State {
+                            work: Work::Nothing,
+                            ..m
+                        },
+                    },
+                    length,
+                    number: 0,
+                }
+            }
+            Err(_) => Fetched {
                 machine: self,
                 length: 0,
-                number: w.number,
-            };
-        }
-        Fetched {
-            machine: Machine {
-                state: State {
-                    work: Work::Nothing,
-                    ..m
-                },
+                number: SHORT_BUFFER,
             },
-            length: w.length,
-            number: w.number,
         }
     }
 

@@ -19,7 +19,7 @@ fn edge(p: Point, q: Point) -> Edge
     }
 }
 
-// The four edges of a rectangle, first along x, all pen down.
+// The four edges of a rectangle, first along x, all pen down: four stores, where a slice of an array would be made first and copied.
 #[tactic(auto, unfolding(hpgl::specs::Machine::rectangle_edges))]
 fn rectangle_edges(s: Store, p: Point, q: Point) -> Store
     ensures { result.edges ≡ M.rectangle_edges s.edges p q }

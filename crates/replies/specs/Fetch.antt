@@ -1,5 +1,5 @@
 -- What is written of a reply, and answered: of a reply of no numbers nothing, and 0.
-use Rattle.std.specs.Prelude.{◌≡◌, refl, false, cond, not, List, [], ◌∷◌, ◌++◌, ℕ, ◌+◌, ◌≤◌, ◌<◌, eqb, leb, length, drop}
+use Rattle.std.specs.Prelude.{Result, Ok, Err, ◌≡◌, refl, false, cond, not, List, [], ◌∷◌, ◌++◌, ℕ, ◌+◌, ◌≤◌, ◌<◌, eqb, leb, length, drop}
 use Rattle.std.proofs.Common.{ap, ◌∙◌, arith, le-leb, ne_eqb}
 use Rattle.std.proofs.lemmas.Bool.{lt-leb}
 use Rattle.std.proofs.lemmas.List.Edits.{sets-eq}
@@ -8,15 +8,24 @@ use Rattle.hpgl.specs.declared.Reply.{Reply}
 use Rattle.hpgl.specs.Replies.{no_reply, numbers_told, text_of, reply_text}
 use Rattle.hpgl.specs.Machine.{fetched_of}
 use Rattle.hpgl.specs.Valid.{ReplyCount, one, three, four, ValidReply}
-use Rattle.replies.specs.declared.writing.Written.{Written}
+use Rattle.replies.specs.declared.writing.ShortBuffer.{ShortBuffer}
 
 -- 02's number of a fetch: "31: buffer shorter than the reply"
 unfoldable pub number_for : Reply → ℕ → ℕ
 number_for r room = cond (not (eqb r.count 0)) (cond (leb (length (reply_text r)) room) 0 31) 0
 
-pub record Fetches (r : Reply) (before after : List ℕ) (w : Written) : Type 0 where
-  pub count : w.length ≡ length (fetched_of r (length before))
-  pub number : w.number ≡ number_for r (length before)
+-- how many bytes an answer says were written, and its number
+abbrev pub bytes_of : Result ℕ ShortBuffer → ℕ
+bytes_of (Ok n) = n
+bytes_of (Err e) = 0
+
+abbrev pub number_of : Result ℕ ShortBuffer → ℕ
+number_of (Ok n) = 0
+number_of (Err e) = 31
+
+pub record Fetches (r : Reply) (before after : List ℕ) (w : Result ℕ ShortBuffer) : Type 0 where
+  pub count : bytes_of w ≡ length (fetched_of r (length before))
+  pub number : number_of w ≡ number_for r (length before)
   pub out : after ≡ fetched_of r (length before) ++ drop (length (fetched_of r (length before))) before
 
 -- ---- the texts of a reply that may wait, by its count
@@ -54,7 +63,7 @@ puts-start {text} {before} p =
     p.list ∙ sets-eq text before 0 (omega (arith, p.room, p.ends)) ∙ ap (λ (n : ℕ). text ++ drop n before) k
 
 pub fits : (r : Reply) → ValidReply r → {before after : List ℕ} {end : ℕ} → length (reply_text r) ≤ length before → Puts (reply_text r) before after 0 end →
-    Fetches r before after (record { length = end; number = 0 })
+    Fetches r before after (Ok end)
 unfolding fetched_of number_for
 fits r v {before} {after} {end} h p =
     let l = le-leb (length (reply_text r)) (length before) h in
@@ -64,13 +73,13 @@ fits r v {before} {after} {end} h p =
       out = rw l (puts-start p);
     }
 
-pub too_short : (r : Reply) → ValidReply r → {before : List ℕ} → length before < length (reply_text r) → Fetches r before before (record { length = 0; number = 31 })
+pub too_short : (r : Reply) → ValidReply r → {before : List ℕ} → length before < length (reply_text r) → (e : ShortBuffer) → Fetches r before before (Err e)
 unfolding fetched_of number_for
-too_short r v {before} h =
+too_short r v {before} h e =
     let l = lt-leb (length (reply_text r)) (length before) h in
     record { count = rw l refl; number = rw (counts r v, l) refl; out = rw l refl }
 
 -- and none
-pub no-fetch : (before : List ℕ) → Fetches no_reply before before (record { length = 0; number = 0 })
+pub no-fetch : (before : List ℕ) → Fetches no_reply before before (Ok 0)
 unfolding fetched_of number_for reply_text numbers_told text_of
 no-fetch before = let l = le-leb 0 (length before) (omega arith) in record { count = rw l refl; number = refl; out = rw l refl }

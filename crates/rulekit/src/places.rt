@@ -35,6 +35,7 @@ pub fn rounded(n: i64) -> i64
     nearest_div(n, ONE)
 }
 
+// Two functions for the two axes: they read other fields, and what they do with them is one call.
 pub fn axis_x(s: Settings) -> Axis
     requires { ValidSettings s }
     ensures { result ≡ P.axis_x s }
@@ -81,7 +82,7 @@ pub fn located_in(f: Frame, p: Position) -> Point
     Point { x, y }
 }
 
-// The location of a position.
+// The location of a position. No frame is made for it: of one it would need the axes alone.
 #[tactic(auto, unfolding(hpgl::specs::Place::location))]
 pub fn located(s: Settings, p: Position) -> Point
     requires { ValidSettings s × LocatablePosition s p }

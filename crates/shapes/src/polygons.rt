@@ -108,7 +108,7 @@ fn ended(c: Core, n: u16, edges: u8, p: Position) -> Core
     with_carriage(c, with_polygon(moved, polygon))
 }
 
-// PM1 in polygon mode.
+// PM1 in polygon mode. Apart from PM2: its own bytes count, and where there is no room nothing is changed.
 fn pm1_in(c: Core) -> Acted
     requires { ValidCore c × (c.carriage.polygon.mode ≡ true) }
     ensures { result ≡ R.pm1_in c }

@@ -1,5 +1,5 @@
 -- The proof of `write_reply`: no reply is longer than the buffer aside.
-use native.Mathlib.Omega.{arith}
+use Rattle.std.proofs.Common.{arith}
 use Rattle.hpgl.proofs.ReplyLaws.{short}
 use Rattle.replies.specs.Fetch.{fits, too_short}
 use Rattle.replies.proofs.writing.write_reply.Goals as goal
@@ -9,8 +9,8 @@ put_reply-length-requires c = record { valid_reply = c.requires; r_in_bounds = o
 
 pub returns-then-length-out : goal.returns-then-length-out
 returns-then-length-out c =
-    fits c.args.r c.requires (omega (arith, c.if-length-out.true, c.put_reply-length.ensures.ends)) c.put_reply-written.ensures
+    fits c.args.r c.requires (omega (arith, c.if-length-out.true, c.put_reply-length.ensures.ends)) c.put_reply.ensures
 
-pub returns : goal.returns
-returns c =
-    too_short c.args.r c.requires (omega (arith, c.if-length-out.false, c.put_reply-length.ensures.ends))
+pub returns-else-length-out : goal.returns-else-length-out
+returns-else-length-out c =
+    too_short c.args.r c.requires (omega (arith, c.if-length-out.false, c.put_reply-length.ensures.ends)) _
