@@ -5,6 +5,7 @@ use Rattle.exact.specs.Int16.{int16}
 use Rattle.hpgl.specs.Trace.{bytes, bytes_from}
 use Rattle.textlines.specs.Word.{is_digit, value_from, digits_of, whole_of}
 use Rattle.arguments.specs.Names.{same, sheet_named}
+use Rattle.arguments.specs.declared.Outcome.{Outcome}
 use Rattle.arguments.specs.Request as R
 
 -- no words
@@ -35,7 +36,7 @@ unfolding R.asked_of R.words_from R.ended_of R.taken_of R.option_of R.plain_of R
 hockey = refl
 
 -- what a list comes to, and the word that decides
-abbrev decides : List (List ℕ) → ℕ × ℕ
+abbrev decides : List (List ℕ) → Outcome × ℕ
 decides words = ((R.asked_of words).outcome, (R.asked_of words).at)
 
 -- the second word is wrong, whatever follows

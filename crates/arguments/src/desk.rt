@@ -2,12 +2,9 @@
 // has the program's own name.
 ghost use Rattle.std.specs.Prelude.{◌≤◌, length};
 
-use super::{
-    AGAIN, FEWER, HELP, MISSING, NO_SCALE, NO_SHEET, NOT_ABOVE, OUT_OF_RANGE, RUN, Request,
-    VERSION, begun, ended, taken,
-};
+use super::{Outcome, Request, Wrong, begun, ended, taken};
 use std::env::{Env, FillError};
-use std::io::writer;
+use std::io::{Write as _, writer};
 use streams::{Source, Stream, number_of, open, standard, tell, write_all};
 
 // Writes on standard error. Where that fails, nobody is left to be told.
@@ -26,20 +23,13 @@ fn print(rt: &HostRuntime, text: &[u8]) -> bool {
 pub fn word_at(rt: &HostRuntime, at: usize, word: &mut [u8; 4096]) -> usize
     ensures { result ≤ length word.new }
 {
-    match rt.arg(at, word) {
-        Ok(n) => n,
-        Err(_) => 0,
-    }
+    rt.arg(at, word).unwrap_or(0)
 }
 
 // Whether there is such a word.
 fn is_word(rt: &HostRuntime, at: usize) -> bool {
     let mut word = io::buffer();
-    match rt.arg(at, &mut word) {
-        Ok(_) => true,
-        Err(FillError::TooLong) => true,
-        Err(FillError::NotPresent) => false,
-    }
+    !matches!(rt.arg(at, &mut word), Err(FillError::NotPresent))
 }
 
 // One word more.
@@ -61,47 +51,18 @@ pub fn asked(rt: &HostRuntime) -> Request {
     ended(r)
 }
 
-// Says why a word is wrong.
-fn reason(rt: &HostRuntime, outcome: u8) -> bool {
-    if outcome == OUT_OF_RANGE {
-        return say(rt, b": a limit is -32768 to 32767");
-    }
-    if outcome == NOT_ABOVE {
-        return say(
-            rt,
-            b": limits are left bottom right top, left below right, bottom below top",
-        );
-    }
-    if outcome == NO_SHEET {
-        return say(
-            rt,
-            b": no sheet has this name; hockey and curling are sheets",
-        );
-    }
-    if outcome == NO_SCALE {
-        return say(rt, b": a scale is a whole number from 1 to 255");
-    }
-    if outcome == AGAIN {
-        return say(rt, b": limits, a scale and a file are each given once");
-    }
-    if outcome == MISSING {
-        return say(rt, b": the word after it is missing");
-    }
-    if outcome == FEWER {
-        return say(rt, b": limits are four numbers, left bottom right top");
-    }
-    say(rt, b": no such option")
-}
-
 // Says which word is wrong, and why.
-fn wrong(rt: &HostRuntime, program: &[u8], at: usize, outcome: u8) {
+fn wrong(rt: &HostRuntime, program: &[u8], at: usize, why: Wrong) {
     let mut word = io::buffer();
     let n = word_at(rt, at, &mut word);
     say(rt, program);
     say(rt, b": ");
     say(rt, &word[..n]);
-    reason(rt, outcome);
-    say(rt, b" (");
+    let mut words = [0u8; 128];
+    let mut rest: &mut [u8] = &mut words;
+    let _ = write!(rest, ": {why} (");
+    let used = 128usize.saturating_sub(rest.len());
+    say(rt, &words[..used]);
     say(rt, program);
     say(rt, b" --help says more)\n");
 }
@@ -162,18 +123,14 @@ fn opened(rt: &HostRuntime, program: &[u8], file: usize) -> Option<Stream<Source
 
 // The input of the program, where it is to run; where not, all is said.
 pub fn ready(rt: &HostRuntime, program: &[u8], about: &[u8], r: Request) -> Option<Stream<Source>> {
-    if r.outcome == RUN {
-        return opened(rt, program, r.file);
+    match r.outcome {
+        Outcome::Run => return opened(rt, program, r.file),
+        Outcome::Help => help(rt, program, about),
+        Outcome::Version => {
+            print(rt, program);
+            print(rt, b" of Vutaroi 0.1.0\n");
+        }
+        Outcome::Wrong(why) => wrong(rt, program, r.at, why),
     }
-    if r.outcome == HELP {
-        help(rt, program, about);
-        return None;
-    }
-    if r.outcome == VERSION {
-        print(rt, program);
-        print(rt, b" of Vutaroi 0.1.0\n");
-        return None;
-    }
-    wrong(rt, program, r.at, r.outcome);
     None
 }

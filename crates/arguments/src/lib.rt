@@ -8,47 +8,64 @@ ghost use Rattle.arguments.specs.Request as S;
 
 use clip::Rect;
 use exact::int16;
+use std::fmt;
 use textlines::word::whole_of;
 
 pub mod desk;
 
-// Outcomes: a run, a text that is asked for, or why a word is wrong.
-pub const RUN: u8 = 0;
+// Why a word is wrong.
+#[derive(Clone, Copy, Debug, PartialEq, Eq)]
+pub enum Wrong {
+    Unknown,
+    OutOfRange,
+    NotAbove,
+    NoSheet,
+    NoScale,
+    Again,
+    Missing,
+    Fewer,
+}
 
-pub const HELP: u8 = 1;
+impl fmt::Display for Wrong {
+    fn fmt<W: fmt::Write>(&self, f: &mut fmt::Formatter<W>) -> fmt::Result {
+        f.write_str(match self {
+            Wrong::Unknown => "no such option",
+            Wrong::OutOfRange => "a limit is -32768 to 32767",
+            Wrong::NotAbove =>
+                "limits are left bottom right top, left below right, bottom below top",
+            Wrong::NoSheet => "no sheet has this name; hockey and curling are sheets",
+            Wrong::NoScale => "a scale is a whole number from 1 to 255",
+            Wrong::Again => "limits, a scale and a file are each given once",
+            Wrong::Missing => "the word after it is missing",
+            Wrong::Fewer => "limits are four numbers, left bottom right top",
+        })
+    }
+}
 
-pub const VERSION: u8 = 2;
-
-pub const UNKNOWN: u8 = 3;
-
-pub const OUT_OF_RANGE: u8 = 4;
-
-pub const NOT_ABOVE: u8 = 5;
-
-pub const NO_SHEET: u8 = 6;
-
-pub const NO_SCALE: u8 = 7;
-
-pub const AGAIN: u8 = 8;
-
-pub const MISSING: u8 = 9;
-
-pub const FEWER: u8 = 10;
+// What the words come to: a run, a text that is asked for, or a word that is wrong.
+#[derive(Clone, Copy, Debug, PartialEq, Eq)]
+pub enum Outcome {
+    Run,
+    Help,
+    Version,
+    Wrong(Wrong),
+}
 
 // What the next word is.
-const ANYTHING: u8 = 0;
-
-const A_SHEET: u8 = 1;
-
-const A_SCALE: u8 = 2;
+#[derive(Clone, Copy, Debug, PartialEq, Eq)]
+pub enum Next {
+    Anything,
+    Sheet,
+    Scale,
+}
 
 // What the words so far ask for: an outcome, with the word that made it; what the next word is; how many limits were given, and the limits; the scale, and
-// whether it was given; and the word that names a file, 0 for standard input.
+// whether it was given, as without it there is one too; and the word that names a file, 0 for standard input.
 #[derive(Clone, Copy)]
 pub struct Request {
-    pub outcome: u8,
+    pub outcome: Outcome,
     pub at: usize,
-    pub next: u8,
+    pub next: Next,
     pub given: u8,
     pub limits: Rect,
     pub scale: u8,
@@ -61,9 +78,9 @@ pub fn begun() -> Request
     ensures { result ≡ S.begun_of }
 {
     Request {
-        outcome: RUN,
+        outcome: Outcome::Run,
         at: 0,
-        next: ANYTHING,
+        next: Next::Anything,
         given: 0,
         limits: Rect {
             left: -10000,
@@ -78,37 +95,17 @@ pub fn begun() -> Request
 }
 
 // The word at a place decides.
-fn decided(r: Request, at: usize, outcome: u8) -> Request
+fn decided(r: Request, at: usize, outcome: Outcome) -> Request
     ensures { result ≡ S.decided_of r at outcome }
 {
-    let limits = r.limits;
-    Request {
-        outcome: outcome,
-        at: at,
-        next: r.next,
-        given: r.given,
-        limits: limits,
-        scale: r.scale,
-        scaled: r.scaled,
-        file: r.file,
-    }
+    Request { outcome, at, ..r }
 }
 
 // After an option.
-fn expecting(r: Request, at: usize, next: u8) -> Request
+fn expecting(r: Request, at: usize, next: Next) -> Request
     ensures { result ≡ S.expecting_of r at next }
 {
-    let limits = r.limits;
-    Request {
-        outcome: r.outcome,
-        at: at,
-        next: next,
-        given: r.given,
-        limits: limits,
-        scale: r.scale,
-        scaled: r.scaled,
-        file: r.file,
-    }
+    Request { at, next, ..r }
 }
 
 // With so many limits given.
@@ -116,66 +113,40 @@ fn bounded(r: Request, at: usize, limits: Rect, given: u8) -> Request
     ensures { result ≡ S.bounded_of r at limits given }
 {
     Request {
-        outcome: r.outcome,
-        at: at,
-        next: ANYTHING,
-        given: given,
-        limits: limits,
-        scale: r.scale,
-        scaled: r.scaled,
-        file: r.file,
+        at,
+        next: Next::Anything,
+        given,
+        limits,
+        ..r
     }
 }
 
 fn scaled(r: Request, at: usize, scale: u8) -> Request
     ensures { result ≡ S.scaled_of r at scale }
 {
-    let limits = r.limits;
     Request {
-        outcome: r.outcome,
-        at: at,
-        next: ANYTHING,
-        given: r.given,
-        limits: limits,
-        scale: scale,
+        at,
+        next: Next::Anything,
+        scale,
         scaled: true,
-        file: r.file,
+        ..r
     }
 }
 
 fn filed(r: Request, at: usize) -> Request
     ensures { result ≡ S.filed_of r at }
 {
-    let limits = r.limits;
-    Request {
-        outcome: r.outcome,
-        at: r.at,
-        next: r.next,
-        given: r.given,
-        limits: limits,
-        scale: r.scale,
-        scaled: r.scaled,
-        file: at,
-    }
+    Request { file: at, ..r }
 }
 
 fn same(word: &[u8], name: &[u8]) -> bool
     ensures { result ≡ N.same word.now name.now }
 {
-    if word.len() != name.len() {
-        return false;
-    }
-    let mut i = 0;
-    while i < word.len() {
-        if word[i] != name[i] {
-            return false;
-        }
-        i += 1;
-    }
-    true
+    word == name
 }
 
 // The hard limits of each sheet that has a name.
+#[tactic(auto, using(exact::proofs::Rules::rules64), unfolding(crate::specs::Names::sheet_named, hpgl::specs::Trace::bytes, hpgl::specs::Trace::bytes_from))]
 fn sheet_named(word: &[u8]) -> Option<Rect>
     ensures { result ≡ N.sheet_named word.now }
 {
@@ -199,185 +170,162 @@ fn sheet_named(word: &[u8]) -> Option<Rect>
 }
 
 // The third limit has to be above the first.
-fn right_placed(r: Request, at: usize, z: i64) -> Request
-    ensures { result ≡ S.right_of r at z }
+#[tactic(auto, using(exact::proofs::Rules::rules64), unfolding(crate::specs::Request::right_of))]
+fn right_placed(r: Request, at: usize, z: i64) -> Result<Request, Wrong>
+    ensures { S.settled r at result ≡ S.right_of r at z }
 {
-    let limits = r.limits;
-    if limits.left < z {
-        return bounded(
+    if r.limits.left < z {
+        return Ok(bounded(
             r,
             at,
             Rect {
-                left: limits.left,
-                bottom: limits.bottom,
                 right: z,
-                top: limits.top,
+                ..r.limits
             },
             3,
-        );
+        ));
     }
-    decided(r, at, NOT_ABOVE)
+    Err(Wrong::NotAbove)
 }
 
 // And the fourth above the second.
-fn top_placed(r: Request, at: usize, z: i64) -> Request
-    ensures { result ≡ S.top_of r at z }
+#[tactic(auto, using(exact::proofs::Rules::rules64), unfolding(crate::specs::Request::top_of))]
+fn top_placed(r: Request, at: usize, z: i64) -> Result<Request, Wrong>
+    ensures { S.settled r at result ≡ S.top_of r at z }
 {
-    let limits = r.limits;
-    if limits.bottom < z {
-        return bounded(
-            r,
-            at,
-            Rect {
-                left: limits.left,
-                bottom: limits.bottom,
-                right: limits.right,
-                top: z,
-            },
-            4,
-        );
+    if r.limits.bottom < z {
+        return Ok(bounded(r, at, Rect { top: z, ..r.limits }, 4));
     }
-    decided(r, at, NOT_ABOVE)
+    Err(Wrong::NotAbove)
 }
 
 // The next of four limits.
-fn placed(r: Request, at: usize, z: i64) -> Request
-    ensures { result ≡ S.placed_of r at z }
+#[tactic(auto, using(exact::proofs::Rules::rules64), unfolding(crate::specs::Request::placed_of))]
+fn placed(r: Request, at: usize, z: i64) -> Result<Request, Wrong>
+    ensures { S.settled r at result ≡ S.placed_of r at z }
 {
-    let limits = r.limits;
-    if r.given == 0 {
-        return bounded(
+    match r.given {
+        0 => Ok(bounded(
             r,
             at,
             Rect {
                 left: z,
-                bottom: limits.bottom,
-                right: limits.right,
-                top: limits.top,
+                ..r.limits
             },
             1,
-        );
-    }
-    if r.given == 1 {
-        return bounded(
+        )),
+        1 => Ok(bounded(
             r,
             at,
             Rect {
-                left: limits.left,
                 bottom: z,
-                right: limits.right,
-                top: limits.top,
+                ..r.limits
             },
             2,
-        );
+        )),
+        2 => right_placed(r, at, z),
+        3 => top_placed(r, at, z),
+        _ => Err(Wrong::Again),
     }
-    if r.given == 2 {
-        return right_placed(r, at, z);
-    }
-    if r.given == 3 {
-        return top_placed(r, at, z);
-    }
-    decided(r, at, AGAIN)
 }
 
 // A number.
-fn limit(r: Request, at: usize, z: i64) -> Request
-    ensures { result ≡ S.limit_of r at z }
+#[tactic(auto, using(exact::proofs::Rules::rules64), unfolding(crate::specs::Request::limit_of))]
+fn limit(r: Request, at: usize, z: i64) -> Result<Request, Wrong>
+    ensures { S.settled r at result ≡ S.limit_of r at z }
 {
     if int16(z) {
         return placed(r, at, z);
     }
-    decided(r, at, OUT_OF_RANGE)
+    Err(Wrong::OutOfRange)
 }
 
 // A file's name.
-fn file(r: Request, at: usize, word: &[u8]) -> Request
-    ensures { result ≡ S.file_of r at word.now }
+#[tactic(auto, using(exact::proofs::Rules::rules64), unfolding(crate::specs::Request::file_of))]
+fn file(r: Request, at: usize, word: &[u8]) -> Result<Request, Wrong>
+    ensures { S.settled r at result ≡ S.file_of r at word.now }
 {
-    if word.len() == 0 {
-        return decided(r, at, UNKNOWN);
-    }
-    if word[0] == b'-' {
-        return decided(r, at, UNKNOWN);
+    if word.is_empty() || word[0] == b'-' {
+        return Err(Wrong::Unknown);
     }
     if r.file == 0 {
-        return filed(r, at);
+        return Ok(filed(r, at));
     }
-    decided(r, at, AGAIN)
+    Err(Wrong::Again)
 }
 
 // A word that is no option.
-fn plain(r: Request, at: usize, word: &[u8]) -> Request
-    ensures { result ≡ S.plain_of r at word.now }
+#[tactic(auto, using(exact::proofs::Rules::rules64), unfolding(crate::specs::Request::plain_of))]
+fn plain(r: Request, at: usize, word: &[u8]) -> Result<Request, Wrong>
+    ensures { S.settled r at result ≡ S.plain_of r at word.now }
 {
-    let Some(z) = whole_of(word) else {
-        return file(r, at, word);
-    };
-    limit(r, at, z)
+    match whole_of(word) {
+        Some(z) => limit(r, at, z),
+        None => file(r, at, word),
+    }
 }
 
 // After --sheet.
-fn sheet(r: Request, at: usize, word: &[u8]) -> Request
-    ensures { result ≡ S.sheet_of r at word.now }
+#[tactic(auto, using(exact::proofs::Rules::rules64), unfolding(crate::specs::Request::sheet_of))]
+fn sheet(r: Request, at: usize, word: &[u8]) -> Result<Request, Wrong>
+    ensures { S.settled r at result ≡ S.sheet_of r at word.now }
 {
-    let Some(limits) = sheet_named(word) else {
-        return decided(r, at, NO_SHEET);
-    };
-    bounded(r, at, limits, 4)
+    let limits = sheet_named(word).ok_or(Wrong::NoSheet)?;
+    Ok(bounded(r, at, limits, 4))
 }
 
 // A scale is a whole number from 1 to 255.
-fn scale_number(r: Request, at: usize, z: i64) -> Request
-    ensures { result ≡ S.scale_number r at z }
+#[tactic(auto, using(exact::proofs::Rules::rules64), unfolding(crate::specs::Request::scale_number))]
+fn scale_number(r: Request, at: usize, z: i64) -> Result<Request, Wrong>
+    ensures { S.settled r at result ≡ S.scale_number r at z }
 {
-    if 0 < z {
-        if z < 256 {
-            return scaled(r, at, z as u8);
-        }
-        return decided(r, at, NO_SCALE);
+    if 0 < z && z < 256 {
+        return Ok(scaled(r, at, z as u8));
     }
-    decided(r, at, NO_SCALE)
+    Err(Wrong::NoScale)
 }
 
 // After --scale.
-fn scale(r: Request, at: usize, word: &[u8]) -> Request
-    ensures { result ≡ S.scale_of r at word.now }
+#[tactic(auto, using(exact::proofs::Rules::rules64), unfolding(crate::specs::Request::scale_of))]
+fn scale(r: Request, at: usize, word: &[u8]) -> Result<Request, Wrong>
+    ensures { S.settled r at result ≡ S.scale_of r at word.now }
 {
-    let Some(z) = whole_of(word) else {
-        return decided(r, at, NO_SCALE);
-    };
+    let z = whole_of(word).ok_or(Wrong::NoScale)?;
     scale_number(r, at, z)
 }
 
 // --sheet, where no limits are given.
-fn sheet_option(r: Request, at: usize) -> Request
-    ensures { result ≡ S.sheet_option r at }
+#[tactic(auto, using(exact::proofs::Rules::rules64), unfolding(crate::specs::Request::sheet_option))]
+fn sheet_option(r: Request, at: usize) -> Result<Request, Wrong>
+    ensures { S.settled r at result ≡ S.sheet_option r at }
 {
     if r.given == 0 {
-        return expecting(r, at, A_SHEET);
+        return Ok(expecting(r, at, Next::Sheet));
     }
-    decided(r, at, AGAIN)
+    Err(Wrong::Again)
 }
 
 // --scale, where none is given.
-fn scale_option(r: Request, at: usize) -> Request
-    ensures { result ≡ S.scale_option r at }
+#[tactic(auto, using(exact::proofs::Rules::rules64), unfolding(crate::specs::Request::scale_option))]
+fn scale_option(r: Request, at: usize) -> Result<Request, Wrong>
+    ensures { S.settled r at result ≡ S.scale_option r at }
 {
     if r.scaled {
-        return decided(r, at, AGAIN);
+        return Err(Wrong::Again);
     }
-    expecting(r, at, A_SCALE)
+    Ok(expecting(r, at, Next::Scale))
 }
 
 // A word after which no other is expected.
-fn option(r: Request, at: usize, word: &[u8]) -> Request
-    ensures { result ≡ S.option_of r at word.now }
+#[tactic(auto, using(exact::proofs::Rules::rules64), unfolding(crate::specs::Request::option_of, hpgl::specs::Trace::bytes, hpgl::specs::Trace::bytes_from))]
+fn option(r: Request, at: usize, word: &[u8]) -> Result<Request, Wrong>
+    ensures { S.settled r at result ≡ S.option_of r at word.now }
 {
     if same(word, b"--help") {
-        return decided(r, at, HELP);
+        return Ok(decided(r, at, Outcome::Help));
     }
     if same(word, b"--version") {
-        return decided(r, at, VERSION);
+        return Ok(decided(r, at, Outcome::Version));
     }
     if same(word, b"--sheet") {
         return sheet_option(r, at);
@@ -388,37 +336,51 @@ fn option(r: Request, at: usize, word: &[u8]) -> Request
     plain(r, at, word)
 }
 
+// The word that is next, by what it is.
+fn word_of(r: Request, at: usize, word: &[u8]) -> Result<Request, Wrong>
+    ensures { S.settled r at result ≡ S.word_of r.next r at word.now }
+{
+    match r.next {
+        Next::Anything => option(r, at, word),
+        Next::Sheet => sheet(r, at, word),
+        Next::Scale => scale(r, at, word),
+    }
+}
+
 // The word at a place, counted from 1: the first that asks for a text or is wrong decides.
+#[tactic(auto, using(exact::proofs::Rules::rules64), unfolding(crate::specs::Request::taken_of))]
 pub fn taken(r: Request, at: usize, word: &[u8]) -> Request
     ensures { result ≡ S.taken_of r at word.now }
 {
-    if r.outcome != RUN {
+    let Outcome::Run = r.outcome else {
         return r;
+    };
+    match word_of(r, at, word) {
+        Ok(next) => next,
+        Err(why) => decided(r, at, Outcome::Wrong(why)),
     }
-    if r.next == A_SHEET {
-        return sheet(r, at, word);
+}
+
+// Limits are none or four.
+fn whole_limits(r: Request) -> Request
+    ensures { result ≡ S.whole_limits r }
+{
+    match r.given {
+        0 | 4 => r,
+        _ => decided(r, r.at, Outcome::Wrong(Wrong::Fewer)),
     }
-    if r.next == A_SCALE {
-        return scale(r, at, word);
-    }
-    option(r, at, word)
 }
 
 // No word is left.
+#[tactic(auto, using(exact::proofs::Rules::rules64), unfolding(crate::specs::Request::ended_of))]
 pub fn ended(r: Request) -> Request
     ensures { result ≡ S.ended_of r }
 {
-    if r.outcome != RUN {
+    let Outcome::Run = r.outcome else {
         return r;
+    };
+    match r.next {
+        Next::Anything => whole_limits(r),
+        Next::Sheet | Next::Scale => decided(r, r.at, Outcome::Wrong(Wrong::Missing)),
     }
-    if r.next != ANYTHING {
-        return decided(r, r.at, MISSING);
-    }
-    if r.given == 0 {
-        return r;
-    }
-    if r.given == 4 {
-        return r;
-    }
-    decided(r, r.at, FEWER)
 }
