@@ -10,16 +10,11 @@ use hpgl::Look;
 use words::{harmless, refused_kind};
 
 // Whether an instruction of this kind would have moved the carriage.
+#[tactic(auto, unfolding(crate::specs::Astray::moves_of))]
 pub fn moves(kind: u8) -> bool
     ensures { result ≡ S.moves_of kind }
 {
-    if kind == b'm' {
-        return true;
-    }
-    if kind == b'a' {
-        return true;
-    }
-    kind == b'e'
+    matches!(kind, b'm' | b'a' | b'e')
 }
 
 // The kind of what is refused with a feed's number, on the byte before a place of a block; 0 for no refusal. l is for the letters before the block.
@@ -34,59 +29,34 @@ pub fn kind_at(l: Letters, block: &[u8], at: usize, number: u8) -> u8
 }
 
 // Whether a refusal of this kind changes the drawing, whatever else is said of it.
+#[tactic(auto, unfolding(crate::specs::Astray::changes_of))]
 pub fn changes(kind: u8) -> bool
     ensures { result ≡ S.changes_of kind }
 {
-    if kind == 0 {
-        return false;
-    }
-    if kind == b'b' {
-        return false;
-    }
-    if harmless(kind) {
-        return false;
-    }
-    true
+    kind != 0 && kind != b'b' && !harmless(kind)
 }
 
+#[tactic(auto, unfolding(crate::specs::Astray::same_point))]
 fn same_point(a: Point, b: Point) -> bool
     ensures { result ≡ S.same_point a b }
 {
-    if a.x != b.x {
-        return false;
-    }
-    if a.y != b.y {
-        return false;
-    }
-    true
+    a.x == b.x && a.y == b.y
 }
 
 // Whether a move with the pen up was accepted between two looks.
+#[tactic(auto, unfolding(crate::specs::Astray::set_right))]
 fn set_right(before: Look, after: Look) -> bool
     ensures { result ≡ S.set_right before after }
 {
-    let from = before.location;
-    let to = after.location;
-    if after.down {
-        return false;
-    }
-    if same_point(from, to) {
-        return false;
-    }
-    true
+    !after.down && !same_point(before.location, after.location)
 }
 
 // Whether the carriage is astray after a feed: it was, or a refused move ended the feed.
+#[tactic(auto, unfolding(crate::specs::Astray::astray_of))]
 pub fn astray(was: bool, strays: bool, before: Look, after: Look) -> bool
     ensures { result ≡ S.astray_of was strays before after }
 {
-    if strays {
-        return true;
-    }
-    if set_right(before, after) {
-        return false;
-    }
-    was
+    strays || (was && !set_right(before, after))
 }
 
 // The place after the next letter, of which n bytes stand before it; or the end.
@@ -104,11 +74,8 @@ fn to_letter(block: &[u8], at: usize, n: usize) -> usize
 pub fn part_end(block: &[u8], at: usize, astray: bool) -> usize
     ensures { result ≡ S.part_end block.now at astray }
 {
-    if astray {
-        if at < block.len() {
-            return to_letter(block, at, letterless(block, at, block.len() - at));
-        }
-        return block.len();
+    if astray && at < block.len() {
+        return to_letter(block, at, letterless(block, at, block.len() - at));
     }
     block.len()
 }

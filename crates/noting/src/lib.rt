@@ -2,7 +2,7 @@
 // and whether the carriage is astray. specs/Inks.antt and specs/Refusals.antt have the definitions.
 #![tactic(auto)]
 
-ghost use Rattle.std.specs.Prelude.{◌≡◌, ◌≤◌, take};
+ghost use Rattle.std.specs.Prelude.{◌≡◌};
 ghost use Rattle.counting.specs.Tally.{for_pen};
 ghost use Rattle.noting.specs.Inks.{no_inks, dot_count, inked_of, inks_of};
 ghost use Rattle.noting.specs.Refusals.{refuses, refused_of};
@@ -17,7 +17,7 @@ use rulekit::numbers::{BUSY, LIST_FULL};
 
 pub mod astray;
 
-// Dots; and by pen, strokes and their lengths in tenths of a unit.
+// Dots; and by pen, strokes and their lengths in tenths of a unit. Two lists and no list of pairs: survey's definitions, `for_pen` and `total`, are of one list of numbers.
 #[derive(Clone, Copy)]
 pub struct Inks {
     pub dots: u64,
@@ -36,13 +36,11 @@ pub fn no_inks() -> Inks
 }
 
 // One for a dot.
+#[tactic(auto, unfolding(crate::specs::Inks::dot_count))]
 fn dot_count(s: Stroke) -> u64
     ensures { result ≡ dot_count s }
 {
-    if ends_equal(s) {
-        return 1;
-    }
-    0
+    u64::from(ends_equal(s))
 }
 
 // So much more for a pen.
@@ -62,26 +60,20 @@ fn at_pen(list: [u64; 9], pen: u8, more: u64) -> [u64; 9]
 fn inked(i: Inks, s: Stroke) -> Inks
     ensures { result ≡ inked_of i s }
 {
-    let strokes = i.strokes;
-    let lengths = i.lengths;
     Inks {
         dots: sum(i.dots, dot_count(s)),
-        strokes: at_pen(strokes, s.pen, 1),
-        lengths: at_pen(lengths, s.pen, length(s.x0, s.y0, s.x1, s.y1)),
+        strokes: at_pen(i.strokes, s.pen, 1),
+        lengths: at_pen(i.lengths, s.pen, length(s.x0, s.y0, s.x1, s.y1)),
     }
 }
 
-// The first strokes of a list.
-pub fn inks_of(i: Inks, list: [Stroke; 64], count: usize) -> Inks
-    requires { count ≤ 64 }
-    ensures { result ≡ inks_of i (take count list) }
+// These strokes more.
+pub fn inks_of(i: Inks, strokes: &[Stroke]) -> Inks
+    ensures { result ≡ inks_of i strokes.now }
 {
     let mut inks = i;
-    let mut k = 0;
-    while k < count {
-        let s = list[k];
-        inks = inked(inks, s);
-        k += 1;
+    for s in strokes {
+        inks = inked(inks, *s);
     }
     inks
 }
@@ -90,13 +82,7 @@ pub fn inks_of(i: Inks, list: [Stroke; 64], count: usize) -> Inks
 pub fn is_refusal(number: u8) -> bool
     ensures { result ≡ refuses number }
 {
-    if number == 0 {
-        return false;
-    }
-    if number == LIST_FULL {
-        return false;
-    }
-    number != BUSY
+    number != 0 && number != LIST_FULL && number != BUSY
 }
 
 // What a feed's number adds, on the byte before a place of a block; l is for the letters before the block, `place` counts the bytes of all.
@@ -104,9 +90,8 @@ pub fn refused(r: Refusals, l: Letters, block: &[u8], at: usize, number: u8, pla
     ensures { result ≡ refused_of r l block.now at number place }
 {
     if is_refusal(number) {
-        let one = [place; 1];
         let name = name_of(l, no_letters(), block, at, number);
-        return noted(r, number, name, &one);
+        return noted(r, number, name, &[place]);
     }
     r
 }

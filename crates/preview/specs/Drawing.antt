@@ -74,9 +74,9 @@ begun_of d before = record {
   hand = d.hand;
 }
 
--- a block is done: its last letters are kept, and its text is written out, or the write failed
-abbrev pub flushed_of : Drawing → List ℕ → Hand → Drawing
-flushed_of d block hand = record {
+-- a block is done, and its text written out: its last letters are kept
+abbrev pub flushed_of : Drawing → List ℕ → Drawing
+flushed_of d block = record {
   machine = d.machine;
   before = d.before;
   letters = letters_before d.letters block (length block);
@@ -88,12 +88,12 @@ flushed_of d block hand = record {
   harms = d.harms;
   astray = d.astray;
   more = d.more;
-  hand = hand;
+  hand = d.hand;
 }
 
 -- at the end, after so many bytes
-abbrev pub ended_of : Drawing → ℕ → Bool → ℕ → Painted
-ended_of d before unread used = record {
+abbrev pub ended_of : Drawing → ℕ → Bool → Painted
+ended_of d before unread = record {
   inks = d.inks;
   refusals = d.refusals;
   refused = d.refused;
@@ -101,5 +101,4 @@ ended_of d before unread used = record {
   harms = d.harms;
   read = before;
   unread = unread;
-  used = used;
 }

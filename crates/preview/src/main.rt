@@ -5,39 +5,38 @@
 ghost use Rattle.hpgl.specs.Valid.{Usable};
 
 use arguments::desk::{asked, ready, refused};
-use captions::summary;
+use captions::{Painted, summary};
 use machine::Machine;
 
 mod strokes;
 
-use output::{finish, put_bytes};
+use output::Text;
 use sheets::{Grid, Sheet, grid_of, head, sheet_of};
+use std::fmt;
+use std::fmt::Write;
 use streams::{Source, Stream};
 use strokes::paint;
 
-// The page of a drawing of which something could be read.
+// The page of a drawing, if something of it could be read.
 fn page(
-    rt: &HostRuntime,
+    out: &mut Text<'_>,
     machine: Machine,
     s: Sheet,
     g: Grid,
     file: usize,
     source: &mut Stream<Source>,
-)
+) -> Result<Option<Painted>, fmt::Error>
     requires { Usable machine.state }
 {
-    let mut text = io::large_buffer();
-    let mut end = head(rt, &mut text, 0, s, g);
-    let p = paint(rt, machine, &mut text, end, s.dot, file, source);
-    if p.unread {
-        if p.read == 0 {
-            return;
-        }
+    head(out, s, g)?;
+    let p = paint(out, machine, s.dot, file, source)?;
+    if p.unread && p.read == 0 {
+        return Ok(None);
     }
-    end = put_bytes(rt, &mut text, p.used, b"</svg></g>\n");
-    end = summary(rt, &mut text, end, s, g, p);
-    end = put_bytes(rt, &mut text, end, b"</svg>\n");
-    finish(rt, &text, end, b"preview: standard output");
+    writeln!(out, "</svg></g>")?;
+    summary(out, s, g, p)?;
+    writeln!(out, "</svg>")?;
+    Ok(Some(p))
 }
 
 fn main(rt: HostRuntime) {
@@ -56,13 +55,16 @@ fn main(rt: HostRuntime) {
         refused(&rt, b"preview");
         return;
     }
-    let machine = started.machine;
-    page(
-        &rt,
-        machine,
+    let mut out = Text::new(&rt);
+    let painted = page(
+        &mut out,
+        started.machine,
         sheet_of(hard),
         grid_of(hard, r.scale),
         r.file,
         &mut source,
     );
+    if !matches!(painted, Ok(None)) {
+        out.finish(b"preview: standard output");
+    }
 }

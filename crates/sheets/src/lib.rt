@@ -2,13 +2,14 @@
 // browser shows the whole page, however wide its window is.
 #![tactic(auto)]
 
-ghost use Rattle.std.specs.Prelude.{◌≡◌, ◌-◌, max};
+ghost use Rattle.std.specs.Prelude.{◌≡◌};
 ghost use Rattle.sheets.specs.Sheet.{sheet_of, step_of, cell_of, grid_of};
 
 use clip::Rect;
-use console::sum;
 use measure::{ice, side};
-use output::{natural_then, put_byte, put_bytes, put_natural, whole_then};
+use output::Text;
+use std::fmt;
+use std::fmt::Write;
 
 // Where the sheet begins, and how wide and high it is; the height of a letter, from line to line, and from the middle of a dot to its edge; what is left free
 // around the sheet; where its lower edge stands on the page; and how wide and high the page is.
@@ -45,15 +46,6 @@ const LETTERS: u64 = 76;
 // A grid has fewer lines than this.
 const MOST: u64 = 64;
 
-fn larger(a: u64, b: u64) -> u64
-    ensures { result ≡ max a b }
-{
-    if a < b {
-        return b;
-    }
-    a
-}
-
 // The page for these hard limits: the larger the sheet, the larger its letters.
 pub fn sheet_of(r: Rect) -> Sheet
     ensures { result ≡ sheet_of r }
@@ -65,38 +57,31 @@ pub fn sheet_of(r: Rect) -> Sheet
     Sheet {
         left: r.left,
         bottom: r.bottom,
-        width: width,
-        height: height,
-        letter: letter,
-        line: line,
+        width,
+        height,
+        letter,
+        line,
         dot: letter / 2 + 1,
         margin: letter * 3,
         base: line * LINES + height,
-        wide: larger(width, letter * LETTERS) + letter * 6,
+        wide: width.max(letter * LETTERS) + letter * 6,
         high: line * LINES + height + letter * 3,
     }
 }
 
 // How many metres are from line to line, where the longer side has so many centimetres.
+#[tactic(auto, unfolding(crate::specs::Sheet::step_of))]
 fn step_of(centimetres: u64) -> u8
     ensures { result ≡ step_of centimetres }
 {
-    if centimetres <= 1200 {
-        return 1;
+    match centimetres {
+        0..=1200 => 1,
+        1201..=2400 => 2,
+        2401..=6000 => 5,
+        6001..=12000 => 10,
+        12001..=24000 => 20,
+        _ => 50,
     }
-    if centimetres <= 2400 {
-        return 2;
-    }
-    if centimetres <= 6000 {
-        return 5;
-    }
-    if centimetres <= 12000 {
-        return 10;
-    }
-    if centimetres <= 24000 {
-        return 20;
-    }
-    50
 }
 
 // So many metres in units: 40 units are a millimetre on paper.
@@ -115,220 +100,126 @@ pub fn grid_of(r: Rect, scale: u8) -> Grid
 {
     let across = ice(r.left, r.right, scale);
     let along = ice(r.bottom, r.top, scale);
-    let step = step_of(larger(across, along));
+    let step = step_of(across.max(along));
     Grid {
-        step: step,
+        step,
         cell: cell_of(step, scale),
-        scale: scale,
-        across: across,
-        along: along,
+        scale,
+        across,
+        along,
     }
 }
 
 // The colours of the pens, and what lines, dots, frame, grid and text look like. A dot has a white rim, to be seen on a line. Lines stay thin in an enlarged page.
-fn style(rt: &HostRuntime, text: &mut [u8; 65536], used: usize, s: Sheet) -> usize {
-    let mut end = put_bytes(
-        rt,
-        text,
-        used,
-        b"<style>path,circle,rect{fill:none;stroke:currentColor;stroke-width:1.5px;stroke-linecap:round;stroke-linejoin:round;vector-effect:non-scaling-stroke}\n",
-    );
-    end = put_bytes(
-        rt,
-        text,
-        end,
-        b".p1{color:#000000}.p2{color:#d00000}.p3{color:#0040d0}.p4{color:#d0a000}\n",
-    );
-    end = put_bytes(
-        rt,
-        text,
-        end,
-        b".p5{color:#00902a}.p6{color:#c000c0}.p7{color:#00a0b0}.p8{color:#804000}\n",
-    );
-    end = put_bytes(
-        rt,
-        text,
-        end,
-        b".d{fill:currentColor;stroke:#ffffff}.f{color:#808080;stroke-width:1px}.g{color:#c4d0dc;stroke-width:.7px}.w{stroke-width:5px}\n",
-    );
-    end = put_bytes(
-        rt,
-        text,
-        end,
-        b".a{stroke-dasharray:7 5;stroke-linecap:butt}.s{color:#00902a;stroke-width:2px}.x{color:#ff0060;stroke-width:2.5px}\n",
-    );
-    end = put_bytes(
-        rt,
-        text,
-        end,
-        b"text{font-family:monospace;fill:#202020;font-size:",
-    );
-    end = natural_then(rt, text, end, s.letter, b'p');
-    put_bytes(
-        rt,
-        text,
-        end,
-        b"x}.n{text-anchor:middle;fill:#607080}.m{text-anchor:end;fill:#607080}</style>\n",
+const STYLE: &str =
+    "<style>path,circle,rect{fill:none;stroke:currentColor;stroke-width:1.5px;stroke-linecap:round;stroke-linejoin:round;vector-effect:non-scaling-stroke}
+.p1{color:#000000}.p2{color:#d00000}.p3{color:#0040d0}.p4{color:#d0a000}
+.p5{color:#00902a}.p6{color:#c000c0}.p7{color:#00a0b0}.p8{color:#804000}
+.d{fill:currentColor;stroke:#ffffff}.f{color:#808080;stroke-width:1px}.g{color:#c4d0dc;stroke-width:.7px}.w{stroke-width:5px}
+.a{stroke-dasharray:7 5;stroke-linecap:butt}.s{color:#00902a;stroke-width:2px}.x{color:#ff0060;stroke-width:2.5px}
+";
+
+fn style(out: &mut Text<'_>, s: Sheet) -> fmt::Result {
+    out.write_str(STYLE)?;
+    write!(
+        out,
+        "text{{font-family:monospace;fill:#202020;font-size:{}px}}",
+        s.letter
+    )?;
+    writeln!(
+        out,
+        ".n{{text-anchor:middle;fill:#607080}}.m{{text-anchor:end;fill:#607080}}</style>"
     )
 }
 
-// A width and a height.
-fn size(rt: &HostRuntime, text: &mut [u8; 65536], used: usize, s: Sheet) -> usize {
-    let mut end = put_bytes(rt, text, used, b" width=\"");
-    end = natural_then(rt, text, end, s.width, b'"');
-    end = put_bytes(rt, text, end, b" height=\"");
-    natural_then(rt, text, end, s.height, b'"')
+// A number along the lower edge, for a line that goes up.
+fn number_below(out: &mut Text<'_>, s: Sheet, at: u64, metres: u64) -> fmt::Result {
+    let x = s.margin.saturating_add(at);
+    let y = s.base.saturating_add(s.line);
+    writeln!(out, "<text class=\"n\" x=\"{x}\" y=\"{y}\">{metres}</text>")
 }
 
-// From one number down to another, or nothing.
-pub fn below(a: u64, b: u64) -> u64
-    ensures { result ≡ a - b }
-{
-    if a < b {
-        return 0;
-    }
-    a - b
+// A number along the left edge, for a line across.
+fn number_left(out: &mut Text<'_>, s: Sheet, at: u64, metres: u64) -> fmt::Result {
+    let x = s.margin.saturating_sub(s.letter / 2);
+    let y = s.base.saturating_sub(at);
+    writeln!(
+        out,
+        "<text class=\"m\" dy=\".35em\" x=\"{x}\" y=\"{y}\">{metres}</text>"
+    )
 }
 
-// A number along an edge: below the sheet for a line that goes up, else on its left.
-fn number(
-    rt: &HostRuntime,
-    text: &mut [u8; 65536],
-    used: usize,
-    s: Sheet,
-    upright: bool,
-    at: u64,
-    metres: u64,
-) -> usize {
-    if upright {
-        let mut end = put_bytes(rt, text, used, b"<text class=\"n\" x=\"");
-        end = natural_then(rt, text, end, sum(s.margin, at), b'"');
-        end = put_bytes(rt, text, end, b" y=\"");
-        end = natural_then(rt, text, end, sum(s.base, s.line), b'"');
-        end = put_byte(rt, text, end, b'>');
-        end = put_natural(rt, text, end, metres);
-        return put_bytes(rt, text, end, b"</text>\n");
-    }
-    let mut end = put_bytes(rt, text, used, b"<text class=\"m\" dy=\".35em\" x=\"");
-    end = natural_then(rt, text, end, below(s.margin, s.letter / 2), b'"');
-    end = put_bytes(rt, text, end, b" y=\"");
-    end = natural_then(rt, text, end, below(s.base, at), b'"');
-    end = put_byte(rt, text, end, b'>');
-    end = put_natural(rt, text, end, metres);
-    put_bytes(rt, text, end, b"</text>\n")
-}
-
-// A line of the grid, from edge to edge.
-fn grid_line(
-    rt: &HostRuntime,
-    text: &mut [u8; 65536],
-    used: usize,
-    s: Sheet,
-    upright: bool,
-    at: u64,
-) -> usize {
-    let mut end = put_byte(rt, text, used, b'M');
-    if upright {
-        end = put_natural(rt, text, end, at);
-        end = put_bytes(rt, text, end, b" 0v");
-        return put_natural(rt, text, end, s.height);
-    }
-    end = put_bytes(rt, text, end, b"0 ");
-    end = put_natural(rt, text, end, at);
-    end = put_byte(rt, text, end, b'h');
-    put_natural(rt, text, end, s.width)
-}
-
-fn mark(
-    rt: &HostRuntime,
-    text: &mut [u8; 65536],
-    used: usize,
-    s: Sheet,
-    upright: bool,
-    numbers: bool,
-    at: u64,
-    metres: u64,
-) -> usize {
-    if numbers {
-        return number(rt, text, used, s, upright, at, metres);
-    }
-    grid_line(rt, text, used, s, upright, at)
-}
-
-// How far the grid goes one way.
-fn reach(s: Sheet, upright: bool) -> u64 {
-    if upright {
-        return s.width;
-    }
-    s.height
-}
-
-// The lines of the grid that go up, or those across it; or the numbers at their ends, in metres from the lower left corner.
-fn marks(
-    rt: &HostRuntime,
-    text: &mut [u8; 65536],
-    used: usize,
-    s: Sheet,
+// Each line of the grid one way, as far as that goes: its place in units, and in metres from the lower left corner.
+fn lines<F: Fn(&mut Text<'_>, u64, u64) -> fmt::Result>(
+    out: &mut Text<'_>,
     g: Grid,
-    upright: bool,
-    numbers: bool,
-) -> usize {
-    let most = reach(s, upright);
-    let mut end = used;
-    let mut at = 0;
-    let mut metres = 0;
-    let mut i = 0;
-    while i < MOST {
-        if most < at {
-            return end;
+    reach: u64,
+    put: F,
+) -> fmt::Result
+    requires { F.IsAlwaysCallable put }
+{
+    for i in 0..MOST {
+        let at = g.cell.saturating_mul(i);
+        if reach < at {
+            break;
         }
-        end = mark(rt, text, end, s, upright, numbers, at, metres);
-        at = sum(at, g.cell);
-        metres = sum(metres, g.step as u64);
-        i += 1;
+        put(out, at, i * u64::from(g.step))?;
     }
-    end
+    Ok(())
 }
 
 // The page, and the numbers along two edges of the sheet.
-fn page(rt: &HostRuntime, text: &mut [u8; 65536], used: usize, s: Sheet, g: Grid) -> usize {
-    let mut end = put_bytes(
-        rt,
-        text,
-        used,
-        b"<svg xmlns=\"http://www.w3.org/2000/svg\" width=\"100%\" height=\"100%\" viewBox=\"0 0 ",
-    );
-    end = natural_then(rt, text, end, s.wide, b' ');
-    end = natural_then(rt, text, end, s.high, b'"');
-    end = put_bytes(rt, text, end, b">\n");
-    end = style(rt, text, end, s);
-    end = put_bytes(
-        rt,
-        text,
-        end,
-        b"<rect width=\"100%\" height=\"100%\" style=\"fill:#ffffff;stroke:none\"/>\n",
-    );
-    end = marks(rt, text, end, s, g, true, true);
-    marks(rt, text, end, s, g, false, true)
+fn page(out: &mut Text<'_>, s: Sheet, g: Grid) -> fmt::Result {
+    write!(
+        out,
+        "<svg xmlns=\"http://www.w3.org/2000/svg\" width=\"100%\" height=\"100%\""
+    )?;
+    writeln!(out, " viewBox=\"0 0 {} {}\">", s.wide, s.high)?;
+    style(out, s)?;
+    writeln!(
+        out,
+        "<rect width=\"100%\" height=\"100%\" style=\"fill:#ffffff;stroke:none\"/>"
+    )?;
+    lines(
+        out,
+        g,
+        s.width,
+        |out, at, metres| number_below(out, s, at, metres),
+    )?;
+    lines(
+        out,
+        g,
+        s.height,
+        |out, at, metres| number_left(out, s, at, metres),
+    )
 }
 
 // The page as far as the first stroke: the sheet is turned over, so that y goes upwards.
-pub fn head(rt: &HostRuntime, text: &mut [u8; 65536], used: usize, s: Sheet, g: Grid) -> usize {
-    let mut end = page(rt, text, used, s, g);
-    end = put_bytes(rt, text, end, b"<g transform=\"translate(");
-    end = natural_then(rt, text, end, s.margin, b' ');
-    end = natural_then(rt, text, end, s.base, b')');
-    end = put_bytes(rt, text, end, b" scale(1 -1)\">\n<path class=\"g\" d=\"");
-    end = marks(rt, text, end, s, g, true, false);
-    end = marks(rt, text, end, s, g, false, false);
-    end = put_bytes(rt, text, end, b"\"/>\n<rect class=\"f\"");
-    end = size(rt, text, end, s);
-    end = put_bytes(rt, text, end, b"/>\n<svg overflow=\"visible\"");
-    end = size(rt, text, end, s);
-    end = put_bytes(rt, text, end, b" viewBox=\"");
-    end = whole_then(rt, text, end, s.left, b' ');
-    end = whole_then(rt, text, end, s.bottom, b' ');
-    end = natural_then(rt, text, end, s.width, b' ');
-    end = natural_then(rt, text, end, s.height, b'"');
-    put_bytes(rt, text, end, b">\n")
+pub fn head(out: &mut Text<'_>, s: Sheet, g: Grid) -> fmt::Result {
+    let Sheet {
+        left,
+        bottom,
+        width,
+        height,
+        ..
+    } = s;
+    page(out, s, g)?;
+    writeln!(
+        out,
+        "<g transform=\"translate({} {}) scale(1 -1)\">",
+        s.margin, s.base
+    )?;
+    write!(out, "<path class=\"g\" d=\"")?;
+    lines(out, g, width, |out, at, _| write!(out, "M{at} 0v{height}"))?;
+    lines(out, g, height, |out, at, _| write!(out, "M0 {at}h{width}"))?;
+    writeln!(out, "\"/>")?;
+    writeln!(
+        out,
+        "<rect class=\"f\" width=\"{width}\" height=\"{height}\"/>"
+    )?;
+    write!(
+        out,
+        "<svg overflow=\"visible\" width=\"{width}\" height=\"{height}\""
+    )?;
+    writeln!(out, " viewBox=\"{left} {bottom} {width} {height}\">")
 }

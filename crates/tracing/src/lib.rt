@@ -2,185 +2,138 @@
 // when a byte was refused. All lengths are plotter units.
 #![tactic(auto)]
 
-ghost use Rattle.std.specs.Prelude.{◌≤◌};
-
 use clip::Point;
-use console::sum;
 use drive::ends_equal;
 use hpgl::Stroke;
-use output::{put_byte, put_bytes, put_natural, put_whole};
+use output::Text;
+use std::fmt;
+use std::fmt::Write;
 
-// How far the text is: how much of the buffer is used, whether a stroke was put, whether lines are dashed, and of a path that is open its pen and its end; pen
-// 0 for none.
+// A path that is open: its pen, and its end.
+#[derive(Clone, Copy)]
+pub struct Path {
+    pub pen: u8,
+    pub end: Point,
+}
+
+// How far the picture is: whether a stroke was put, whether lines are dashed, and the path that is open.
 #[derive(Clone, Copy)]
 pub struct Hand {
-    pub used: usize,
     pub begun: bool,
     pub dashed: bool,
-    pub pen: u8,
-    pub x: i64,
-    pub y: i64,
+    pub open: Option<Path>,
 }
 
-// No path is open.
-fn resting(used: usize, begun: bool, dashed: bool) -> Hand {
-    Hand {
-        used: used,
-        begun: begun,
-        dashed: dashed,
-        pen: 0,
-        x: 0,
-        y: 0,
+impl Hand {
+    // Nothing is put yet.
+    pub fn new() -> Hand {
+        Hand {
+            begun: false,
+            dashed: false,
+            open: None,
+        }
     }
-}
 
-// Nothing is put yet.
-pub fn at_rest(used: usize) -> Hand {
-    resting(used, false, false)
-}
-
-fn point(rt: &HostRuntime, text: &mut [u8; 65536], used: usize, x: i64, y: i64) -> usize {
-    let mut end = put_whole(rt, text, used, x);
-    end = put_byte(rt, text, end, b' ');
-    put_whole(rt, text, end, y)
-}
-
-// Ends the path that is open.
-pub fn closed(rt: &HostRuntime, text: &mut [u8; 65536], h: Hand) -> Hand {
-    if h.pen == 0 {
-        return h;
+    // Ends the path that is open.
+    pub fn close(&mut self, out: &mut Text<'_>) -> fmt::Result {
+        match self.open.take() {
+            Some(_) => writeln!(out, "\"/>"),
+            None => Ok(()),
+        }
     }
-    resting(put_bytes(rt, text, h.used, b"\"/>\n"), h.begun, h.dashed)
-}
 
-// From here on lines are dashed, or whole: no path goes on from one to the other.
-fn dashing(rt: &HostRuntime, text: &mut [u8; 65536], h: Hand, dashed: bool) -> Hand {
-    if h.dashed == dashed {
-        return h;
+    // From here on lines are dashed, or whole: no path goes on from one to the other.
+    fn dash(&mut self, out: &mut Text<'_>, dashed: bool) -> fmt::Result {
+        if self.dashed == dashed {
+            return Ok(());
+        }
+        self.dashed = dashed;
+        self.close(out)
     }
-    let c = closed(rt, text, h);
-    resting(c.used, c.begun, dashed)
-}
 
-// Whether a stroke goes on where the path that is open ends.
-fn joins(h: Hand, s: Stroke) -> bool {
-    if h.pen != s.pen {
-        return false;
+    // Whether a stroke goes on where the path that is open ends.
+    fn joins(&self, s: Stroke) -> bool {
+        match self.open {
+            Some(path) => path.pen == s.pen && path.end.x == s.x0 && path.end.y == s.y0,
+            None => false,
+        }
     }
-    if h.x != s.x0 {
-        return false;
+
+    // A line of the picture, of the path that is open or of a new one.
+    fn line(&mut self, out: &mut Text<'_>, s: Stroke) -> fmt::Result {
+        if self.joins(s) {
+            write!(out, " ")?;
+        } else {
+            self.close(out)?;
+            let dashes = if self.dashed { " a" } else { "" };
+            write!(
+                out,
+                "<path class=\"p{}{dashes}\" d=\"M{} {}L",
+                s.pen, s.x0, s.y0
+            )?;
+        }
+        self.begun = true;
+        self.open = Some(Path {
+            pen: s.pen,
+            end: Point { x: s.x1, y: s.y1 },
+        });
+        write!(out, "{} {}", s.x1, s.y1)
     }
-    h.y == s.y0
-}
 
-// A path begins.
-fn opened(rt: &HostRuntime, text: &mut [u8; 65536], h: Hand, s: Stroke) -> usize {
-    let c = closed(rt, text, h);
-    let mut end = put_bytes(rt, text, c.used, b"<path class=\"p");
-    end = put_natural(rt, text, end, s.pen as u64);
-    if h.dashed {
-        end = put_bytes(rt, text, end, b" a");
+    // A stroke of no length: a line of it would be too small to be found.
+    fn dot(&mut self, out: &mut Text<'_>, s: Stroke, radius: u64) -> fmt::Result {
+        self.close(out)?;
+        self.begun = true;
+        writeln!(
+            out,
+            "<circle class=\"d p{}\" cx=\"{}\" cy=\"{}\" r=\"{radius}\"/>",
+            s.pen, s.x0, s.y0
+        )
     }
-    end = put_bytes(rt, text, end, b"\" d=\"M");
-    end = point(rt, text, end, s.x0, s.y0);
-    put_byte(rt, text, end, b'L')
-}
 
-// A line of the picture, of the path that is open or of a new one.
-fn line(rt: &HostRuntime, text: &mut [u8; 65536], h: Hand, s: Stroke) -> Hand {
-    let mut end = h.used;
-    if joins(h, s) {
-        end = put_byte(rt, text, end, b' ');
-    } else {
-        end = opened(rt, text, h, s);
+    // A ring where the first stroke starts.
+    fn start(&mut self, out: &mut Text<'_>, s: Stroke, radius: u64) -> fmt::Result {
+        if self.begun {
+            return Ok(());
+        }
+        self.begun = true;
+        let ring = radius.saturating_mul(2);
+        writeln!(
+            out,
+            "<circle class=\"s\" cx=\"{}\" cy=\"{}\" r=\"{ring}\"/>",
+            s.x0, s.y0
+        )
     }
-    Hand {
-        used: point(rt, text, end, s.x1, s.y1),
-        begun: true,
-        dashed: h.dashed,
-        pen: s.pen,
-        x: s.x1,
-        y: s.y1,
+
+    // These strokes, dashed or whole.
+    pub fn put(
+        &mut self,
+        out: &mut Text<'_>,
+        strokes: &[Stroke],
+        dashed: bool,
+        radius: u64,
+    ) -> fmt::Result {
+        self.dash(out, dashed)?;
+        for s in strokes {
+            self.start(out, *s, radius)?;
+            if ends_equal(*s) {
+                self.dot(out, *s, radius)?;
+            } else {
+                self.line(out, *s)?;
+            }
+        }
+        Ok(())
     }
-}
 
-// The middle of a circle, and its radius.
-fn round(rt: &HostRuntime, text: &mut [u8; 65536], used: usize, s: Stroke, radius: u64) -> usize {
-    let mut end = put_bytes(rt, text, used, b"\" cx=\"");
-    end = put_whole(rt, text, end, s.x0);
-    end = put_bytes(rt, text, end, b"\" cy=\"");
-    end = put_whole(rt, text, end, s.y0);
-    end = put_bytes(rt, text, end, b"\" r=\"");
-    end = put_natural(rt, text, end, radius);
-    put_bytes(rt, text, end, b"\"/>\n")
-}
-
-// A stroke of no length: a line of it would be too small to be found.
-fn dot(rt: &HostRuntime, text: &mut [u8; 65536], h: Hand, s: Stroke, radius: u64) -> Hand {
-    let c = closed(rt, text, h);
-    let mut end = put_bytes(rt, text, c.used, b"<circle class=\"d p");
-    end = put_natural(rt, text, end, s.pen as u64);
-    resting(round(rt, text, end, s, radius), true, h.dashed)
-}
-
-// A ring where the first stroke starts.
-fn start(rt: &HostRuntime, text: &mut [u8; 65536], h: Hand, s: Stroke, radius: u64) -> Hand {
-    if h.begun {
-        return h;
+    // A cross with arms of this length.
+    pub fn cross(&mut self, out: &mut Text<'_>, at: Point, arm: u64) -> fmt::Result {
+        self.close(out)?;
+        let Point { x, y } = at;
+        let whole = arm.saturating_mul(2);
+        write!(out, "<path class=\"x\" d=\"M{x} {y}")?;
+        writeln!(
+            out,
+            "m-{arm}-{arm}l{whole} {whole}m0-{whole}l-{whole} {whole}\"/>"
+        )
     }
-    let end = put_bytes(rt, text, h.used, b"<circle class=\"s");
-    resting(round(rt, text, end, s, sum(radius, radius)), true, h.dashed)
-}
-
-fn element(rt: &HostRuntime, text: &mut [u8; 65536], h: Hand, s: Stroke, radius: u64) -> Hand {
-    let from = start(rt, text, h, s, radius);
-    if ends_equal(s) {
-        return dot(rt, text, from, s, radius);
-    }
-    line(rt, text, from, s)
-}
-
-// The first strokes of a list, dashed or whole.
-pub fn elements(
-    rt: &HostRuntime,
-    text: &mut [u8; 65536],
-    h: Hand,
-    list: [Stroke; 64],
-    count: usize,
-    dashed: bool,
-    radius: u64,
-) -> Hand
-    requires { count ≤ 64 }
-{
-    let mut far = dashing(rt, text, h, dashed);
-    let mut i = 0;
-    while i < count {
-        let s = list[i];
-        far = element(rt, text, far, s, radius);
-        i += 1;
-    }
-    far
-}
-
-// A cross with arms of this length.
-pub fn cross(rt: &HostRuntime, text: &mut [u8; 65536], h: Hand, at: Point, arm: u64) -> Hand {
-    let c = closed(rt, text, h);
-    let whole = sum(arm, arm);
-    let mut end = put_bytes(rt, text, c.used, b"<path class=\"x\" d=\"M");
-    end = point(rt, text, end, at.x, at.y);
-    end = put_bytes(rt, text, end, b"m-");
-    end = put_natural(rt, text, end, arm);
-    end = put_byte(rt, text, end, b'-');
-    end = put_natural(rt, text, end, arm);
-    end = put_byte(rt, text, end, b'l');
-    end = put_natural(rt, text, end, whole);
-    end = put_byte(rt, text, end, b' ');
-    end = put_natural(rt, text, end, whole);
-    end = put_bytes(rt, text, end, b"m0-");
-    end = put_natural(rt, text, end, whole);
-    end = put_bytes(rt, text, end, b"l-");
-    end = put_natural(rt, text, end, whole);
-    end = put_byte(rt, text, end, b' ');
-    end = put_natural(rt, text, end, whole);
-    resting(put_bytes(rt, text, end, b"\"/>\n"), h.begun, h.dashed)
 }

@@ -1,9 +1,6 @@
--- Pens are 1 to 8.
-use Prim.Native.Nat.{◌≤◌, ◌-◌}
+-- No more pens are shown than were looked at.
+use Rattle.std.proofs.Common.{◌≤◌}
 use Rattle.captions.proofs.legend.Given as goal
 
 abbrev pub invariant-loop-pen : goal.invariant-loop-pen
-invariant-loop-pen l = l.pen ≤ 9
-
-abbrev pub decreases-loop-pen : goal.decreases-loop-pen
-decreases-loop-pen l = 9 - l.pen
+invariant-loop-pen l = l.shown ≤ l.pen

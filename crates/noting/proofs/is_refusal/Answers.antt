@@ -4,14 +4,10 @@ use Rattle.feeding.specs.DrawOff.{untaken}
 use Rattle.noting.specs.Refusals.{refuses}
 use Rattle.noting.proofs.is_refusal.Goals as goal
 
-pub returns-then-number-eq0 : goal.returns-then-number-eq0
-unfolding refuses
-returns-then-number-eq0 c = search rules
-
-pub returns-then-number-eq-LIST_FULL : goal.returns-then-number-eq-LIST_FULL
-unfolding refuses
-returns-then-number-eq-LIST_FULL c = search rules
-
-pub returns : goal.returns
+pub returns-then-number-ne-LIST_FULL : goal.returns-then-number-ne-LIST_FULL
 unfolding refuses untaken
-returns c = search rules
+returns-then-number-ne-LIST_FULL c = search rules
+
+pub returns-else-number-ne-LIST_FULL : goal.returns-else-number-ne-LIST_FULL
+unfolding refuses untaken
+returns-else-number-ne-LIST_FULL c = search rules

@@ -2,5 +2,5 @@
 use Rattle.plotting.specs.PlottedLaws.{started-usable}
 use Rattle.preview.proofs.main.Goals as goal
 
-pub page-requires : goal.page-requires
-page-requires c = started-usable _ c.fresh-started.ensures
+pub page-painted-requires : goal.page-painted-requires
+page-painted-requires c = started-usable _ c.fresh-started.ensures

@@ -36,4 +36,4 @@ returns c =
     c.ice-across.ensures ∙ (λ i. ice_of ((arg w64 (left s)).is i) ((arg w64 (right s)).is i) s.args.scale) in
     let along : c.ice-along.result ≡ ice_of s.args.r.bottom s.args.r.top s.args.scale =
     c.ice-along.ensures ∙ (λ i. ice_of ((arg w64 (bottom s)).is i) ((arg w64 (top s)).is i) s.args.scale) in
-    rw (c.cell_of.ensures, c.step_of-step.ensures, c.larger.ensures) (λ i. grid_on (across i) (along i) s.args.scale)
+    rw (c.cell_of.ensures, c.step_of-step.ensures, c.max.ensures) (λ i. grid_on (across i) (along i) s.args.scale)

@@ -50,7 +50,7 @@ pub overflow_add-result-2 : goal.overflow_add-result-2
 overflow_add-result-2 c = let w = c.before.before.before.before in let h = c.before in record { fits = omega (arith, wide w, high h) }
 
 pub overflow_add-result-3 : goal.overflow_add-result-3
-overflow_add-result-3 c = let w = c.before.before.before.before.before in let h = c.before.before in record { fits = omega (arith, wide w, high h, c.larger.ensures) }
+overflow_add-result-3 c = let w = c.before.before.before.before.before in let h = c.before.before in record { fits = omega (arith, wide w, high h, c.max.ensures) }
 
 pub overflow_add-result-4 : goal.overflow_add-result-4
 overflow_add-result-4 c = let w = c.before.before.before.before.before in let h = c.before.before in record { fits = omega (arith, wide w, high h) }
@@ -64,4 +64,4 @@ returns c =
     let s = c.before.before.before.before.before.before.before.before in
     let width : c.side-width.result ≡ across s.args.r.right s.args.r.left = c.side-width.ensures ∙ (λ i. across ((arg w64 (right s)).is i) ((arg w64 (left s)).is i)) in
     let height : c.side-height.result ≡ across s.args.r.top s.args.r.bottom = c.side-height.ensures ∙ (λ i. across ((arg w64 (top s)).is i) ((arg w64 (bottom s)).is i)) in
-    rw c.larger.ensures (λ i. laid_out ((arg w64 (left s)).is i) ((arg w64 (bottom s)).is i) (width i) (height i) (letter_of (width i) (height i)))
+    rw c.max.ensures (λ i. laid_out ((arg w64 (left s)).is i) ((arg w64 (bottom s)).is i) (width i) (height i) (letter_of (width i) (height i)))

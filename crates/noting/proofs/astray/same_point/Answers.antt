@@ -8,10 +8,6 @@ pub returns-then-a-b : goal.returns-then-a-b
 unfolding same_point
 returns-then-a-b c = search (rules, signed64)
 
-pub returns-then-a-b-2 : goal.returns-then-a-b-2
+pub returns-else-a-b : goal.returns-else-a-b
 unfolding same_point
-returns-then-a-b-2 c = search (rules, signed64)
-
-pub returns : goal.returns
-unfolding same_point
-returns c = search (rules, signed64)
+returns-else-a-b c = search (rules, signed64)

@@ -1,9 +1,0 @@
--- At most six are shown.
-use Prim.Native.Nat.{◌≤◌, ◌-◌}
-use Rattle.captions.proofs.groups.Given as goal
-
-abbrev pub invariant-loop-i : goal.invariant-loop-i
-invariant-loop-i l = l.i ≤ 6
-
-abbrev pub decreases-loop-i : goal.decreases-loop-i
-decreases-loop-i l = 6 - l.i
