@@ -1,12 +1,15 @@
 -- How far a drawing is, after a feed and at the start of a block. A reply is fetched and forgotten.
 use Rattle.std.specs.Prelude.{Bool, true, cond, List, ℕ, ◌+◌, ◌-◌, eqb, ltb, length, take, drop}
-use Rattle.hpgl.specs.declared.State.{State}
 use Rattle.hpgl.specs.declared.Look.{Look}
 use Rattle.hpgl.specs.Machine.{fetch_state, look_at}
+use Rattle.hpgl.proofs.ValidKept.{usable-fetch}
 use Rattle.machine.specs.declared.Machine.{Machine}
+use Rattle.machine.specs.Machines.{machine_of}
+use Rattle.feeding.proofs.FeedLaws.{feed-usable}
 use Rattle.feeding.specs.Feed.{feed_of}
 use Rattle.feed.specs.declared.Listed.{Listed}
 use Rattle.feed.specs.Fed.{listed_of}
+use Rattle.preview.specs.Listings.{listed_as}
 use Rattle.console.specs.Sums.{added}
 use Rattle.counting.specs.Names.{letters_before}
 use Rattle.noting.specs.Inks.{inks_of}
@@ -20,8 +23,8 @@ use Rattle.preview.specs.declared.strokes.Drawing.{Drawing}
 abbrev pub reply_bytes : ℕ
 reply_bytes = 37
 
-abbrev pub quiet_of : State → Machine
-quiet_of m = record { state = fetch_state m reply_bytes }
+abbrev pub quiet_of : Machine → Machine
+quiet_of m = machine_of (fetch_state m.state reply_bytes) (usable-fetch reply_bytes m.usable)
 
 unfoldable pub one_of : Bool → ℕ
 one_of b = cond b 1 0
@@ -33,7 +36,7 @@ goes_on number at long = cond (eqb number 0) (ltb at long) true
 -- feed counts the bytes from the place on; how far the text is then no contract can say
 abbrev pub after_of : Drawing → Listed → List ℕ → Look → Look → Hand → Drawing
 after_of d l block before seen hand = record {
-  machine = quiet_of l.fed.machine.state;
+  machine = quiet_of l.fed.machine;
   before = d.before;
   letters = d.letters;
   at = d.at + l.fed.taken;
@@ -53,7 +56,7 @@ part_of d block = take (part_end block d.at d.astray - d.at) (drop d.at block)
 
 -- a feed of it
 abbrev pub fed_of : Drawing → List ℕ → Listed
-fed_of d block = listed_of (feed_of d.machine.state (part_of d block) 64)
+fed_of d block = listed_as (listed_of (feed_of d.machine.state (part_of d block) 64)) (feed-usable d.machine.state (part_of d block) 0 64 d.machine.usable)
 
 abbrev pub step_of : Drawing → List ℕ → Hand → Drawing
 step_of d block hand = after_of d (fed_of d block) block (look_at d.machine.state) (look_at (fed_of d block).fed.machine.state) hand

@@ -1,2 +1,3 @@
+pub mod Listings
 pub mod Drawing
 pub mod DrawingLaws

@@ -2,8 +2,6 @@
 // refused.
 #![tactic(auto)]
 
-ghost use Rattle.hpgl.specs.Valid.{Usable};
-
 use arguments::desk::{asked, ready, refused};
 use captions::{Painted, summary};
 use machine::Machine;
@@ -25,9 +23,7 @@ fn page(
     g: Grid,
     file: usize,
     source: &mut Stream<Source>,
-) -> Result<Option<Painted>, fmt::Error>
-    requires { Usable machine.state }
-{
+) -> Result<Option<Painted>, fmt::Error> {
     head(out, s, g)?;
     let p = paint(out, machine, s.dot, file, source)?;
     if p.unread && p.read == 0 {

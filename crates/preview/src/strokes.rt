@@ -1,7 +1,6 @@
 // The strokes of the input, each a part of the picture, with a cross where the pen stood when a byte was refused. Feed gives the strokes, in lists of at most 64.
 ghost use Rattle.std.specs.Prelude.{◌+◌, ◌≤◌, length, ◌≡◌, IfOk};
 ghost use Rattle.console.specs.Sums.{largest};
-ghost use Rattle.hpgl.specs.Valid.{Usable};
 ghost use Rattle.preview.specs.Drawing.{quiet_of, goes_on, after_of, fed_of, step_of, begun_of, flushed_of, ended_of};
 ghost use Rattle.preview.specs.declared.strokes.Drawing.{Drawing};
 
@@ -49,8 +48,7 @@ struct Drawing {
 
 // A reply that waits is fetched and forgotten, so that the next feed goes on.
 fn quiet(machine: Machine) -> Machine
-    requires { Usable machine.state }
-    ensures { result ≡ quiet_of machine.state }
+    ensures { result ≡ quiet_of machine }
 {
     let mut buffer = [0; REPLY];
     let f = machine.fetch(&mut buffer);
@@ -67,11 +65,9 @@ fn goes_on(number: u8, at: usize, length: usize) -> bool
 
 // A feed of what is left of the block, or of a part of it.
 fn fed(d: Drawing, block: &[u8]) -> Listed
-    requires usable { Usable d.machine.state }
-    requires at_in_bounds { d.at ≤ length block.now }
+    requires { d.at ≤ length block.now }
     ensures value { result ≡ fed_of d block.now }
     ensures few { result.fed.stored ≤ 64 }
-    ensures usable { Usable result.fed.machine.state }
     ensures in_bounds { d.at + result.fed.taken ≤ length block.now }
 {
     let end = part_end(block, d.at, d.astray);
@@ -80,7 +76,7 @@ fn fed(d: Drawing, block: &[u8]) -> Listed
 
 // What a feed of the block from its place on leaves: its strokes are noted, and a byte that was refused; with a look before it and one after it.
 fn after(d: Drawing, l: Listed, block: &[u8], before: Look, seen: Look, hand: Hand) -> Drawing
-    requires { (l.fed.stored ≤ 64) × (d.at + l.fed.taken ≤ largest) × Usable l.fed.machine.state }
+    requires { (l.fed.stored ≤ 64) × (d.at + l.fed.taken ≤ largest) }
     ensures { result ≡ after_of d l block.now before seen hand }
 {
     let fed = l.fed;
@@ -105,8 +101,7 @@ fn after(d: Drawing, l: Listed, block: &[u8], before: Look, seen: Look, hand: Ha
 
 // One feed, with its strokes as text, and a cross where the carriage stands if a byte was refused and not too many before.
 fn step(out: &mut Text<'_>, d: Drawing, block: &[u8], radius: u64) -> Result<Drawing, fmt::Error>
-    requires usable { Usable d.machine.state }
-    requires at_in_bounds { d.at ≤ length block.now }
+    requires { d.at ≤ length block.now }
     ensures { IfOk result (λ (e : Drawing). e ≡ step_of d block.now e.hand) }
 {
     let before = d.machine.look();
@@ -139,10 +134,7 @@ fn paint_block(
     before: u64,
     block: &[u8],
     radius: u64,
-) -> Result<Drawing, fmt::Error>
-    requires { Usable d.machine.state }
-    ensures { IfOk result (λ (e : Drawing). Usable e.machine.state) }
-{
+) -> Result<Drawing, fmt::Error> {
     let mut q = begun(d, before);
     for _ in 0..TURNS {
         if !q.more {
@@ -170,10 +162,7 @@ fn block_done(
     before: u64,
     block: &[u8],
     radius: u64,
-) -> Result<Drawing, fmt::Error>
-    requires { Usable d.machine.state }
-    ensures { IfOk result (λ (e : Drawing). Usable e.machine.state) }
-{
+) -> Result<Drawing, fmt::Error> {
     let painted = paint_block(out, d, before, block, radius)?;
     out.flush()?;
     Ok(flushed(painted, block))
@@ -221,9 +210,7 @@ pub fn paint(
     radius: u64,
     file: usize,
     source: &mut Stream<Source>,
-) -> Result<Painted, fmt::Error>
-    requires { Usable machine.state }
-{
+) -> Result<Painted, fmt::Error> {
     let mut block = io::large_buffer();
     let mut d = blank(machine);
     let mut before = 0;

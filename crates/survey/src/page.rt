@@ -4,313 +4,265 @@ use counting::refusals::{Group, Refusals, kind_of, name_in, number_of};
 use counting::tally::{Paint, Tally};
 use counting::verdict::{cut_off, fit, harms, little, total};
 use measure::{centimetres, ice};
-use output::{finish, natural_then, put_byte, put_bytes, put_natural, whole_then};
+use output::Text;
 use repeats::Repeats;
+use std::fmt;
+use std::fmt::Write;
 use surveying::Surveyed;
 use words::{harmless, of_kind};
 
-// A page on its way to standard output: how much of the buffer is used, and the drawing is at 1 to the scale.
-#[derive(Drop)]
-struct Writer<'a> {
-    rt: &'a HostRuntime,
-    text: &'a mut [u8; 65536],
-    used: usize,
-    scale: u8,
+// A box: its corners.
+fn corners(out: &mut Text<'_>, r: Rect) -> fmt::Result {
+    writeln!(out, "{} {} to {} {}", r.left, r.bottom, r.right, r.top)
 }
 
-impl<'a> Writer<'a> {
-    fn byte(&mut self, byte: u8) {
-        self.used = put_byte(self.rt, self.text, self.used, byte);
-    }
+fn title(out: &mut Text<'_>, hard: Rect, scale: u8) -> fmt::Result {
+    write!(out, "Survey of a drawing at 1:{scale}. Hard limits ")?;
+    corners(out, hard)?;
+    write!(
+        out,
+        "A unit is 0.025 mm on paper: 40 are a millimetre. The length of a stroke is the root of dx * dx + dy * dy,"
+    )?;
+    writeln!(out, " to a tenth of a unit,")?;
+    writeln!(out, "rounded to the nearest. Metres are those on the ice.\n")?;
+    writeln!(out, " pen       strokes           units        metres")
+}
 
-    fn bytes(&mut self, bytes: &[u8]) {
-        self.used = put_bytes(self.rt, self.text, self.used, bytes);
-    }
+// A length in units, with a decimal, and in metres on the ice ends a row.
+fn lengths(out: &mut Text<'_>, tenths: u64, scale: u8) -> fmt::Result {
+    let cm = centimetres(tenths, scale);
+    writeln!(
+        out,
+        "{:>13}.{} {:>10}.{:02}",
+        tenths / 10,
+        tenths % 10,
+        cm / 100,
+        cm % 100
+    )
+}
 
-    fn natural(&mut self, n: u64, byte: u8) {
-        self.used = natural_then(self.rt, self.text, self.used, n, byte);
-    }
-
-    fn whole(&mut self, n: i64, byte: u8) {
-        self.used = whole_then(self.rt, self.text, self.used, n, byte);
-    }
-
-    // A number at the right of its column, and the byte after it.
-    fn column(&mut self, n: u64, width: u64, byte: u8) {
-        let mut rest = n / 10;
-        for _ in 1..width {
-            if rest == 0 {
-                self.byte(b' ');
-            }
-            rest /= 10;
-        }
-        self.natural(n, byte);
-    }
-
-    // A box: its corners.
-    fn corners(&mut self, r: Rect) {
-        self.whole(r.left, b' ');
-        self.whole(r.bottom, b' ');
-        self.bytes(b"to ");
-        self.whole(r.right, b' ');
-        self.whole(r.top, b'\n');
-    }
-
-    fn title(&mut self, hard: Rect) {
-        self.bytes(b"Survey of a drawing at 1:");
-        self.natural(self.scale as u64, b'.');
-        self.bytes(b" Hard limits ");
-        self.corners(hard);
-        self.bytes(
-            b"A unit is 0.025 mm on paper: 40 are a millimetre. The length of a stroke is the root of dx * dx + dy * dy, to a tenth of a unit,\n",
-        );
-        self.bytes(b"rounded to the nearest. Metres are those on the ice.\n\n");
-        self.bytes(b" pen       strokes           units        metres\n");
-    }
-
-    // Metres with two decimals, of so many centimetres, and the byte after them.
-    fn metres(&mut self, n: u64, width: u64, byte: u8) {
-        self.column(n / 100, width, b'.');
-        self.used = put_natural(self.rt, self.text, self.used, n / 10 % 10);
-        self.natural(n % 10, byte);
-    }
-
-    // A length in units, with a decimal, and in metres on the ice ends a row.
-    fn lengths(&mut self, tenths: u64) {
-        self.column(tenths / 10, 13, b'.');
-        self.natural(tenths % 10, b' ');
-        self.metres(centimetres(tenths, self.scale), 10, b'\n');
-    }
-
-    // A row for each pen that paints: pens are 1 to 8.
-    fn pens(&mut self, p: Paint) {
-        for pen in 1..9 {
-            if p.strokes[pen] > 0 {
-                self.column(pen as u64, 4, b' ');
-                self.column(p.strokes[pen], 13, b' ');
-                self.lengths(p.lengths[pen]);
-            }
+// A row for each pen that paints: pens are 1 to 8.
+fn pens(out: &mut Text<'_>, p: Paint, scale: u8) -> fmt::Result {
+    for pen in 1..9 {
+        if p.strokes[pen] > 0 {
+            write!(out, "{pen:>4} {:>13} ", p.strokes[pen])?;
+            lengths(out, p.lengths[pen], scale)?;
         }
     }
+    Ok(())
+}
 
-    fn paint(&mut self, p: Paint) {
-        self.pens(p);
-        self.bytes(b" all ");
-        self.column(total(p.strokes), 13, b' ');
-        self.lengths(total(p.lengths));
-        self.bytes(b" empty driving     ");
-        self.lengths(p.empty);
-        self.bytes(
-            b"Empty driving is from the end of each stroke to the start of the next; before the first stroke none is counted.\n\n",
-        );
-    }
+fn paint(out: &mut Text<'_>, p: Paint, scale: u8) -> fmt::Result {
+    pens(out, p, scale)?;
+    write!(out, " all {:>13} ", total(p.strokes))?;
+    lengths(out, total(p.lengths), scale)?;
+    write!(out, " empty driving     ")?;
+    lengths(out, p.empty, scale)?;
+    write!(
+        out,
+        "Empty driving is from the end of each stroke to the start of the next;"
+    )?;
+    writeln!(out, " before the first stroke none is counted.\n")
+}
 
-    // How wide and how high a box is on the ice.
-    fn size(&mut self, r: Rect, byte: u8) {
-        self.metres(ice(r.left, r.right, self.scale), 1, b' ');
-        self.bytes(b"m by ");
-        self.metres(ice(r.bottom, r.top, self.scale), 1, b' ');
-        self.byte(b'm');
-        self.byte(byte);
-    }
+// How wide and how high a box is on the ice, in metres with two decimals.
+fn size(out: &mut Text<'_>, r: Rect, scale: u8) -> fmt::Result {
+    let wide = ice(r.left, r.right, scale);
+    let high = ice(r.bottom, r.top, scale);
+    write!(
+        out,
+        "{}.{:02} m by {}.{:02} m",
+        wide / 100,
+        wide % 100,
+        high / 100,
+        high % 100
+    )
+}
 
-    // How much of the sheet is painted.
-    fn covered(&mut self, area: Option<Rect>, hard: Rect) {
-        if let Some(r) = area {
-            self.bytes(b"          ");
-            self.size(r, b' ');
-            self.bytes(b"of ");
-            self.size(hard, b'\n');
-        }
+// A box, if there is one, and how much of the sheet it takes.
+fn covered(out: &mut Text<'_>, area: Option<Rect>, hard: Rect, scale: u8) -> fmt::Result {
+    if let Some(r) = area {
+        write!(out, "          ")?;
+        size(out, r, scale)?;
+        write!(out, " of ")?;
+        size(out, hard, scale)?;
+        writeln!(out)?;
     }
+    Ok(())
+}
 
-    fn extent(&mut self, area: Option<Rect>) {
-        match area {
-            Some(r) => self.corners(r),
-            None => self.bytes(b"nothing\n"),
-        }
+fn extent(out: &mut Text<'_>, area: Option<Rect>) -> fmt::Result {
+    match area {
+        Some(r) => corners(out, r),
+        None => writeln!(out, "nothing"),
     }
+}
 
-    // Where the drawing lies, and what the limits cut off.
-    fn boxes(&mut self, t: Tally, hard: Rect) {
-        self.bytes(b"Painted:  ");
-        self.extent(t.paint.area);
-        self.covered(t.paint.area, hard);
-        if cut_off(t) > 0 {
-            self.bytes(b"Drawn:    ");
-            self.extent(t.asked);
-        }
-        self.bytes(b"Segments: ");
-        self.natural(t.whole, b' ');
-        self.bytes(b"whole, ");
-        self.natural(t.clipped, b' ');
-        self.bytes(b"clipped by the limits, ");
-        self.natural(t.hidden, b' ');
-        self.bytes(b"hidden outside them\n\n");
+// Where the drawing lies, and what the limits cut off.
+fn boxes(out: &mut Text<'_>, t: Tally, hard: Rect, scale: u8) -> fmt::Result {
+    write!(out, "Painted:  ")?;
+    extent(out, t.paint.area)?;
+    covered(out, t.paint.area, hard, scale)?;
+    if cut_off(t) > 0 {
+        write!(out, "Drawn:    ")?;
+        extent(out, t.asked)?;
     }
+    writeln!(
+        out,
+        "Segments: {} whole, {} clipped by the limits, {} hidden outside them\n",
+        t.whole, t.clipped, t.hidden
+    )
+}
 
-    // How many lines are painted twice, if any, and where the first is.
-    fn twice(&mut self, r: Repeats) {
-        if r.twice == 0 {
-            return;
-        }
-        self.bytes(b"Twice:    ");
-        self.natural(r.twice, b' ');
-        self.bytes(b"painted over a line with the same two ends, the first from ");
-        self.whole(r.first.b, b' ');
-        self.whole(r.first.c, b' ');
-        self.bytes(b"to ");
-        self.whole(r.first.d, b' ');
-        self.whole(r.first.e, b'\n');
-        self.byte(b'\n');
+// How many lines are painted twice, if any, and where the first is.
+fn twice(out: &mut Text<'_>, r: Repeats) -> fmt::Result {
+    if r.twice == 0 {
+        return Ok(());
     }
+    let line = r.first;
+    writeln!(
+        out,
+        "Twice:    {} painted over a line with the same two ends, the first from {} {} to {} {}\n",
+        r.twice, line.b, line.c, line.d, line.e
+    )
+}
 
-    // The places of a group; of those past the sixth how many there are.
-    fn places(&mut self, g: Group) {
-        let mut left = g.count;
-        for &place in &g.places {
-            if left == 0 {
-                return;
-            }
-            left -= 1;
-            self.natural(place, if left == 0 { b'\n' } else { b' ' });
+// The places of a group; of those past the sixth how many there are.
+fn places(out: &mut Text<'_>, g: Group) -> fmt::Result {
+    let mut left = g.count;
+    for &place in &g.places {
+        if left == 0 {
+            return Ok(());
         }
-        if left > 0 {
-            self.bytes(b"and ");
-            self.natural(left, b' ');
-            self.bytes(b"more\n");
-        }
+        left -= 1;
+        write!(out, "{place}{}", if left == 0 { '\n' } else { ' ' })?;
     }
+    if left > 0 {
+        writeln!(out, "and {left} more")?;
+    }
+    Ok(())
+}
 
-    // What is harmless is said to be. Of line types their words say when.
-    fn mark(&mut self, kind: u8) {
-        if kind != b't' && harmless(kind) {
-            self.bytes(b"harmless: ");
-        }
+// A group: name, number, count and places, and below it what becomes of it. What is harmless is said to be; of line types their words say when.
+fn group(out: &mut Text<'_>, g: Group) -> fmt::Result {
+    let name = name_in(g.key);
+    let kind = kind_of(g.key);
+    write!(out, "  ")?;
+    out.write_bytes(&[name.first, name.second])?;
+    write!(out, "{:>8} {:>8}   ", number_of(g.key), g.count)?;
+    places(out, g)?;
+    write!(out, "       ")?;
+    if kind != b't' && harmless(kind) {
+        write!(out, "harmless: ")?;
     }
+    writeln!(out, "{}", of_kind(kind))
+}
 
-    // A group: name, number, count and places, and below it what becomes of it.
-    fn group(&mut self, g: Group) {
-        let name = name_in(g.key);
-        let kind = kind_of(g.key);
-        self.bytes(b"  ");
-        self.bytes(&[name.first, name.second]);
-        self.column(number_of(g.key) as u64, 8, b' ');
-        self.column(g.count, 8, b' ');
-        self.bytes(b"  ");
-        self.places(g);
-        self.bytes(b"       ");
-        self.mark(kind);
-        self.bytes(of_kind(kind).as_bytes());
-        self.byte(b'\n');
+// How many replies were made, if any: they are harmless.
+fn replies(out: &mut Text<'_>, count: u64) -> fmt::Result {
+    if count == 0 {
+        return Ok(());
     }
+    writeln!(out, "Replies:  {count} made (OA, OE, OH, OP, OW)\n")
+}
 
-    // How many replies were made, if any: they are harmless.
-    fn replies(&mut self, count: u64) {
-        if count == 0 {
-            return;
-        }
-        self.bytes(b"Replies:  ");
-        self.natural(count, b' ');
-        self.bytes(b"made (OA, OE, OH, OP, OW)\n\n");
+fn refused(out: &mut Text<'_>, r: Refusals) -> fmt::Result {
+    if r.groups[0].count == 0 {
+        return writeln!(out, "Refused: nothing\n");
     }
+    writeln!(
+        out,
+        "Refused:\nname  number    count   bytes, counted from 1"
+    )?;
+    for &g in &r.groups {
+        if g.count == 0 {
+            break;
+        }
+        group(out, g)?;
+    }
+    if r.others > 0 {
+        writeln!(
+            out,
+            "  and {} more, of other names or numbers",
+            r.others
+        )?;
+    }
+    writeln!(out)
+}
 
-    fn refused(&mut self, r: Refusals) {
-        if r.groups[0].count == 0 {
-            self.bytes(b"Refused: nothing\n\n");
-            return;
-        }
-        self.bytes(b"Refused:\nname  number    count   bytes, counted from 1\n");
-        for &g in &r.groups {
-            if g.count == 0 {
-                break;
-            }
-            self.group(g);
-        }
-        if r.others > 0 {
-            self.bytes(b"  and ");
-            self.natural(r.others, b' ');
-            self.bytes(b"more, of other names or numbers\n");
-        }
-        self.byte(b'\n');
+// A reason that counts, if there is anything to count.
+fn reason(out: &mut Text<'_>, words: &str, count: u64) -> fmt::Result {
+    if count == 0 {
+        return Ok(());
     }
+    write!(out, " {words}: {count}.")
+}
 
-    // A reason that counts, if there is anything to count.
-    fn reason(&mut self, words: &[u8], count: u64, byte: u8) {
-        if count > 0 {
-            self.bytes(words);
-            self.natural(count, byte);
-        }
+// Why a drawing is not fit to paint.
+fn reasons(out: &mut Text<'_>, s: Surveyed) -> fmt::Result {
+    let harm = harms(s.refusals, s.broken);
+    reason(out, "refusals that change the drawing", harm)?;
+    reason(out, "of them escape sequences broken off", s.broken)?;
+    reason(out, "line types that come out without gaps", s.types)?;
+    if s.lost > 0 {
+        write!(
+            out,
+            " lines drawn with no pen in hand: {}, none from byte {} on.",
+            s.lost, s.first
+        )?;
     }
+    reason(out, "segments cut off by the limits", cut_off(s.tally))?;
+    if s.unended {
+        write!(out, " the last instruction is not ended.")?;
+    }
+    if s.unread {
+        write!(out, " the drawing could not be read to its end.")?;
+    }
+    if s.tally.paint.end.is_none() {
+        write!(out, " nothing is painted.")?;
+    }
+    Ok(())
+}
 
-    // Why a drawing is not fit to paint.
-    fn reasons(&mut self, s: Surveyed) {
-        self.reason(
-            b" refusals that change the drawing: ",
-            harms(s.refusals, s.broken),
-            b'.',
-        );
-        self.reason(b" of them escape sequences broken off: ", s.broken, b'.');
-        self.reason(b" line types that come out without gaps: ", s.types, b'.');
-        self.reason(b" lines drawn with no pen in hand: ", s.lost, b',');
-        if s.lost > 0 {
-            self.bytes(b" none from byte ");
-            self.natural(s.first, b' ');
-            self.bytes(b"on.");
-        }
-        self.reason(b" segments cut off by the limits: ", cut_off(s.tally), b'.');
-        if s.unended {
-            self.bytes(b" the last instruction is not ended.");
-        }
-        if s.unread {
-            self.bytes(b" the drawing could not be read to its end.");
-        }
-        if s.tally.paint.end.is_none() {
-            self.bytes(b" nothing is painted.");
-        }
+// What to look at before a drawing is painted that is fit.
+fn warnings(out: &mut Text<'_>, s: Surveyed, hard: Rect) -> fmt::Result {
+    if little(s.tally.paint.area, hard) {
+        write!(
+            out,
+            ", but look first: less than nine tenths of the sheet is used, across and along. Was it written at another scale?"
+        )?;
+    } else if s.repeats.twice > 0 {
+        write!(out, ", but look first:")?;
     }
+    reason(out, "lines painted twice", s.repeats.twice)
+}
 
-    // What to look at before a drawing is painted that is fit.
-    fn warnings(&mut self, s: Surveyed, hard: Rect) {
-        if little(s.tally.paint.area, hard) {
-            self.bytes(
-                b", but look first: less than nine tenths of the sheet is used, across and along. Was it written at another scale?",
-            );
-        } else if s.repeats.twice > 0 {
-            self.bytes(b", but look first:");
-        }
-        self.reason(b" lines painted twice: ", s.repeats.twice, b'.');
+fn verdict(out: &mut Text<'_>, s: Surveyed, hard: Rect) -> fmt::Result {
+    if fit(
+        s.tally, s.refusals, s.broken, s.types, s.lost, s.unended, s.unread,
+    ) {
+        write!(out, "fit to paint")?;
+        warnings(out, s, hard)?;
+    } else {
+        write!(out, "not fit to paint:")?;
+        reasons(out, s)?;
     }
+    writeln!(out)
+}
 
-    fn verdict(&mut self, s: Surveyed, hard: Rect) {
-        if fit(
-            s.tally, s.refusals, s.broken, s.types, s.lost, s.unended, s.unread,
-        ) {
-            self.bytes(b"fit to paint");
-            self.warnings(s, hard);
-        } else {
-            self.bytes(b"not fit to paint:");
-            self.reasons(s);
-        }
-        self.byte(b'\n');
-    }
+fn parts(out: &mut Text<'_>, hard: Rect, s: Surveyed, scale: u8) -> fmt::Result {
+    title(out, hard, scale)?;
+    paint(out, s.tally.paint, scale)?;
+    boxes(out, s.tally, hard, scale)?;
+    twice(out, s.repeats)?;
+    replies(out, s.replies)?;
+    refused(out, s.refusals)?;
+    verdict(out, s, hard)
 }
 
 pub fn page(rt: &HostRuntime, hard: Rect, s: Surveyed, scale: u8) {
-    let mut text = io::large_buffer();
-    let mut w = Writer {
-        rt,
-        text: &mut text,
-        used: 0,
-        scale,
-    };
-    w.title(hard);
-    w.paint(s.tally.paint);
-    w.boxes(s.tally, hard);
-    w.twice(s.repeats);
-    w.replies(s.replies);
-    w.refused(s.refusals);
-    w.verdict(s, hard);
-    let used = w.used;
-    finish(rt, &text, used, b"survey: standard output");
+    let mut out = Text::new(rt);
+    // a write that failed is told at the end
+    let _ = parts(&mut out, hard, s, scale);
+    out.finish(b"survey: standard output");
 }

@@ -7,7 +7,10 @@ use mathlib.Core.List.{List}
 use lib.ListN.{length, take, drop}
 use Rattle.feeding.specs.Feed.{feed_of}
 use Rattle.feeding.proofs.FeedLaws.{feed-usable}
-use Rattle.feed.specs.Fed.{listed_of}
+use Rattle.feed.specs.declared.Listed.{Listed}
+use Rattle.feed.specs.Fed.{listed_by, listed_of}
+use Rattle.preview.specs.declared.strokes.Drawing.{Drawing}
+use Rattle.preview.specs.Listings.{listed-is}
 use Rattle.noting.specs.Astray.{part_end}
 use Rattle.noting.specs.AstrayLaws.{part-within}
 use Rattle.preview.specs.Drawing.{part_of, fed_of}
@@ -19,26 +22,29 @@ inside : (n : ℕ) (block : List ℕ) (at : ℕ) (astray : Bool) → n ≡ part_
 inside n block at astray e h = rw e (part-within block at h astray)
 
 pub slice_bounds-feed_list-count : goal.slice_bounds-feed_list-count
-slice_bounds-feed_list-count c = (inside _ c.args.block.now c.args.d.at c.args.d.astray c.part_end-end.ensures c.requires.at_in_bounds).0
+slice_bounds-feed_list-count c = (inside _ c.args.block.now c.args.d.at c.args.d.astray c.part_end-end.ensures c.requires).0
 
 pub slice_bounds-feed_list-start : goal.slice_bounds-feed_list-start
 slice_bounds-feed_list-start c =
-    let h = (inside _ c.args.block.now c.args.d.at c.args.d.astray c.part_end-end.ensures c.requires.at_in_bounds).0 in
+    let h = (inside _ c.args.block.now c.args.d.at c.args.d.astray c.part_end-end.ensures c.requires).0 in
     search (rules, h)
 
 pub slice_bounds-feed_list-end : goal.slice_bounds-feed_list-end
 slice_bounds-feed_list-end c =
-    let h = (inside _ c.args.block.now c.args.d.at c.args.d.astray c.part_end-end.ensures c.requires.at_in_bounds).1 in
+    let h = (inside _ c.args.block.now c.args.d.at c.args.d.astray c.part_end-end.ensures c.requires).1 in
     search (rules, h)
 
-pub returns-clause-usable : goal.returns-clause-usable
-returns-clause-usable c =
-    let listed : c.feed_list.result ≡ fed_of c.args.d c.args.block.now =
-    c.feed_list.ensures ∙ ap (λ (e : ℕ). listed_of (feed_of c.args.d.machine.state (take (e - c.args.d.at) (drop c.args.d.at c.args.block.now)) 64)) c.part_end-end.ensures in
-    rw listed (feed-usable c.args.d.machine.state (part_of c.args.d c.args.block.now) 0 64 c.requires.usable)
+-- the answer is that of the definition
+listed : (d : Drawing) (block : List ℕ) (l : Listed) (end : ℕ) → end ≡ part_end block d.at d.astray
+    → listed_by l ≡ listed_of (feed_of d.machine.state (take (end - d.at) (drop d.at block)) 64) → l ≡ fed_of d block
+listed d block l end e h =
+    listed-is l (feed-usable d.machine.state (part_of d block) 0 64 d.machine.usable)
+    (h ∙ ap (λ (n : ℕ). listed_of (feed_of d.machine.state (take (n - d.at) (drop d.at block)) 64)) e)
+
+pub returns-clause-value : goal.returns-clause-value
+returns-clause-value c = listed c.args.d c.args.block.now c.feed_list.result _ c.part_end-end.ensures c.feed_list.ensures
 
 pub returns-clause-in_bounds : goal.returns-clause-in_bounds
 returns-clause-in_bounds c =
-    let listed : c.feed_list.result ≡ fed_of c.args.d c.args.block.now =
-    c.feed_list.ensures ∙ ap (λ (e : ℕ). listed_of (feed_of c.args.d.machine.state (take (e - c.args.d.at) (drop c.args.d.at c.args.block.now)) 64)) c.part_end-end.ensures in
-    rw listed (step-within c.args.d c.args.block.now c.args.d.hand c.requires.at_in_bounds)
+    rw (listed c.args.d c.args.block.now c.feed_list.result _ c.part_end-end.ensures c.feed_list.ensures)
+    (step-within c.args.d c.args.block.now c.args.d.hand c.requires)

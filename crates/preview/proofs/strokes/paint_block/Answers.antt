@@ -1,8 +1,8 @@
--- Each feed leaves a machine that may be used and a place of the block.
-use Rattle.preview.specs.DrawingLaws.{step-usable, step-within}
+-- Each feed leaves a place of the block.
+use Rattle.preview.specs.DrawingLaws.{step-within}
 use Rattle.preview.proofs.strokes.paint_block.Goals as goal
 
 pub loop-preserved : goal.loop-preserved
 loop-preserved c =
     let q = c.loop.q in
-    rw c.in_ok-q.ensures (step-usable q c.args.block.now c.in_ok-q.q.hand c.loop.invariant.0, step-within q c.args.block.now c.in_ok-q.q.hand c.loop.invariant.1)
+    rw c.in_ok-q.ensures (step-within q c.args.block.now c.in_ok-q.q.hand c.loop.invariant)
