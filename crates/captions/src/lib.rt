@@ -137,6 +137,7 @@ fn group(out: &mut Text<'_>, key: u64, count: u64, first: u64) -> fmt::Result {
 fn groups(out: &mut Text<'_>, s: Sheet, r: Refusals, from: u64) -> Result<(u64, u64), fmt::Error> {
     let mut y = from;
     let mut shown: u64 = 0;
+    // by index: `counting` has its groups in three lists, for each of which it has definitions
     for i in 0..SHOWN {
         let count = r.counts[i];
         if count == 0 {
