@@ -9,7 +9,8 @@ use counting::names::{Letters, letterless, name_of, no_letters};
 use hpgl::Look;
 use words::{harmless, refused_kind};
 
-// Whether an instruction of this kind would have moved the carriage.
+// Whether an instruction of this kind would have moved the carriage. A kind is a letter and no enum: `moves_of`, `kind_at` and `changes_of` are of the letters of
+// words/specs/Names.antt.
 #[tactic(auto, unfolding(crate::specs::Astray::moves_of))]
 pub fn moves(kind: u8) -> bool
     ensures { result ≡ S.moves_of kind }
@@ -18,6 +19,7 @@ pub fn moves(kind: u8) -> bool
 }
 
 // The kind of what is refused with a feed's number, on the byte before a place of a block; 0 for no refusal. l is for the letters before the block.
+#[tactic(auto, unfolding(crate::specs::Astray::kind_at))]
 pub fn kind_at(l: Letters, block: &[u8], at: usize, number: u8) -> u8
     ensures { result ≡ S.kind_at l block.now at number }
 {
@@ -36,7 +38,7 @@ pub fn changes(kind: u8) -> bool
     kind != 0 && kind != b'b' && !harmless(kind)
 }
 
-#[tactic(auto, unfolding(crate::specs::Astray::same_point))]
+#[tactic(auto, using(exact::specs::Fit::signed64), unfolding(crate::specs::Astray::same_point))]
 fn same_point(a: Point, b: Point) -> bool
     ensures { result ≡ S.same_point a b }
 {
@@ -60,6 +62,7 @@ pub fn astray(was: bool, strays: bool, before: Look, after: Look) -> bool
 }
 
 // The place after the next letter, of which n bytes stand before it; or the end.
+#[tactic(auto, unfolding(crate::specs::Astray::to_letter))]
 fn to_letter(block: &[u8], at: usize, n: usize) -> usize
     requires { at < length block.now }
     ensures { result ≡ S.to_letter block.now at n }
@@ -71,6 +74,7 @@ fn to_letter(block: &[u8], at: usize, n: usize) -> usize
 }
 
 // Where the next feed has to stop.
+#[tactic(auto, unfolding(crate::specs::Astray::part_end))]
 pub fn part_end(block: &[u8], at: usize, astray: bool) -> usize
     ensures { result ≡ S.part_end block.now at astray }
 {

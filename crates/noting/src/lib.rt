@@ -44,12 +44,13 @@ fn dot_count(s: Stroke) -> u64
 }
 
 // So much more for a pen.
+#[tactic(auto, unfolding(counting::specs::Tally::for_pen))]
 fn at_pen(list: [u64; 9], pen: u8, more: u64) -> [u64; 9]
     ensures { result ≡ for_pen list pen more }
 {
     let mut changed = list;
     if pen < 9 {
-        let k = pen as usize;
+        let k = usize::from(pen);
         changed[k] = sum(changed[k], more);
         return changed;
     }
@@ -79,6 +80,7 @@ pub fn inks_of(i: Inks, strokes: &[Stroke]) -> Inks
 }
 
 // Whether a feed's number is that of a refused byte: not where the bytes or the list ended, or a reply waits.
+#[tactic(auto, unfolding(crate::specs::Refusals::refuses, feeding::specs::DrawOff::untaken))]
 pub fn is_refusal(number: u8) -> bool
     ensures { result ≡ refuses number }
 {
@@ -86,6 +88,7 @@ pub fn is_refusal(number: u8) -> bool
 }
 
 // What a feed's number adds, on the byte before a place of a block; l is for the letters before the block, `place` counts the bytes of all.
+#[tactic(auto, unfolding(crate::specs::Refusals::refused_of))]
 pub fn refused(r: Refusals, l: Letters, block: &[u8], at: usize, number: u8, place: u64) -> Refusals
     ensures { result ≡ refused_of r l block.now at number place }
 {

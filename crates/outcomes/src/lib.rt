@@ -22,7 +22,7 @@ pub fn put_limits(out: &mut Text<'_>, limits: Rect, number: u8) -> fmt::Result {
     write!(out, "limits {left} {bottom} {right} {top} | {number}")
 }
 
-// A refusal: its number, and the byte, counted from 1. The number 0 is none.
+// A refusal: its number, and the byte, counted from 1. The number 0 is none: it is what take and feed answer, to C too, and no Option.
 pub fn put_refusal(out: &mut Text<'_>, number: u8, byte: u64) -> fmt::Result {
     if number == 0 {
         return Ok(());

@@ -1,4 +1,4 @@
-// What a feed answers, and the list of plain numbers that it was lent, five for each stroke.
+// What a feed answers, and the list of plain numbers that it was lent, five for each stroke: numbers and no strokes, since the call feed has them so.
 use crate::put_refusal;
 use output::Text;
 use std::fmt;

@@ -74,7 +74,7 @@ fn put_points(codes: &mut Codes, k: u64) {
     }
 }
 
-// The value of a hexadecimal digit, A to F in either case.
+// The value of a hexadecimal digit, A to F in either case. No `to_digit`, since a byte that is no digit has a value too.
 fn nibble(digit: u8) -> u8
     ensures { result < 16 }
 {

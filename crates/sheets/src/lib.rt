@@ -85,13 +85,14 @@ fn step_of(centimetres: u64) -> u8
 }
 
 // So many metres in units: 40 units are a millimetre on paper.
+#[tactic(auto, unfolding(crate::specs::Sheet::cell_of))]
 fn cell_of(step: u8, scale: u8) -> u64
     ensures { result ≡ cell_of step scale }
 {
     if scale == 0 {
         return 40000;
     }
-    step as u64 * 40000 / scale as u64
+    u64::from(step) * 40000 / u64::from(scale)
 }
 
 // The grid for these hard limits.
