@@ -9,13 +9,14 @@ ghost use Rattle.answers.specs.Answers.{drawn_kind, drawn_numbers, stroke_row, l
 use hpgl::{Drawn, Look, Stroke};
 use rows::{Row, flag_number, put_row, whole};
 
-// What draw answers, by number.
+// What draw answers, by number: these are the numbers of C's vutaroi_draw.
 const IDLE: u8 = 0;
 
 const HIDDEN: u8 = 1;
 
 const STROKE: u8 = 2;
 
+// A function and no From: neither the crate of Stroke nor that of Row knows the other.
 fn stroke_row(s: Stroke) -> Row
     ensures { result ≡ stroke_row s }
 {

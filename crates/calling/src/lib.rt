@@ -1,5 +1,6 @@
 // Each call on a machine that is kept as numbers, those that `save` writes: it is loaded, called and saved again, but for fetch.
 // The crate vutaroi has the calls for programs in C and Rust, with the header before these numbers.
+// Each is written out: only take and draw load and save with no other list between, and a function over the call would tell nothing of a list that its closure captured.
 #![tactic(auto)]
 
 ghost use Rattle.std.specs.Prelude.{◌≡◌, [], ◌∷◌, ◌≤◌, ◌/◌, length};
@@ -25,8 +26,7 @@ pub fn fresh_in(left: i64, bottom: i64, right: i64, top: i64, numbers: &mut [i64
     ensures numbers_after { numbers.new ≡ saved_of (fresh_state (rect left bottom right top)) }
 {
     let started = Machine::fresh(left, bottom, right, top);
-    let machine = started.machine;
-    machine.save(numbers);
+    started.machine.save(numbers);
     started.number
 }
 
@@ -37,8 +37,7 @@ pub fn take_in(numbers: &mut [i64], byte: u8) -> u8
 {
     let before = Machine::load(numbers);
     let taken = before.take(byte);
-    let after = taken.machine;
-    after.save(numbers);
+    taken.machine.save(numbers);
     taken.number
 }
 
@@ -50,10 +49,8 @@ pub fn draw_in(numbers: &mut [i64], stroke: &mut [i64]) -> u8
 {
     let before = Machine::load(numbers);
     let worked = before.draw();
-    let after = worked.machine;
-    let drawn = worked.drawn;
-    after.save(numbers);
-    put_drawn(drawn, stroke)
+    worked.machine.save(numbers);
+    put_drawn(worked.drawn, stroke)
 }
 
 pub fn look_in(numbers: &[i64], seen: &mut [i64])
@@ -98,8 +95,7 @@ pub fn feed_in(numbers: &mut [i64], bytes: &[u8], records: &mut [i64], answer: &
 {
     let before = Machine::load(numbers);
     let gathered = before.gather(bytes, 0, records);
-    let after = gathered.machine;
-    after.save(numbers);
+    gathered.machine.save(numbers);
     put_counts(gathered.at, gathered.stored, answer);
     gathered.number
 }
@@ -113,8 +109,7 @@ pub fn plot_in(numbers: &mut [i64], bytes: &[u8], records: &mut [i64], answer: &
 {
     let before = Machine::load(numbers);
     let plotted = before.plot(bytes, 0, records);
-    let after = plotted.machine;
-    after.save(numbers);
+    plotted.machine.save(numbers);
     put_counts(plotted.at, plotted.stored, answer);
     plotted.number
 }

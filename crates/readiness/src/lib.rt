@@ -24,17 +24,10 @@ fn stands(state: &[i64]) -> bool
     requires { length state.now ≡ list_numbers }
     ensures { result ≡ machine_stands state.now }
 {
-    if !header_sound(row_at(state, 0)) {
-        return false;
-    }
-    let numbers = &state[HEADER..];
-    if !sound(numbers) {
-        return false;
-    }
-    sum_stands(state)
+    header_sound(row_at(state, 0)) && sound(&state[HEADER..]) && sum_stands(state)
 }
 
-// Whether a call may go on: 0, or the number that it is refused with.
+// Whether a call may go on: 0, or the number that it is refused with. A number and no enum: each call answers it to C as it is.
 pub fn ready(state: &[i64], needed: usize, lent: usize) -> u8
     ensures { result ≡ ready_of state.now needed lent }
 {

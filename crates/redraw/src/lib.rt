@@ -5,23 +5,13 @@ ghost use Rattle.std.specs.Prelude.{◌≡◌, length};
 ghost use Rattle.redrawn.specs.Redrawn.{written_of, output_of};
 
 use hpgl::Stroke;
-use redrawing::{begin, next, turned};
-pub use redrawn::Written;
+use redrawing::put_list;
+pub use redrawn::Refusal;
 
 // Writes the strokes from the start of the output on: the list is judged first, and then written.
-pub fn redraw(list: &[Stroke], out: &mut [u8]) -> Written
+pub fn redraw(list: &[Stroke], out: &mut [u8]) -> Result<usize, Refusal>
     ensures value { result ≡ written_of list.now (length out.old) }
     ensures out_after { out.new ≡ output_of list.now out.old }
 {
-    let mut d = begin(out.len());
-    loop {
-        if d.at < list.len() {
-            let s = list[d.at];
-            d = next(d, s, out);
-        } else if d.judging {
-            d = turned(d, out);
-        } else {
-            return d.written;
-        }
-    }
+    put_list(&list, out)
 }

@@ -1,2 +1,2 @@
-pub mod Drafts
+pub mod Lists
 pub mod RedrawingLaws

@@ -1,21 +1,24 @@
--- Laws for the code: how long the parts of the text are, the strokes of a list of numbers one by one, the answer by its two tests, and a text that is put from the start of
--- the output on.
-use Rattle.std.specs.Prelude.{true, false, List, [], ◌∷◌, ◌++◌, ◌≡◌, ℤ, pos, negsuc, nat_abs, drop}
+-- Laws for the code: how long the parts of the text are, the strokes of a list one by one, how far the text is put, the answer by its two tests, and a text that is put from
+-- the start of the output on.
+use Rattle.std.specs.Prelude.{true, false, ◌&&◌, List, [], ◌∷◌, ◌++◌, ◌≡◌, ℤ, pos, negsuc, nat_abs, drop, Result, Ok, Err}
 use Rattle.std.proofs.Math.Path.{refl, ap}
-use Rattle.std.proofs.Common.{sym, ◌∙◌, zero-add, ne_eqb, eq-eqb, length-append}
+use Rattle.std.proofs.Common.{sym, ◌∙◌, zero-add, add-one, ne_eqb, eq-eqb, length-append, append-nil, append_assoc}
 use Prim.Native.Char.{code}
-use Prim.Native.Nat.{ℕ, suc, ◌+◌, ◌/◌, ◌-◌, ◌≤◌, ◌<◌}
-use Rattle.std.proofs.Math.Nat.{sub-zero}
+use Prim.Native.Nat.{ℕ, zero, suc, ◌+◌, ◌/◌, ◌≤◌, ◌<◌}
 use native.Mathlib.Omega.{arith}
-use Rattle.std.proofs.Math.ListN.{length}
+use Rattle.std.proofs.Math.ListN.{length, drop_of_length-le}
+use Rattle.std.proofs.Math.Seq.{drop-cons}
 use Rattle.std.proofs.lemmas.List.Edits.{sets-eq}
 use Rattle.exact.specs.Int16.{int16, int16-size}
 use Rattle.decimals.specs.Decimal.{decimal, sign, whole}
 use Rattle.decimals.proofs.DecimalLaws.{decimal-one, more-length, decimal-length}
-use Rattle.decimals.specs.Puts.{Puts}
+use Rattle.decimals.specs.Puts.{Puts, puts-same, puts-length, puts_then}
 use Rattle.hpgl.specs.declared.Stroke.{Stroke}
-use Rattle.redrawn.specs.declared.Written.{Written}
-use Rattle.redrawn.specs.Redrawn.{not_writable, too_short, fits_in, number_of, written_of, output_of, all_writable, pen_text, move_text, line_text, change_text, stroke_text, text_of, stroke_at, strokes_from, strokes_in}
+use Rattle.redrawn.specs.declared.Refusal.{Refusal}
+use Rattle.redrawn.specs.declared.Refusal.TheVariants.{NotWritable, TooShort}
+use Rattle.redrawn.specs.Redrawn.{fits_in, number_of, written_of, output_of, writable, all_writable, start_text, pen_text, move_text, line_text, change_text, stroke_text, strokes_text, text_of, stroke_at, strokes_from, strokes_in}
+use Rattle.redrawn.proofs.FirstStroke.{text-from, text-long}
+use Rattle.redrawing.specs.Lists.{no_stroke, nth}
 use Rattle.redrawn.specs.RedrawnLaws.{Writable, natural-long, whole_long}
 
 -- ---- lengths
@@ -85,39 +88,97 @@ ends-short s w = omega (arith, end_short s.x0 w.x0, end_short s.y0 w.y0, end_sho
 
 -- ---- strokes one by one
 
+module _ (ss : List Stroke) (i : ℕ) where
+  module _ (h : i < length ss) where
+    -- the i-th is the first of those that are left
+    pub first : drop i ss ≡ nth ss i ∷ drop (i + 1) ss
+    first = drop-cons ss i no_stroke h ∙ ap (λ (k : ℕ). nth ss i ∷ drop k ss) (sym (add-one i))
+
+    pub writable-more : all_writable (drop i ss) ≡ writable (nth ss i) && all_writable (drop (i + 1) ss)
+    unfolding all_writable
+    writable-more = ap all_writable first
+
+    pub text-more : (before : ℕ) → strokes_text before (drop i ss) ≡ stroke_text before (nth ss i) ++ strokes_text (nth ss i).pen (drop (i + 1) ss)
+    unfolding strokes_text
+    text-more before = ap (strokes_text before) first
+
+    pub long-more : (before : ℕ) → length (strokes_text before (drop i ss)) ≡ length (stroke_text before (nth ss i)) + length (strokes_text (nth ss i).pen (drop (i + 1) ss))
+    long-more before = ap length (text-more before) ∙ length-append (stroke_text before (nth ss i)) (strokes_text (nth ss i).pen (drop (i + 1) ss))
+
+  module _ (h : length ss ≤ i) where
+    pub writable-end : all_writable (drop i ss) ≡ true
+    unfolding all_writable
+    writable-end = ap all_writable (drop_of_length-le ss h)
+
+    pub text-end : (before : ℕ) → strokes_text before (drop i ss) ≡ []
+    unfolding strokes_text
+    text-end before = ap (strokes_text before) (drop_of_length-le ss h)
+
+-- those of a list of numbers
 module _ (numbers : List ℤ) where
-  -- those from the i-th on
-  abbrev pub left : ℕ → List Stroke
-  left i = strokes_from numbers i (length numbers / 5 - i)
+  from-long : (i k : ℕ) → length (strokes_from numbers i k) ≡ k
+  unfolding strokes_from
+  from-long i zero = refl
+  from-long i (suc k) = ap suc (from-long (i + 1) k)
 
-  pub left-all : left 0 ≡ strokes_in numbers
+  from-nth : (i k j : ℕ) → j < k → nth (strokes_from numbers i k) j ≡ stroke_at numbers (i + j)
+  unfolding strokes_from
+  from-nth i zero j h = absurd (omega (arith, h))
+  from-nth i (suc k) zero h = let e : i ≡ i + 0 = omega arith in ap (stroke_at numbers) e
+  from-nth i (suc k) (suc j) h = let e : i + 1 + j ≡ i + suc j = omega arith in from-nth (i + 1) k j (omega (arith, h)) ∙ ap (stroke_at numbers) e
+
+  pub numbers-long : length (strokes_in numbers) ≡ length numbers / 5
   unfolding strokes_in
-  left-all = ap (strokes_from numbers 0) (sub-zero (length numbers / 5))
+  numbers-long = from-long 0 (length numbers / 5)
 
-  pub left-none : {i : ℕ} → length numbers / 5 ≤ i → left i ≡ []
-  unfolding strokes_from
-  left-none {i} h = let e : length numbers / 5 - i ≡ 0 = omega arith in ap (strokes_from numbers i) e
+  pub numbers-nth : (i : ℕ) → i < length (strokes_in numbers) → nth (strokes_in numbers) i ≡ stroke_at numbers i
+  unfolding strokes_in
+  numbers-nth i h = from-nth 0 (length numbers / 5) i (omega (arith, h, numbers-long)) ∙ ap (stroke_at numbers) (zero-add i)
 
-  pub left-some : {i : ℕ} → i < length numbers / 5 → left i ≡ stroke_at numbers i ∷ left (i + 1)
-  unfolding strokes_from
-  left-some {i} h = let e : length numbers / 5 - i ≡ suc (length numbers / 5 - (i + 1)) = omega arith in ap (strokes_from numbers i) e
+-- ---- how far the text is put: what is put, `done`, and what is left of the strokes from the i-th on are the text
+
+pub record Putting (ss : List Stroke) (first now : List ℕ) (i before end : ℕ) : Type 0 where
+  pub done : List ℕ
+  pub puts : Puts done first now 0 end
+  pub left : done ++ strokes_text before (drop i ss) ≡ start_text ++ strokes_text 0 ss
+
+module _ {ss : List Stroke} {out now : List ℕ} {i before end : ℕ} (p : Putting ss out now i before end) where
+  putting-long : length p.done + length (strokes_text before (drop i ss)) ≡ 3 + length (strokes_text 0 ss)
+  putting-long = sym (length-append p.done (strokes_text before (drop i ss))) ∙ ap length p.left ∙ length-append start_text (strokes_text 0 ss)
+
+  module _ (h : i < length ss) where
+    pub putting-room : all_writable ss ≡ true → length (text_of ss) ≤ length out → end + length (stroke_text before (nth ss i)) ≤ length now
+    putting-room w room = omega (arith, room, text-long ss w, putting-long, long-more ss i h before, p.puts.ends, puts-length p.puts)
+
+    pub putting-more : {after : List ℕ} {next : ℕ} → Puts (stroke_text before (nth ss i)) now after end next → Putting ss out after (i + 1) (nth ss i).pen next
+    putting-more q = record {
+      done = p.done ++ stroke_text before (nth ss i);
+      puts = puts_then p.puts q;
+      left =
+          append_assoc p.done (stroke_text before (nth ss i)) (strokes_text (nth ss i).pen (drop (i + 1) ss))
+          ∙ ap (λ (l : List ℕ). p.done ++ l) (sym (text-more ss i h before)) ∙ p.left;
+    }
+
+  pub putting-end : length ss ≤ i → all_writable ss ≡ true → Puts (text_of ss) out now 0 end
+  putting-end h w =
+      puts-same (sym (append-nil p.done) ∙ ap (λ (l : List ℕ). p.done ++ l) (sym (text-end ss i h before)) ∙ p.left ∙ sym (text-from ss w)) p.puts
 
 -- ---- the answer and the output, by the two tests
 
 module _ (ss : List Stroke) (out : List ℕ) where
-  abbrev pub Answers : List ℕ → ℕ → ℕ → Type 0
-  Answers after n k = (◌≡◌ {A = Written} (record { length = n; number = k }) (written_of ss (length out))) × (after ≡ output_of ss out)
+  abbrev pub Answers : List ℕ → Result ℕ Refusal → Type 0
+  Answers after r = (r ≡ written_of ss (length out)) × (after ≡ output_of ss out)
 
-  pub not_written : all_writable ss ≡ false → Answers out 0 not_writable
+  pub not_written : all_writable ss ≡ false → Answers out (Err NotWritable)
   unfolding written_of number_of output_of
   not_written e = (rw e refl, rw e refl)
 
   module _ (w : all_writable ss ≡ true) where
-    pub no_room : fits_in ss (length out) ≡ false → Answers out 0 too_short
+    pub no_room : fits_in ss (length out) ≡ false → Answers out (Err TooShort)
     unfolding written_of number_of output_of
     no_room e = (rw w (rw e refl), rw w (rw e refl))
 
-    pub all-written : fits_in ss (length out) ≡ true → Answers (text_of ss ++ drop (length (text_of ss)) out) (length (text_of ss)) 0
+    pub all-written : fits_in ss (length out) ≡ true → Answers (text_of ss ++ drop (length (text_of ss)) out) (Ok (length (text_of ss)))
     unfolding written_of number_of output_of
     all-written e = (rw w (rw e refl), rw w (rw e refl))
 

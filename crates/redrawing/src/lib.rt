@@ -2,30 +2,25 @@
 // output, and proves that a fresh machine reads the strokes back.
 #![tactic(auto)]
 
-ghost use Rattle.std.specs.Prelude.{true, ◌≡◌, ◌+◌, ◌*◌, ◌^◌, ◌≤◌, ◌<◌, nat_abs, length};
+ghost use Rattle.std.specs.Prelude.{true, ◌≡◌, ◌+◌, ◌*◌, ◌^◌, ◌≤◌, ◌<◌, List, nat_abs, length};
 ghost use Rattle.decimals.specs.Decimal.{decimal};
 ghost use Rattle.decimals.specs.Puts.{Puts};
-ghost use Rattle.redrawn.specs.Redrawn.{start_text, move_text, change_text, stroke_text, stroke_at, strokes_in, written_of, output_of};
+ghost use Rattle.hpgl.specs.declared.Stroke.{Stroke as AStroke};
+ghost use Rattle.redrawn.specs.Redrawn.{start_text, move_text, change_text, stroke_text, text_of, fits_in, stroke_at, strokes_in, written_of, output_of};
 ghost use Rattle.redrawn.specs.Redrawn as R;
-ghost use Rattle.redrawing.specs.Drafts.{added_of, judged_of, begun, next_of, next_out, turned_of, turned_out, RoomFor, RoomToStart};
+ghost use Rattle.redrawing.specs.Lists.{nth};
 ghost use Rattle.redrawing.specs.RedrawingLaws.{bytes_of};
 
 use decimals::{put_byte, put_natural, put_whole, size};
 use exact::int16;
 use hpgl::Stroke;
-pub use redrawn::Written;
+pub use redrawn::Refusal;
 use rows::{byte_of, row_at};
 
 // "Pens are 1 to 8."
 const LEAST_PEN: u8 = 1;
 
 const MOST_PEN: u8 = 8;
-
-// A stroke with another pen or end.
-const NOT_WRITABLE: u8 = 32;
-
-// The output is too short.
-const TOO_SHORT: u8 = 33;
 
 // The numbers of a stroke: pen and ends.
 const NUMBERS: usize = 5;
@@ -36,32 +31,57 @@ const START: usize = 3;
 // ---- which strokes can be written
 
 // Whether a number is a pen's.
+#[tactic(auto, unfolding(redrawn::specs::Redrawn::is_pen))]
 fn is_pen(p: u8) -> bool
     ensures { result ≡ R.is_pen p }
 {
-    if LEAST_PEN <= p {
-        return p <= MOST_PEN;
-    }
-    false
+    LEAST_PEN <= p && p <= MOST_PEN
 }
 
 // Whether a stroke has such a pen and its ends are in range.
+#[tactic(auto, unfolding(redrawn::specs::Redrawn::writable))]
 fn writable(s: Stroke) -> bool
     ensures { result ≡ R.writable s }
 {
-    if !is_pen(s.pen) {
-        return false;
+    is_pen(s.pen) && int16(s.x0) && int16(s.y0) && int16(s.x1) && int16(s.y1)
+}
+
+// ---- a list of strokes: of records, or of numbers
+
+pub trait Strokes {
+    ghost strokes: { Self → List AStroke };
+
+    fn count(&self) -> usize
+        ensures { result ≡ length (strokes self.now) };
+
+    fn stroke(&self, i: usize) -> Stroke
+        requires { i < length (strokes self.now) }
+        ensures { result ≡ nth (strokes self.now) i };
+}
+
+impl Strokes for &[Stroke] {
+    ghost strokes = { λ list. list.now };
+
+    fn count(&self) -> usize {
+        self.len()
     }
-    if !int16(s.x0) {
-        return false;
+
+    fn stroke(&self, i: usize) -> Stroke {
+        self[i]
     }
-    if !int16(s.y0) {
-        return false;
+}
+
+// five numbers for each
+impl Strokes for &[i64] {
+    ghost strokes = { λ numbers. strokes_in numbers.now };
+
+    fn count(&self) -> usize {
+        self.len() / NUMBERS
     }
-    if !int16(s.x1) {
-        return false;
+
+    fn stroke(&self, i: usize) -> Stroke {
+        stroke_at(self, i)
     }
-    int16(s.y1)
 }
 
 // Stroke i of a list of numbers.
@@ -173,134 +193,74 @@ fn put_stroke(out: &mut [u8], at: usize, before: u8, s: Stroke) -> usize
 
 // ---- the list, judged and then written
 
-// How far a list is: whether it is judged or written, which stroke is next, the pen before it (0 before the first), and the answer so far.
-#[derive(Clone, Copy)]
-pub struct Draft {
-    pub judging: bool,
-    pub at: usize,
-    pub before: u8,
-    pub written: Written,
-}
-
-// So many bytes more, if the output has room.
-fn added(length: usize, more: usize, room: usize) -> Written
-    requires { length ≤ room }
-    ensures { result ≡ added_of length more room }
+// Whether each stroke can be written.
+fn all_writable<S: Strokes>(list: &S) -> bool
+    ensures { result ≡ R.all_writable (S.strokes list.now) }
 {
-    if room - length < more {
-        return Written {
-            length: 0,
-            number: TOO_SHORT,
-        };
+    for i in 0..list.count() {
+        if !writable(list.stroke(i)) {
+            return false;
+        }
     }
-    Written {
-        length: length + more,
-        number: 0,
-    }
+    true
 }
 
-// The answer with a stroke more.
-fn judged(w: Written, before: u8, s: Stroke, room: usize) -> Written
-    requires { w.length ≤ room }
-    ensures { result ≡ judged_of w before s room }
+// Whether an output of so many bytes has room for the text.
+fn fits<S: Strokes>(list: &S, room: usize) -> bool
+    requires { R.all_writable (S.strokes list.now) ≡ true }
+    ensures { result ≡ fits_in (S.strokes list.now) room }
 {
-    if !writable(s) {
-        return Written {
-            length: 0,
-            number: NOT_WRITABLE,
-        };
+    if room < START {
+        return false;
     }
-    if w.number != 0 {
-        return w;
+    let mut left = room - START;
+    let mut before = 0;
+    for i in 0..list.count() {
+        let s = list.stroke(i);
+        let n = stroke_length(before, s);
+        if left < n {
+            return false;
+        }
+        left -= n;
+        before = s.pen;
     }
-    let n = stroke_length(before, s);
-    added(w.length, n, room)
+    true
 }
 
-// A list of which nothing is judged yet: its text has IN.
-pub fn begin(room: usize) -> Draft
-    ensures { result ≡ begun room }
+// The text from the start of the output on. It begins with IN.
+fn put_strokes<S: Strokes>(list: &S, out: &mut [u8]) -> usize
+    requires writable { R.all_writable (S.strokes list.now) ≡ true }
+    requires room { length (text_of (S.strokes list.now)) ≤ length out.old }
+    ensures { Puts (text_of (S.strokes list.now)) out.old out.new 0 result }
 {
-    let start = added(0, START, room);
-    Draft {
-        judging: true,
-        at: 0,
-        before: 0,
-        written: start,
+    let mut end = put_start(out, 0);
+    let mut before = 0;
+    for i in 0..list.count() {
+        let s = list.stroke(i);
+        end = put_stroke(out, end, before, s);
+        before = s.pen;
     }
+    end
 }
 
-// The next stroke is judged, or written.
-pub fn next(d: Draft, s: Stroke, out: &mut [u8]) -> Draft
-    requires { (d.at + 1 < 2 ^ 64) × RoomFor d s (length out.old) }
-    ensures value { result ≡ next_of d s (length out.old) }
-    ensures out_after { out.new ≡ next_out d s out.old }
+// Writes strokes as HP-GL into the output from its start on, and answers how many bytes.
+pub fn put_list<S: Strokes>(list: &S, out: &mut [u8]) -> Result<usize, Refusal>
+    ensures value { result ≡ written_of (S.strokes list.now) (length out.old) }
+    ensures out_after { out.new ≡ output_of (S.strokes list.now) out.old }
 {
-    let at = d.at + 1;
-    let w = d.written;
-    if d.judging {
-        let sum = judged(w, d.before, s, out.len());
-        return Draft {
-            judging: true,
-            at: at,
-            before: s.pen,
-            written: sum,
-        };
+    if !all_writable(list) {
+        return Err(Refusal::NotWritable);
     }
-    let end = put_stroke(out, w.length, d.before, s);
-    Draft {
-        judging: false,
-        at: at,
-        before: s.pen,
-        written: Written {
-            length: end,
-            number: w.number,
-        },
+    if !fits(list, out.len()) {
+        return Err(Refusal::TooShort);
     }
+    Ok(put_strokes(list, out))
 }
 
-// The whole list is judged: it is refused, or begun again with its text.
-pub fn turned(d: Draft, out: &mut [u8]) -> Draft
-    requires { RoomToStart d (length out.old) }
-    ensures value { result ≡ turned_of d }
-    ensures out_after { out.new ≡ turned_out d out.old }
-{
-    let w = d.written;
-    if w.number != 0 {
-        return Draft {
-            judging: false,
-            at: d.at,
-            before: d.before,
-            written: w,
-        };
-    }
-    let end = put_start(out, 0);
-    Draft {
-        judging: false,
-        at: 0,
-        before: 0,
-        written: Written {
-            length: end,
-            number: 0,
-        },
-    }
-}
-
-// Writes strokes, five numbers for each, as HP-GL into the output from its start on.
-pub fn write(numbers: &[i64], out: &mut [u8]) -> Written
+// The same of five numbers for each stroke.
+pub fn write(numbers: &[i64], out: &mut [u8]) -> Result<usize, Refusal>
     ensures value { result ≡ written_of (strokes_in numbers.now) (length out.old) }
     ensures out_after { out.new ≡ output_of (strokes_in numbers.now) out.old }
 {
-    let count = numbers.len() / NUMBERS;
-    let mut d = begin(out.len());
-    loop {
-        if d.at < count {
-            let s = stroke_at(numbers, d.at);
-            d = next(d, s, out);
-        } else if d.judging {
-            d = turned(d, out);
-        } else {
-            return d.written;
-        }
-    }
+    put_list(&numbers, out)
 }

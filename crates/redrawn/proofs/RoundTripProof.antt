@@ -23,8 +23,8 @@ use Rattle.hpgl.specs.Valid.{Every, more}
 use Rattle.feeding.specs.Feed.{Feed, stop, feed_from, feed_of}
 use Rattle.feeding.proofs.FeedLaws.{at-end}
 use Rattle.feeding.proofs.PartsOfFeed.{store_all}
-use Rattle.redrawn.specs.Redrawn.{number_of, written_of, output_of, all_writable, start_text, pen_text, line_text, change_text, stroke_text, strokes_text, text_of}
-use Rattle.redrawn.specs.RedrawnLaws.{Writable, writable-is, writable-first}
+use Rattle.redrawn.specs.Redrawn.{number_of, written_of, length_in, output_of, all_writable, start_text, pen_text, line_text, change_text, stroke_text, strokes_text, text_of}
+use Rattle.redrawn.specs.RedrawnLaws.{Writable, writable-is, writable-first, answer-told}
 use Rattle.redrawn.proofs.FirstStroke.{text-from}
 use Rattle.redrawn.specs.Numerals.{kept}
 use Rattle.redrawn.specs.Reading.{Always, always-none, always-then, reads-start, reads-pen, reads_up, reads-down, pair}
@@ -175,7 +175,8 @@ taken-writable : (ss : List Stroke) (room : ℕ) → number_of ss room ≡ 0 →
 taken-writable ss room h = all-fit-test ss ((taken-0 ss room).0 h).0
 
 pub written_back : WrittenBack
-unfolding written_of output_of
+unfolding output_of
 written_back r ss out n e room l =
-    let whole : take (written_of ss (length out)).length (output_of ss out) ≡ text_of ss = rw n (take-append_seam (text_of ss) (drop (length (text_of ss)) out)) in
+    let long : length_in (written_of ss (length out)) ≡ length (text_of ss) = (answer-told ss (length out)).1 ∙ ap (λ (k : ℕ). cond (eqb k 0) (length (text_of ss)) 0) n in
+    let whole : take (length_in (written_of ss (length out))) (output_of ss out) ≡ text_of ss = rw (long, n) (take-append_seam (text_of ss) (drop (length (text_of ss)) out)) in
     subst (λ (t : List ℕ). ReadsBack r ss t room) (sym whole) (kept-writable r ss (taken-writable ss (length out) n) e room l)

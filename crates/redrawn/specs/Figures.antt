@@ -6,27 +6,27 @@ use Rattle.exact.specs.Int16.{int16}
 use Rattle.rows.specs.Rows.{row_at, small_of}
 use Rattle.decimals.specs.Decimal.{digits_within, decimal, natural, whole}
 use Rattle.hpgl.specs.Trace.{bytes_from, bytes}
-use Rattle.redrawn.specs.declared.Written.{Written}
-use Rattle.redrawn.specs.Redrawn.{is_pen, writable, all_writable, pen_text, move_text, line_text, change_text, stroke_text, strokes_text, all_text, text_of, fits_in, number_of, written_of, output_of, stroke_at, strokes_from, strokes_in}
+use Rattle.redrawn.specs.Redrawn.{is_pen, writable, all_writable, pen_text, move_text, line_text, change_text, stroke_text, strokes_text, all_text, text_of, fits_in, number_of, written_of, length_in, number_in, output_of, stroke_at, strokes_from, strokes_in}
 
 -- numbers, how long the output is, the text and the number
 pub data Row : Type 0 where
   row : List ℤ → ℕ → String → ℕ → Row
 
--- the answer, and the output after it
+-- the answer, as bytes written and the number, and the output after it
 pub data Told : Type 0 where
-  told : Written → List ℕ → Told
+  told : ℕ → ℕ → List ℕ → Told
 
 abbrev seven : ℕ
 seven = 7
 
 abbrev pub answered : List Row → List Told
 answered [] = []
-answered (row zs room text n ∷ rows) = told (written_of (strokes_in zs) room) (output_of (strokes_in zs) (replicate room seven)) ∷ answered rows
+answered (row zs room text n ∷ rows) =
+    told (length_in (written_of (strokes_in zs) room)) (number_in (written_of (strokes_in zs) room)) (output_of (strokes_in zs) (replicate room seven)) ∷ answered rows
 
 abbrev pub said : List Row → List Told
 said [] = []
-said (row zs room text n ∷ rows) = told (record { length = length (bytes text); number = n }) (bytes text ++ replicate (room - length (bytes text)) seven) ∷ said rows
+said (row zs room text n ∷ rows) = told (length (bytes text)) n (bytes text ++ replicate (room - length (bytes text)) seven) ∷ said rows
 
 abbrev minus : ℕ → ℤ
 minus n = neg_ℤ (pos n)

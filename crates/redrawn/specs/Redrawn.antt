@@ -1,5 +1,5 @@
 -- A list of strokes as HP-GL: document 02, CR 6, a definition beside each of its sentences. What is claimed of the text stands in RoundTrip.antt and Shortest.antt.
-use Rattle.std.specs.Prelude.{Bool, true, cond, ◌&&◌, List, [], ◌∷◌, ◌++◌, ℕ, zero, suc, ◌+◌, ◌*◌, ◌/◌, leb, eqb, ℤ, length, drop}
+use Rattle.std.specs.Prelude.{Bool, true, cond, ◌&&◌, List, [], ◌∷◌, ◌++◌, ℕ, zero, suc, ◌+◌, ◌*◌, ◌/◌, leb, eqb, ℤ, length, drop, Result, Ok, Err}
 use Prim.Native.Char.{code}
 use Rattle.exact.specs.Int16.{int16}
 use Rattle.rows.specs.declared.Row.{Row}
@@ -7,7 +7,8 @@ use Rattle.rows.specs.Rows.{row_at, small_of, most_byte}
 use Rattle.decimals.specs.Decimal.{natural, whole}
 use Rattle.hpgl.specs.declared.Stroke.{Stroke}
 use Rattle.hpgl.specs.Numbers.{most_pen}
-use Rattle.redrawn.specs.declared.Written.{Written}
+use Rattle.redrawn.specs.declared.Refusal.{Refusal}
+use Rattle.redrawn.specs.declared.Refusal.TheVariants.{NotWritable, TooShort}
 
 -- ---- "Pens are 1 to 8 and ends −32768 to 32767."
 
@@ -77,9 +78,23 @@ fits_in ss room = leb (length (text_of ss)) room
 unfoldable pub number_of : List Stroke → ℕ → ℕ
 number_of ss room = cond (all_writable ss) (cond (fits_in ss room) 0 too_short) not_writable
 
--- the answer: bytes written, and the number
-unfoldable pub written_of : List Stroke → ℕ → Written
-written_of ss room = record { length = cond (eqb (number_of ss room) 0) (length (text_of ss)) 0; number = number_of ss room }
+-- and by what is refused
+abbrev pub refusal_number : Refusal → ℕ
+refusal_number NotWritable = not_writable
+refusal_number TooShort = too_short
+
+-- the answer: bytes written, or why none are
+unfoldable pub written_of : List Stroke → ℕ → Result ℕ Refusal
+written_of ss room = cond (all_writable ss) (cond (fits_in ss room) (Ok (length (text_of ss))) (Err TooShort)) (Err NotWritable)
+
+-- an answer as two numbers: bytes written, and 02's number
+abbrev pub length_in : Result ℕ Refusal → ℕ
+length_in (Ok n) = n
+length_in (Err r) = 0
+
+abbrev pub number_in : Result ℕ Refusal → ℕ
+number_in (Ok n) = 0
+number_in (Err r) = refusal_number r
 
 -- the output after it: "Output past the text stays."
 unfoldable pub output_of : List Stroke → List ℕ → List ℕ

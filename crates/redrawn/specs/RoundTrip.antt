@@ -8,7 +8,7 @@ use Rattle.hpgl.specs.Place.{point}
 use Rattle.hpgl.specs.Machine.{hard_limits, fresh_state}
 use Rattle.hpgl.specs.Valid.{Every}
 use Rattle.feeding.specs.Feed.{feed_of}
-use Rattle.redrawn.specs.Redrawn.{text_of, number_of, written_of, output_of}
+use Rattle.redrawn.specs.Redrawn.{text_of, number_of, written_of, length_in, output_of}
 use Rattle.redrawn.specs.Causes.{Fit}
 
 -- "whose hard limits contain all ends": edges included
@@ -29,4 +29,4 @@ RoundTrip =
 abbrev pub WrittenBack : Type 0
 WrittenBack =
     (r : Rect) (ss : List Stroke) (out : List ℕ) → number_of ss (length out) ≡ 0 → Every (EndsIn (hard_limits r)) ss → (room : ℕ) → length ss ≤ room →
-    ReadsBack r ss (take (written_of ss (length out)).length (output_of ss out)) room
+    ReadsBack r ss (take (length_in (written_of ss (length out))) (output_of ss out)) room

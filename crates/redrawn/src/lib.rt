@@ -2,9 +2,26 @@
 // shorter. Definitions and laws, in specs/. The crate redrawing writes it.
 #![tactic(auto)]
 
-// The answer: bytes written, and the number (0 for none).
+ghost use Rattle.std.specs.Prelude.{◌≡◌};
+ghost use Rattle.redrawn.specs.Redrawn.{refusal_number};
+
+// Why a list is not written.
 #[derive(Clone, Copy)]
-pub struct Written {
-    pub length: usize,
-    pub number: u8,
+pub enum Refusal {
+    // a stroke has another pen or end
+    NotWritable,
+    // the output is too short
+    TooShort,
+}
+
+impl Refusal {
+    // Document 02's number.
+    pub fn number(self) -> u8
+        ensures { result ≡ refusal_number self }
+    {
+        match self {
+            Refusal::NotWritable => 32,
+            Refusal::TooShort => 33,
+        }
+    }
 }

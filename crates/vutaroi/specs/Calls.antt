@@ -6,7 +6,7 @@ use Rattle.hpgl.specs.Machine.{fresh_state, fresh_number, take_state, take_numbe
 use Rattle.feeding.specs.Feed.{feed_of, laid_numbers}
 use Rattle.feeding.specs.Plot.{plot_from, laid_marks}
 use Rattle.answers.specs.Answers.{drawn_kind, drawn_numbers, look_numbers, counts_of, mark_counts_of}
-use Rattle.redrawn.specs.Redrawn.{written_of, output_of, strokes_in}
+use Rattle.redrawn.specs.Redrawn.{written_of, length_in, number_in, output_of, strokes_in}
 use Rattle.readiness.specs.Ready.{too_short, list_numbers, list_of, machine_in, ready_of}
 
 -- where a call is refused, every list is as it was
@@ -91,4 +91,4 @@ unfoldable pub write_call : List ℤ → List ℕ → List ℕ → WriteLeft
 write_call numbers out answer =
     let w = written_of (strokes_in numbers) (length out) in
     cond (eqb (length answer) 0) (record { number = too_short; out = out; answer = answer })
-    (record { number = w.number; out = output_of (strokes_in numbers) out; answer = over answer 0 (w.length ∷ []) })
+    (record { number = number_in w; out = output_of (strokes_in numbers) out; answer = over answer 0 (length_in w ∷ []) })

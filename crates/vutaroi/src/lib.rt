@@ -12,6 +12,9 @@ use readiness::{HEADER, LIST, TOO_SHORT, ready};
 use redrawing::write;
 use seal::seal;
 
+// Each call is written out, though those between `ready` and `seal` are alike: one function over the call can't tell its caller what a closure wrote to the other lists that it
+// captured (`FnOnce`'s `post` has its arguments and its answer alone), and those lists are not the same in any three of them.
+
 // The version of the library: 0.1.0.
 const VERSION: u32 = 100;
 
@@ -151,7 +154,14 @@ pub extern "C" fn vutaroi_write(numbers: &[i64], out: &mut [u8], answer: &mut [u
     if answer.len() == 0 {
         return TOO_SHORT;
     }
-    let written = write(numbers, out);
-    answer[0] = written.length as u64;
-    written.number
+    match write(numbers, out) {
+        Ok(length) => {
+            answer[0] = length as u64;
+            0
+        }
+        Err(refusal) => {
+            answer[0] = 0;
+            refusal.number()
+        }
+    }
 }

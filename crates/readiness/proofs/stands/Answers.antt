@@ -1,59 +1,46 @@
 -- The proof of `stands`: by its three tests; a sound list is light.
 use borrow.Author.Rules.{part_to_end}
-use mathlib.Core.Path.{◌≡◌, refl, sym, ap, ◌∙◌}
-use mathlib.Core.Bool.{true, false}
-use mathlib.Core.List.{List}
-use native.Mathlib.Omega.{arith}
-use lib.IntN.{ℤ}
-use lib.ListN.{drop, length-drop}
+use Rattle.std.proofs.Common.{◌≡◌, true, false, List, ℤ, drop, sym, ap, ◌∙◌, arith, length-drop}
+use Rattle.std.proofs.lemmas.Bool.{false≢true}
 use Rattle.rows.specs.Rows.{row_at}
 use Rattle.seal.specs.Seal.{header_sound}
 use Rattle.wellformed.specs.Sound.{sound_of}
 use Rattle.wellformed.proofs.LightLaws.{sound-light}
 use Rattle.readiness.specs.Ready.{machine_stands}
 use Rattle.readiness.proofs.stands.Goals as goal
-use Rattle.readiness.proofs.stands.Lts
-use Rattle.readiness.proofs.stands.Tie
-use Rattle.readiness.proofs.stands.Reads
-
-abbrev Else-not-header_sound : Type 0
-Else-not-header_sound = Lts.Else1 Tie.the-claims Reads.Pre Reads.Post
-
-abbrev Else-not-sound : Type 0
-Else-not-sound = Lts.Else2 Tie.the-claims Reads.Pre Reads.Post
-
--- the header passed
-header : (h : Else-not-header_sound) → header_sound (row_at h.args.state.now 0) ≡ true
-header h =
-    sym (h.header_sound.ensures ∙ ap header_sound h.row_at.ensures) ∙ h.if-not-header_sound.false
-
-pub returns-then-not-header_sound : goal.returns-then-not-header_sound
-unfolding machine_stands
-returns-then-not-header_sound c =
-    let no : header_sound (row_at c.args.state.now 0) ≡ false = sym (c.header_sound.ensures ∙ ap header_sound c.row_at.ensures) ∙ c.if-not-header_sound.true in
-    rw no refl
-
-pub returns-then-not-sound : goal.returns-then-not-sound
-unfolding machine_stands
-returns-then-not-sound c =
-    let h = c.before.before.before in
-    let no : sound_of (drop 5 c.args.state.now) ≡ false = sym (c.sound.ensures ∙ ap sound_of (part_to_end c.args.state.now 5)) ∙ c.if-not-sound.true in
-    rw (header h, no) refl
-
--- the numbers passed
-rest : (e : Else-not-sound) → let s = e.before.before.before.before.before.before in sound_of (drop 5 e.args.state.now) ≡ true
-rest e =
-    sym (e.sound.ensures ∙ ap sound_of (part_to_end e.args.state.now 5)) ∙ e.if-not-sound.false
+use Rattle.readiness.proofs.stands.Goals.{then-header_sound, else-header_sound}
 
 pub sum_stands-requires : goal.sum_stands-requires
 sum_stands-requires c =
-    let e = c in
     let zs : List ℤ = c.args.state.now in
-    sound-light (drop 5 zs) (omega (arith, c.requires, length-drop 5 zs)) (rest e)
+    elim c.if-header_sound.branch [
+      | then-header_sound w ↦
+          sound-light (drop 5 zs) (omega (arith, c.requires, length-drop 5 zs)) (sym (w.sound.ensures ∙ ap sound_of (part_to_end zs 5)) ∙ sym w.value-is ∙ c.if-sound.true)
+      | else-header_sound w ↦ absurd (false≢true (sym w.if-header_sound.false ∙ sym w.value-is ∙ c.if-sound.true))
+    ]
 
-pub returns : goal.returns
+pub returns-then-sound : goal.returns-then-sound
 unfolding machine_stands
-returns c =
-    let h = c.before.before.before.before in
-    let e = c.before in
-    rw (header h, rest e) c.sum_stands.ensures
+returns-then-sound c =
+    let zs : List ℤ = c.args.state.now in
+    elim c.if-header_sound.branch [
+      | then-header_sound w ↦
+          let header : header_sound (row_at zs 0) ≡ true = sym (c.header_sound.ensures ∙ ap header_sound c.row_at.ensures) ∙ w.if-header_sound.true in
+          let sound : sound_of (drop 5 zs) ≡ true = sym (w.sound.ensures ∙ ap sound_of (part_to_end zs 5)) ∙ sym w.value-is ∙ c.if-sound.true in
+          rw (header, sound) c.sum_stands.ensures
+      | else-header_sound w ↦ absurd (false≢true (sym w.if-header_sound.false ∙ sym w.value-is ∙ c.if-sound.true))
+    ]
+
+pub returns-else-sound : goal.returns-else-sound
+unfolding machine_stands
+returns-else-sound c =
+    let zs : List ℤ = c.args.state.now in
+    elim c.if-header_sound.branch [
+      | then-header_sound w ↦
+          let header : header_sound (row_at zs 0) ≡ true = sym (c.header_sound.ensures ∙ ap header_sound c.row_at.ensures) ∙ w.if-header_sound.true in
+          let sound : sound_of (drop 5 zs) ≡ false = sym (w.sound.ensures ∙ ap sound_of (part_to_end zs 5)) ∙ sym w.value-is ∙ c.if-sound.false in
+          rw (header, sound) c.if-sound.false
+      | else-header_sound w ↦
+          let header : header_sound (row_at zs 0) ≡ false = sym (c.header_sound.ensures ∙ ap header_sound c.row_at.ensures) ∙ w.if-header_sound.false in
+          rw header c.if-sound.false
+    ]
