@@ -24,7 +24,7 @@ pub struct Range {
     pub max: i64,
 }
 
-// The scale of SC. Off, the ranges mean nothing.
+// The scale of SC. Off, the ranges mean nothing; they stand beside a flag and in no Option, since a machine that is written out keeps them (`saved_of`, `saved-back`).
 #[derive(Clone, Copy)]
 pub struct Scale {
     pub on: bool,
@@ -32,14 +32,14 @@ pub struct Scale {
     pub y: Range,
 }
 
-// The window of IW: a box of locations, not turned. Where none is set the box means nothing.
+// The window of IW: a box of locations, not turned. Where none is set the box means nothing, and is kept as the ranges of a scale are.
 #[derive(Clone, Copy)]
 pub struct Window {
     pub set: bool,
     pub area: Rect,
 }
 
-// What belongs to the sheet, whoever paints on it: hard limits, P1, P2, scale, turn (its place in the table of turns), window.
+// What belongs to the sheet, whoever paints on it: hard limits, P1, P2, scale, turn (its place in the table of turns, as a machine that is written out has it), window.
 #[derive(Clone, Copy)]
 pub struct Settings {
     pub hard: Rect,
@@ -67,7 +67,7 @@ pub struct Saved {
 }
 
 // The polygon as it counts: whether polygon mode is on, its bytes, how many edges the store holds, whether the subpolygon has no point yet,
-// and its first point.
+// and its first point, which is kept where there is none as well, in a list of numbers too.
 #[derive(Clone, Copy)]
 pub struct Polygon {
     pub mode: bool,
@@ -121,7 +121,8 @@ pub struct Circle {
     pub sweep: i64,
 }
 
-// What OA, OP, OW, OH or OE answers: so many numbers, of these four, as they were when it was carried out. Of no numbers it is no reply.
+// What OA, OP, OW, OH or OE answers: so many numbers, of these four, as they were when it was carried out. Of no numbers it is no reply. Four fields and no list, for there
+// is no heap, and a list of numbers has them each at its place.
 #[derive(Clone, Copy)]
 pub struct Reply {
     pub count: u8,
