@@ -5,7 +5,9 @@
 
 use clip::Rect;
 use delivery::files::{Sink, run};
-use output::{finish, put_bytes, put_natural};
+use output::Text;
+use std::fmt;
+use std::fmt::Write;
 use streams::{Source, Stream, number_of, read_full, tell};
 use textlines::word::{limits_of, whole_of};
 
@@ -29,14 +31,14 @@ fn at_end(sink: &mut Sink) -> bool {
     got.good && got.count == 0
 }
 
-// Prints a file's name, and what is said of so many lines.
-fn say(rt: &HostRuntime, name: &[u8], what: &[u8], lines: u64, after: &[u8]) {
-    let mut text = io::large_buffer();
-    let mut end = put_bytes(rt, &mut text, 0, name);
-    end = put_bytes(rt, &mut text, end, what);
-    end = put_natural(rt, &mut text, end, lines);
-    end = put_bytes(rt, &mut text, end, after);
-    finish(rt, &text, end, b"drawings: standard output");
+// What came of a drawing, after the name of its file, which need be no text: so many lines are as stored, and all of them are or the next one differs.
+fn put_outcome(out: &mut Text<'_>, name: &[u8], same: u64, whole: bool) -> fmt::Result {
+    out.write_bytes(name)?;
+    if whole {
+        writeln!(out, ": as stored, {same} lines")
+    } else {
+        writeln!(out, ": differs at line {}", same.wrapping_add(1))
+    }
 }
 
 // Compares the lines of a drawing with those of a file of this name, and says what came of it.
@@ -49,12 +51,11 @@ fn compare(
 ) {
     let mut sink = Sink::Compare(stored);
     let finished = run(asked, &mut drawing, &mut sink);
-    let same = finished.tally.same;
-    if finished.end.is_ok() && at_end(&mut sink) {
-        say(rt, name, b": as stored, ", same, b" lines\n");
-    } else {
-        say(rt, name, b": differs at line ", same.wrapping_add(1), b"\n");
-    }
+    let whole = finished.end.is_ok() && at_end(&mut sink);
+    let mut out = Text::new(rt);
+    // a write that failed is told at the end
+    let _ = put_outcome(&mut out, name, finished.tally.same, whole);
+    out.finish(b"drawings: standard output");
 }
 
 // A line has its words between blanks. One that is missing is empty, as one between two blanks is.

@@ -103,40 +103,6 @@ pub fn put_natural(rt: &HostRuntime, buffer: &mut [u8; 65536], used: usize, numb
     put_bytes(rt, buffer, used, &digits[..count])
 }
 
-// A whole number, with a sign if it is below zero.
-pub fn put_whole(rt: &HostRuntime, buffer: &mut [u8; 65536], used: usize, number: i64) -> usize {
-    let end = if number < 0 {
-        put_byte(rt, buffer, used, b'-')
-    } else {
-        used
-    };
-    put_natural(rt, buffer, end, number.unsigned_abs())
-}
-
-// A number that is not below 0, and the byte after it.
-pub fn natural_then(
-    rt: &HostRuntime,
-    buffer: &mut [u8; 65536],
-    used: usize,
-    number: u64,
-    byte: u8,
-) -> usize {
-    let end = put_natural(rt, buffer, used, number);
-    put_byte(rt, buffer, end, byte)
-}
-
-// Any number, and the byte after it.
-pub fn whole_then(
-    rt: &HostRuntime,
-    buffer: &mut [u8; 65536],
-    used: usize,
-    number: i64,
-    byte: u8,
-) -> usize {
-    let end = put_whole(rt, buffer, used, number);
-    put_byte(rt, buffer, end, byte)
-}
-
 // How many bytes a text has without the blanks at its end.
 fn trimmed_length(text: &[u8]) -> usize
     ensures value { result ≡ trimmed text.now }
