@@ -35,6 +35,7 @@ pub struct Batch {
 }
 
 // Records that hold nothing yet.
+#[tactic(auto, unfolding(crate::specs::Batches::blanks))]
 pub fn blank() -> [Stroke; 64]
     ensures { result ≡ blanks }
 {
@@ -66,6 +67,7 @@ pub fn begin(machine: Machine) -> Batch
 }
 
 // Stroke i of a list of numbers.
+#[tactic(auto, unfolding(crate::specs::Records::stroke_at))]
 fn stroke_at(numbers: &[i64], i: usize) -> Stroke
     requires { (i * 5 + 5 ≤ length numbers.now) × PenAt numbers.now i }
     ensures { result ≡ stroke_at numbers.now i }
@@ -86,6 +88,7 @@ fn stroke_at(numbers: &[i64], i: usize) -> Stroke
 }
 
 // The first `count` strokes of a list of numbers.
+#[tactic(auto, unfolding(crate::specs::Records::strokes_of))]
 fn records(numbers: &[i64], count: usize) -> [Stroke; 64]
     requires { (count ≤ 64) × ((count * 5 ≤ length numbers.now) × PensBefore numbers.now count) }
     ensures { take count result ≡ strokes_of numbers.now count }

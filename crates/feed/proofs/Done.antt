@@ -1,18 +1,16 @@
 -- How far feed has got: the loop's invariant, without memory. The strokes up to the batch b are stored in the list, which is now ys.
 --     front       what is stored and what comes after it are all that feed is to do
 --     back        the records that are not stored to are as they were
---     far-start, far-batch, far-end       it holds at the start, a batch that is stored keeps it, and at the end it is what feed ensures
+--     far-batch   a batch that is stored keeps it (the check finds by itself that it holds at the start, and at the end is what feed ensures)
 --     left        counts down: a batch stores a stroke or is the last
-use Rattle.std.proofs.Common.{◌≡◌, refl, sym, ap, ◌∙◌, subst, Bool, true, false, List, ◌++◌, append-nil, append_assoc, ℕ, ◌+◌, ◌-◌, ◌≤◌, ◌<◌, arith, length, take, drop, length-append, length-take-le, length-drop, take-append-drop}
-use Rattle.std.proofs.Math.Nat.{sub-zero}
+use Rattle.std.proofs.Common.{◌≡◌, sym, ap, ◌∙◌, Bool, true, false, List, ◌++◌, append_assoc, ℕ, ◌+◌, ◌-◌, ◌≤◌, arith, length, take, drop, length-append, length-take-le, length-drop}
 use Rattle.std.proofs.Math.Seq.{drop-drop, take-append_seam, drop-append_seam}
 use Rattle.hpgl.specs.declared.Stroke.{Stroke}
-use Rattle.feeding.specs.Feed.{Feed, feed_of, feed_from, laid}
+use Rattle.feeding.specs.Feed.{Feed, feed_of}
 use Rattle.feeding.proofs.PartsOfFeed.{store_all}
 use Rattle.machine.specs.declared.Machine.{Machine}
 use Rattle.batches.specs.declared.Batch.{Batch}
-use Rattle.feed.specs.Fed.{fed_of}
-use Rattle.batches.specs.Batches.{fed_by, begun, ended, rest, Batched}
+use Rattle.batches.specs.Batches.{fed_by, rest, Batched}
 
 abbrev one-if : Bool → ℕ
 one-if true = 1
@@ -20,13 +18,6 @@ one-if false = 0
 
 abbrev pub left : ℕ → Batch → ℕ
 left n b = one-if b.more + (n - b.fed.stored)
-
-pub fewer : (n : ℕ) (bytes : List ℕ) (b c : Batch) → b.more ≡ true → Batched bytes n b.fed c → left n c < left n b
-fewer n bytes b c more h = rw more (by-more c.more h.some)
-  where
-    by-more : (z : Bool) → (z ≡ true → 0 < c.count) → one-if z + (n - c.fed.stored) < 1 + (n - b.fed.stored)
-    by-more true some = omega (arith, some refl, h.counted, h.within)
-    by-more false some = omega (arith, h.counted, h.within)
 
 module _ (m : Machine) (bytes : List ℕ) (xs : List Stroke) where
   abbrev whole : Feed
@@ -41,17 +32,6 @@ module _ (m : Machine) (bytes : List ℕ) (xs : List Stroke) where
     pub room : b.fed.stored ≤ length xs
     pub front : whole ≡ store_all (take b.fed.stored ys) (after b)
     pub back : drop b.fed.stored ys ≡ drop b.fed.stored xs
-
-  far-begun : Far (begun m) xs
-  far-begun = record {
-    long = refl;
-    room = omega arith;
-    front = sym (ap (λ (k : ℕ). feed_from m.state bytes 0 k) (sub-zero (length xs)));
-    back = refl;
-  }
-
-  pub far-start : (b : Batch) → b ≡ begun m → Far b xs
-  far-start b e = subst (λ (c : Batch). Far c xs) (sym e) far-begun
 
   module _ (b : Batch) (ys : List Stroke) (far : Far b ys) where
     -- a batch follows, and its strokes, `new`, are stored after those before it
@@ -105,24 +85,3 @@ module _ (m : Machine) (bytes : List ℕ) (xs : List Stroke) where
               ∙ ap (λ (l : List Stroke). store_all (take b.fed.stored ys ++ l) (after c)) (sym copied) ∙ ap (λ (l : List Stroke). store_all l (after c)) (sym front-is);
           back = back-is ∙ past ys ∙ ap (drop c.count) far.back ∙ sym (past xs);
         }
-
-    module _ (last : b.more ≡ false) where
-      abbrev stored : List Stroke
-      stored = take b.fed.stored ys
-
-      is_whole : whole ≡ store_all stored (ended (fed_by b.fed))
-      is_whole = far.front ∙ ap (λ (z : Bool). store_all stored (rest z bytes (length xs) (fed_by b.fed))) last
-
-      strokes : whole.strokes ≡ stored
-      strokes = ap (λ (f : Feed). f.strokes) is_whole ∙ append-nil stored
-
-      count : length whole.strokes ≡ b.fed.stored
-      count = ap length strokes ∙ length-take-le b.fed.stored ys (omega (arith, far.long, far.room))
-
-      pub far-end : (fed_by b.fed ≡ fed_of whole) × (ys ≡ laid whole.strokes xs)
-      far-end = (
-        sym (ap (λ (f : Feed). fed_of f) is_whole ∙ ap (λ (k : ℕ). record { state = b.fed.machine.state; at = b.fed.taken; stored = k; number = b.fed.number })
-            (ap length (append-nil stored) ∙ ap length (sym strokes) ∙ count)),
-        sym (take-append-drop b.fed.stored ys) ∙ ap (λ (l : List Stroke). l ++ drop b.fed.stored ys) (sym strokes)
-            ∙ ap (λ (l : List Stroke). whole.strokes ++ l) (far.back ∙ ap (λ (k : ℕ). drop k xs) (sym count)),
-      )

@@ -206,12 +206,6 @@ module _ (g : After-gather-g) where
       let at-g = subst (λ (r : Stopped). Follows f bytes room most r (goes f bytes room most r) list) (sym gathered) is in
       batched f bytes room most g.gather-g.result more list (subst (λ (z : Bool). Follows f bytes room most (gathered_by g.gather-g.result) z list) (sym e) at-g)
 
-pub slice_bounds-gather-end : goal.slice_bounds-gather-end
-slice_bounds-gather-end c = sym (part-long _ _ c.batch_room-most.ensures.0 c.zeros-numbers.ensures)
-
-pub slice_bounds-records-end : goal.slice_bounds-records-end
-slice_bounds-records-end c = sym (numbers-long c.before.before.before)
-
 pub records-list-requires : goal.records-list-requires
 records-list-requires c =
     let g = c.before.before.before in
