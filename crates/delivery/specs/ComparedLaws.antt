@@ -1,5 +1,5 @@
 -- One byte after another of texts that are compared, and the lines of a text.
-use Rattle.std.specs.Prelude.{◌≡◌, ◌==◌, ℕ, suc, ◌+◌, ◌<◌, ◌≤◌, cond, List, length, drop, ◌≢◌, slice_index, count_by}
+use Rattle.std.specs.Prelude.{◌≡◌, ◌==◌, ℕ, suc, ◌+◌, ◌<◌, ◌≤◌, cond, List, length, drop, ◌≢◌, slice_index, slice_index_or, count_by}
 use Rattle.std.proofs.Math.Path.{refl, ap}
 use Rattle.std.proofs.Common.{add-one, arith, eq-eqb, ne_eqb}
 use Rattle.std.proofs.lemmas.List.Recursion.{is_count_by}
@@ -31,3 +31,16 @@ unfolding line_ends
 line_ends-is =
     is_count_by line_ends (λ b. b == line_end) refl
     (λ b bs. let e : suc (line_ends bs) ≡ 1 + line_ends bs = omega arith in ap (λ (n : ℕ). cond (b == line_end) n (line_ends bs)) e)
+
+module _ (text : List ℕ) (i : ℕ) (h : i < length text) where
+  pub ends_more : slice_index_or text i 0 ≡ line_end → line_ends (drop i text) ≡ suc (line_ends (drop (i + 1) text))
+  unfolding line_ends
+  ends_more e = rw (drop-cons text i 0 h, add-one) (rw (eq-eqb (slice_index text i) line_end e) refl)
+
+  pub ends-other : (slice_index text i ≢ line_end) → line_ends (drop i text) ≡ line_ends (drop (i + 1) text)
+  unfolding line_ends
+  ends-other e = rw (drop-cons text i 0 h, add-one) (rw (ne_eqb (slice_index text i) line_end e) refl)
+
+pub ends-done : (text : List ℕ) (i : ℕ) → length text ≤ i → line_ends (drop i text) ≡ 0
+unfolding line_ends
+ends-done text i h = rw (drop_of_length-le text h) refl

@@ -48,7 +48,11 @@ plotted-then {r} {block} h k = record {
   earlier = k.earlier ∙ h.earlier;
 }
 
--- in the machine that fresh makes nothing waits
+-- fresh makes a machine that may be used
+pub started-usable : (s : Started) → Usable s.machine.state
+started-usable s = s.machine.usable
+
+-- and nothing waits
 pub started-free : (s : Started) (r : Rect) → started_by s ≡ started_of r → occupied s.machine.state.work ≡ false
 unfolding started_of fresh_state occupied waiting replying replied
 started-free s r e = ap (λ (t : Numbered). occupied t.state.work) e
