@@ -175,6 +175,7 @@ fn judged(number: u8) -> u8
 }
 
 // A byte is refused: it is noted with its name, and its place after so many bytes.
+#[tactic(auto, unfolding(crate::specs::Drawing::refused_at, counting::specs::Refusals::noted_all))]
 fn refused(
     refusals: Refusals,
     letters: Letters,
@@ -411,6 +412,7 @@ fn open_end(machine: Machine) -> bool
 }
 
 // What there is to say of a drawing that has been read, or could not be.
+#[tactic(auto, unfolding(crate::specs::Drawing::finished_of))]
 fn finished(w: Watched, types: Types, unread: bool, lines: &[i64]) -> Surveyed
     ensures { result ≡ S.finished_of (watched_by w) types unread lines.now }
 {
