@@ -12,12 +12,8 @@ use Rattle.console.specs.Sums.{added}
 use Rattle.counting.specs.declared.names.Letters.{Letters}
 use Rattle.counting.specs.declared.refusals.Refusals.{Refusals}
 use Rattle.counting.specs.declared.tally.Tally.{Tally}
-use Rattle.surveying.specs.declared.Drawing.{Drawing}
-use Rattle.surveying.specs.declared.Painted.{Painted}
-use Rattle.surveying.specs.declared.Replied.{Replied}
-use Rattle.surveying.specs.declared.Watched.{Watched}
 use Rattle.surveying.specs.declared.Surveyed.{Surveyed}
-use Rattle.machine.specs.declared.Machine.{Machine}
+use Rattle.surveying.specs.States.{DrawingAt, PaintedAt, RepliedAt, WatchedAt}
 use Rattle.inking.specs.Inked.{inked_state}
 use Rattle.scanning.specs.declared.Types.{Types}
 use Rattle.scanning.specs.Escapes.{belongs, no_escapes, escapes_in, broken_at_end}
@@ -34,7 +30,7 @@ waits_of segment.PenUp = true
 waits_of (segment.Line a b) = true
 
 -- k segments wait: each is drawn, and counted
-unfoldable pub drawn_off : ℕ → State → Tally → Painted
+unfoldable pub drawn_off : ℕ → State → Tally → PaintedAt
 drawn_off zero m t = record { machine = record { state = m }; tally = t }
 drawn_off (suc k) m t = drawn_off k (draw_state m) (counted_of t (segment_of m) (draw_answer m))
 
@@ -42,7 +38,7 @@ drawn_off (suc k) m t = drawn_off k (draw_state m) (counted_of t (segment_of m) 
 abbrev pub reply_bytes : ℕ
 reply_bytes = 37
 
-unfoldable pub fetched_off : State → ℕ → Replied
+unfoldable pub fetched_off : State → ℕ → RepliedAt
 fetched_off m n = record { machine = record { state = fetch_state m reply_bytes }; replies = cond (eqb (length (fetch_text m reply_bytes)) 0) n (added n 1) }
 
 -- of the number of a run's last byte: "While a reply waits a byte is refused with 20", and it comes again
@@ -53,31 +49,31 @@ judged_of n = cond (untaken n) 0 n
 unfoldable pub refused_at : Refusals → Letters → Letters → ℕ → List ℕ → ℕ → ℕ → Refusals
 refused_at r letters nobody before block at number = noted_of r number (name_of letters nobody block at number) (added before at)
 
-unfoldable pub refusals_after : Drawing → List ℕ → ℕ → ℕ → Refusals
+unfoldable pub refusals_after : DrawingAt → List ℕ → ℕ → ℕ → Refusals
 refusals_after d block at number = cond (eqb number 0) d.refusals (refused_at d.refusals d.letters d.nobody d.before block at number)
 
 -- what was drawn, and then fetched
-abbrev pub drawing : Tally → Replied → ℕ → Letters → Letters → Refusals → Drawing
+abbrev pub drawing : Tally → RepliedAt → ℕ → Letters → Letters → Refusals → DrawingAt
 drawing t f before letters nobody refusals = record { machine = f.machine; before = before; letters = letters; nobody = nobody; tally = t; refusals = refusals; replies = f.replies }
 
 -- the machine has come to m by bytes before the place `at`, the last of which has this number; what waits is drawn or fetched
-unfoldable pub went_on : Drawing → List ℕ → State → ℕ → ℕ → Drawing
+unfoldable pub went_on : DrawingAt → List ℕ → State → ℕ → ℕ → DrawingAt
 went_on d block m at number =
-    let p : Painted = drawn_off (waiting m.work) m d.tally in
+    let p : PaintedAt = drawn_off (waiting m.work) m d.tally in
     drawing p.tally (fetched_off p.machine.state d.replies) d.before d.letters d.nobody (refusals_after d block at number)
 
 -- the bytes of a block from the place `at` on, one by one
-unfoldable pub bytes_from : Drawing → List ℕ → List ℕ → ℕ → Drawing
+unfoldable pub bytes_from : DrawingAt → List ℕ → List ℕ → ℕ → DrawingAt
 bytes_from d block [] at = d
 bytes_from d block (b ∷ bs) at =
     bytes_from (went_on d block (take_state d.machine.state b) (at + 1) (take_number d.machine.state b)) block bs (at + 1)
 
 -- so far in a block: another machine, and other counts
-abbrev pub gone_to : Drawing → Machine → Tally → Refusals → ℕ → Drawing
-gone_to d m t r n = record { machine = m; before = d.before; letters = d.letters; nobody = d.nobody; tally = t; refusals = r; replies = n }
+abbrev pub gone_to : DrawingAt → State → Tally → Refusals → ℕ → DrawingAt
+gone_to d m t r n = record { machine = record { state = m }; before = d.before; letters = d.letters; nobody = d.nobody; tally = t; refusals = r; replies = n }
 
 -- the next block begins after this one
-abbrev pub ended_of : Drawing → List ℕ → Drawing
+abbrev pub ended_of : DrawingAt → List ℕ → DrawingAt
 ended_of d block = record {
   machine = d.machine;
   before = added d.before (length block);
@@ -88,7 +84,7 @@ ended_of d block = record {
   replies = d.replies;
 }
 
-unfoldable pub block_of : Drawing → List ℕ → Drawing
+unfoldable pub block_of : DrawingAt → List ℕ → DrawingAt
 block_of d block = ended_of (bytes_from d block block 0) block
 
 -- the last instruction is open: with one more semicolon something would be painted or refused
@@ -98,10 +94,10 @@ open_end m = cond (eqb (take_number m (code ";")) 0) (waits_of (segment_of (take
 -- ---- lines that pen 0 loses: what the same bytes would draw with a pen in hand. It is asked piece by piece, as within a piece no other pen is taken
 
 -- the drawing with pen 1 in hand, and nothing counted
-abbrev pub with_pen : Drawing → Drawing
+abbrev pub with_pen : DrawingAt → DrawingAt
 with_pen d = record { machine = record { state = inked_state d.machine.state }; before = d.before; letters = d.letters; nobody = d.nobody; tally = nothing_of; refusals = none_of; replies = 0 }
 
-unfoldable pub lost_in : Drawing → List ℕ → ℕ
+unfoldable pub lost_in : DrawingAt → List ℕ → ℕ
 lost_in d piece = cond (eqb d.machine.state.core.carriage.pen.number 0) (segments_of (block_of (with_pen d) piece).tally) 0
 
 -- from which byte on there was no pen when the first line was lost
@@ -112,16 +108,16 @@ first_of lost first more place = cond (ltb 0 lost) first (cond (ltb 0 more) plac
 unfoldable pub byte_name : ℕ → List ℕ → Letters
 byte_name escape piece = cond (eqb (length piece) 0) unnamed (cond (belongs escape (get_or piece 0 0)) escaped unnamed)
 
-abbrev pub entered_of : Drawing → Letters → Drawing
+abbrev pub entered_of : DrawingAt → Letters → DrawingAt
 entered_of d nobody = record { machine = d.machine; before = d.before; letters = d.letters; nobody = nobody; tally = d.tally; refusals = d.refusals; replies = d.replies }
 
-abbrev pub enter : Watched → List ℕ → Drawing
+abbrev pub enter : WatchedAt → List ℕ → DrawingAt
 enter w piece = entered_of w.drawing (byte_name w.escapes.state piece)
 
 unfoldable pub last_of : List ℕ → ℕ
 last_of piece = cond (eqb (length piece) 0) 0 (get_or piece (length piece - 1) 0)
 
-unfoldable pub piece_done : Watched → List ℕ → Watched
+unfoldable pub piece_done : WatchedAt → List ℕ → WatchedAt
 piece_done w piece = record {
   drawing = block_of (enter w piece) piece;
   mode = mode_after w.mode (last_of piece);
@@ -131,19 +127,19 @@ piece_done w piece = record {
 }
 
 -- piece by piece, so many at most
-unfoldable pub watched_from : ℕ → Watched → List ℕ → Watched
+unfoldable pub watched_from : ℕ → WatchedAt → List ℕ → WatchedAt
 watched_from zero w bytes = w
 watched_from (suc k) w [] = w
 watched_from (suc k) w (b ∷ bs) = let n = piece_of w.mode w.escapes.state (b ∷ bs) in watched_from k (piece_done w (take n (b ∷ bs))) (drop n (b ∷ bs))
 
 -- no piece is empty, so that a block has no more pieces than bytes
-unfoldable pub watched_of : Watched → List ℕ → Watched
+unfoldable pub watched_of : WatchedAt → List ℕ → WatchedAt
 watched_of w block = watched_from (length block) w block
 
 -- nothing is read yet
-abbrev pub begun_of : Machine → Watched
+abbrev pub begun_of : State → WatchedAt
 begun_of m = record {
-  drawing = record { machine = m; before = 0; letters = unnamed; nobody = unnamed; tally = nothing_of; refusals = none_of; replies = 0 };
+  drawing = record { machine = record { state = m }; before = 0; letters = unnamed; nobody = unnamed; tally = nothing_of; refusals = none_of; replies = 0 };
   mode = 0;
   escapes = no_escapes;
   lost = 0;
@@ -151,7 +147,7 @@ begun_of m = record {
 }
 
 -- with the lines that are kept of all strokes
-unfoldable pub finished_of : Watched → Types → Bool → List ℤ → Surveyed
+unfoldable pub finished_of : WatchedAt → Types → Bool → List ℤ → Surveyed
 finished_of w types unread lines = record {
   tally = w.drawing.tally;
   repeats = told_of lines;

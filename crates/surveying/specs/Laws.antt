@@ -30,16 +30,14 @@ use Rattle.feeding.specs.DrawOff.{untaken}
 use Rattle.feeding.proofs.DrawOffLaws.{draw-less, held_number, held-state, free-taken}
 use Rattle.feeding.specs.Feed.{counted}
 use Rattle.feeding.specs.Plot.{Plot, took, plot_from, numbers_of, laid_marks}
-use Rattle.feeding.proofs.PlotLaws.{at-end, at-stuck, at_byte, took-none, took-refused, plot-place, plot-stored, plot-usable}
+use Rattle.feeding.proofs.PlotLaws.{at-end, at-stuck, at_byte, took-none, took-refused, plot-place, plot-stored}
 use Rattle.stretches.specs.Stretch.{is_letter, NoLetter, Outside}
+use Rattle.gathering.specs.declared.Stopped.{Stopped}
 use Rattle.gathering.specs.GatherLaws.{free-idle, idle-free, reply-held}
 use Rattle.stretches.proofs.StretchLaws.{outside-free, take-outside, take-unknown, refused-outside, stretch-refuses}
-use Rattle.machine.specs.declared.Machine.{Machine}
-use Rattle.machine.specs.declared.Ran.{Ran}
-use Rattle.machine.specs.declared.Gathered.{Gathered}
 use Rattle.machine.specs.Gather.{plotted_of}
-use Rattle.machine.specs.Run.{ran_of, run_of}
-use Rattle.machine.specs.RunLaws.{run-place, run-takes, run-usable}
+use Rattle.machine.specs.Run.{Run, ran_of, run_of}
+use Rattle.machine.specs.RunLaws.{run-place, run-takes}
 use Rattle.console.specs.Sums.{added}
 use Rattle.counting.specs.declared.refusals.Refusals.{Refusals}
 use Rattle.counting.specs.declared.tally.Tally.{Tally}
@@ -47,9 +45,7 @@ use Rattle.counting.specs.Laws.{letter_at, letterless-plain, letterless-few}
 use Rattle.counting.specs.Names.{letter_of, letter_before, name_of, letterless}
 use Rattle.counting.specs.Refusals.{noted_of, noted_all}
 use Rattle.counting.specs.Tally.{counted_of}
-use Rattle.surveying.specs.declared.Drawing.{Drawing}
-use Rattle.surveying.specs.declared.Painted.{Painted}
-use Rattle.surveying.specs.declared.Replied.{Replied}
+use Rattle.surveying.specs.States.{DrawingAt, PaintedAt, RepliedAt}
 use Rattle.surveying.specs.Drawing.{waits_of, drawn_off, reply_bytes, fetched_off, judged_of, refused_at, refusals_after, went_on, bytes_from, gone_to, ended_of, block_of, stretch, places_of, unnamed_in}
 
 pub was-false : (b : Bool) → not b ≡ true → b ≡ false
@@ -88,7 +84,7 @@ work-idle m (work.Edges i (suc n)) h =
     go false a b e = true≢false e
 work-idle m (work.Answer r) h = refl
 
-abbrev pub painted : State → Tally → Painted
+abbrev pub painted : State → Tally → PaintedAt
 painted m t = record { machine = record { state = m }; tally = t }
 
 module _ (m : State) (t : Tally) where
@@ -127,7 +123,7 @@ silent w h = go (replying w) refl
     go true e = never h (reply-held w e)
     go false e = refl
 
-abbrev unanswered : State → ℕ → Replied
+abbrev unanswered : State → ℕ → RepliedAt
 unanswered m n = record { machine = record { state = m }; replies = n }
 
 module _ (m : State) where
@@ -148,15 +144,15 @@ module _ (m : State) where
 -- ---- bytes a run at a time
 
 -- the same counts, and another machine
-abbrev pub with_state : Drawing → State → Drawing
+abbrev pub with_state : DrawingAt → State → DrawingAt
 with_state d m = record { machine = record { state = m }; before = d.before; letters = d.letters; nobody = d.nobody; tally = d.tally; refusals = d.refusals; replies = d.replies }
 
-abbrev pub with_refusals : Drawing → Refusals → Drawing
+abbrev pub with_refusals : DrawingAt → Refusals → DrawingAt
 with_refusals d r = record { machine = d.machine; before = d.before; letters = d.letters; nobody = d.nobody; tally = d.tally; refusals = r; replies = d.replies }
 
 -- a segment or a reply waits: a run takes no byte, and none is refused
-pub record Stays (m : State) (at : ℕ) (r : Ran) : Type 0 where
-  pub state : r.machine.state ≡ m
+pub record Stays (m : State) (at : ℕ) (r : Run) : Type 0 where
+  pub state : r.state ≡ m
   pub place : r.at ≡ at
   pub number : judged_of r.number ≡ 0
 
@@ -170,13 +166,13 @@ run-stays m (b ∷ bs) at h = rw (held_number m b h, held-state m b h) (go (eqb 
     go false = record { state = refl; place = refl; number = refl }
 
 -- a refusal leaves the machine outside an instruction
-pub run-outside : (m : State) (bs : List ℕ) (at : ℕ) → (judged_of (run_of m bs at).number ≡ 0 → ⊥) → Outside (run_of m bs at).machine.state
+pub run-outside : (m : State) (bs : List ℕ) (at : ℕ) → (judged_of (run_of m bs at).number ≡ 0 → ⊥) → Outside (run_of m bs at).state
 unfolding run_of judged_of untaken
 run-outside m [] at = λ n. absurd (n refl)
 run-outside m (b ∷ bs) at = by (occupied m.work) refl (run-outside (take_state m b) bs (at + 1))
   where
-    Leaves : Ran → Type 0
-    Leaves r = (judged_of r.number ≡ 0 → ⊥) → Outside r.machine.state
+    Leaves : Run → Type 0
+    Leaves r = (judged_of r.number ≡ 0 → ⊥) → Outside r.state
 
     go : (t : Bool) → eqb (take_number m b) 0 ≡ t → occupied m.work ≡ false → Leaves (run_of (take_state m b) bs (at + 1))
         → Leaves (cond t (run_of (take_state m b) bs (at + 1)) (ran_of (take_state m b) (counted (take_number m b) at) (take_number m b)))
@@ -189,11 +185,11 @@ run-outside m (b ∷ bs) at = by (occupied m.work) refl (run-outside (take_state
 
 module _ (block : List ℕ) where
   -- nothing is refused, and nothing waits
-  went-quiet : (d : Drawing) (m : State) (at n : ℕ) → occupied m.work ≡ false → n ≡ 0 → went_on d block m at n ≡ with_state d m
+  went-quiet : (d : DrawingAt) (m : State) (at n : ℕ) → occupied m.work ≡ false → n ≡ 0 → went_on d block m at n ≡ with_state d m
   unfolding went_on refusals_after
   went-quiet d m at n w e = rw (e, off-idle m d.tally (free-idle m.work w), fetched-none m d.replies (silent m.work w)) refl
 
-  went-refused : (d : Drawing) (m : State) (at n : ℕ) → occupied m.work ≡ false → (n ≡ 0 → ⊥)
+  went-refused : (d : DrawingAt) (m : State) (at n : ℕ) → occupied m.work ≡ false → (n ≡ 0 → ⊥)
       → went_on d block m at n ≡ with_state (with_refusals d (refused_at d.refusals d.letters d.nobody d.before block at n)) m
   unfolding went_on refusals_after
   went-refused d m at n w f = rw (ne_eqb n 0 f, off-idle m d.tally (free-idle m.work w), fetched-none m d.replies (silent m.work w)) refl
@@ -203,10 +199,10 @@ module _ (block : List ℕ) where
   one_on at b bs e = sym (drop-drop 1 at block) ∙ ap (drop 1) e
 
   -- where a run leads
-  abbrev ran_to : Drawing → Ran → Drawing
-  ran_to d r = bytes_from (went_on d block r.machine.state r.at (judged_of r.number)) block (drop r.at block) r.at
+  abbrev ran_to : DrawingAt → Run → DrawingAt
+  ran_to d r = bytes_from (went_on d block r.state r.at (judged_of r.number)) block (drop r.at block) r.at
 
-  run-bytes : (d : Drawing) (m : State) (bs : List ℕ) (at : ℕ) → occupied m.work ≡ false → drop at block ≡ bs → bytes_from (with_state d m) block bs at ≡ ran_to d (run_of m bs at)
+  run-bytes : (d : DrawingAt) (m : State) (bs : List ℕ) (at : ℕ) → occupied m.work ≡ false → drop at block ≡ bs → bytes_from (with_state d m) block bs at ≡ ran_to d (run_of m bs at)
   unfolding bytes_from run_of judged_of counted untaken went_on refusals_after
   run-bytes d m [] at w e = sym (λ i. bytes_from (went-quiet d m at 0 w refl i) block (e i) at)
   run-bytes d m (b ∷ bs) at w e =
@@ -216,10 +212,10 @@ module _ (block : List ℕ) where
       next = one_on at b bs e
 
       -- this byte is taken
-      on : ℕ → List ℕ → Drawing
+      on : ℕ → List ℕ → DrawingAt
       on n l = bytes_from (went_on d block (take_state m b) (at + 1) n) block l (at + 1)
 
-      goes : Ran → Type 0
+      goes : Run → Type 0
       goes r = on (take_number m b) bs ≡ ran_to d r
 
       place : counted (take_number m b) at ≡ at + 1
@@ -284,7 +280,7 @@ Plain b = letter_of b ≡ 0
 
 module _ (block : List ℕ) where
   -- a byte that is no letter completes no name
-  plain-name : (d : Drawing) (at b : ℕ) (bs : List ℕ) → drop at block ≡ b ∷ bs → Plain b → name_of d.letters d.nobody block (at + 1) unknown ≡ d.nobody
+  plain-name : (d : DrawingAt) (at b : ℕ) (bs : List ℕ) → drop at block ≡ b ∷ bs → Plain b → name_of d.letters d.nobody block (at + 1) unknown ≡ d.nobody
   unfolding name_of
   plain-name d at b bs e h = rw (eq-eqb (letter_before block (at + 1)) 0 letter) refl
     where
@@ -297,22 +293,22 @@ module _ (block : List ℕ) where
           ∙ ap letter_of (sym (get_or-drop at block 0 0) ∙ ap (λ (l : List ℕ). get_or l 0 0) e) ∙ h
 
   -- one more refusal with nobody's name
-  abbrev more_unnamed : Drawing → ℕ → Drawing
+  abbrev more_unnamed : DrawingAt → ℕ → DrawingAt
   more_unnamed d at = with_refusals d (noted_of d.refusals unknown d.nobody (added d.before at))
 
-  unnamed-at : (d : Drawing) (at b : ℕ) (bs : List ℕ) (n : ℕ) → drop at block ≡ b ∷ bs → Plain b → n ≡ unknown
+  unnamed-at : (d : DrawingAt) (at b : ℕ) (bs : List ℕ) (n : ℕ) → drop at block ≡ b ∷ bs → Plain b → n ≡ unknown
       → refused_at d.refusals d.letters d.nobody d.before block (at + 1) n ≡ noted_of d.refusals unknown d.nobody (added d.before (at + 1))
   unfolding refused_at
   unnamed-at d at b bs n e h u = rw (u, plain-name d at b bs e h) refl
 
   -- a plot has gone so far: its refusals are noted from their records
-  abbrev pub plotted_on : Drawing → Plot → List ℤ → Drawing
+  abbrev pub plotted_on : DrawingAt → Plot → List ℤ → DrawingAt
   plotted_on d f xs = with_state (with_refusals d (unnamed_in d.refusals d.nobody d.before (numbers_of f.marks ++ xs) (length f.marks))) f.state
 
-  abbrev goes_on : Drawing → State → ℕ → List ℤ → Plot → Type 0
+  abbrev goes_on : DrawingAt → State → ℕ → List ℤ → Plot → Type 0
   goes_on d m at xs f = bytes_from (with_state d m) block (drop at block) at ≡ bytes_from (plotted_on d f xs) block (drop f.taken block) f.taken
 
-  plot-bytes : (d : Drawing) (m : State) (bs later : List ℕ) (at r : ℕ) (xs : List ℤ) → Outside m → Every Plain bs → drop at block ≡ bs ++ later
+  plot-bytes : (d : DrawingAt) (m : State) (bs later : List ℕ) (at r : ℕ) (xs : List ℤ) → Outside m → Every Plain bs → drop at block ≡ bs ++ later
       → goes_on d m at xs (plot_from m bs at r)
   unfolding unnamed_in places_of noted_all numbers_of bytes_from went_on refusals_after
   plot-bytes d m [] later at r xs o p e = rw (at-end m at o.idle r) refl
@@ -338,7 +334,7 @@ module _ (block : List ℕ) where
           ∙ ap (λ (q : Refusals). with_state (with_refusals d q) (take_state m b)) (unnamed-at d at b (bs ++ later) (take_number m b) e p u)
 
       by : (take_number m b ≡ 0) ⊎ (take_number m b ≡ unknown)
-          → ((k : Drawing) (q : ℕ) → goes_on k (take_state m b) (at + 1) xs (follows q))
+          → ((k : DrawingAt) (q : ℕ) → goes_on k (take_state m b) (at + 1) xs (follows q))
           → bytes_from (with_state d m) block (b ∷ bs ++ later) at
           ≡ (let f = took (take_number m b) (at + 1) r follows in bytes_from (plotted_on d f xs) block (drop f.taken block) f.taken)
       by (inl z) h =
@@ -412,72 +408,66 @@ module _ (before : ℕ) (numbers : List ℤ) where
 -- ---- how far a block is
 
 -- the bytes before the place `at` are taken, neither a segment nor a reply waits, and what is left follows
-pub record Far (d : Drawing) (block : List ℕ) (machine : Machine) (tally : Tally) (refusals : Refusals) (replies : ℕ) (at : ℕ) : Type 0 where
+pub record Far (d : DrawingAt) (block : List ℕ) (machine : State) (tally : Tally) (refusals : Refusals) (replies : ℕ) (at : ℕ) : Type 0 where
   pub place : at ≤ length block
-  pub usable : Usable machine.state
-  pub free : occupied machine.state.work ≡ false
+  pub free : occupied machine.work ≡ false
   pub follows : bytes_from d block block 0 ≡ bytes_from (gone_to d machine tally refusals replies) block (drop at block) at
 
-module _ (d : Drawing) (block : List ℕ) where
-  pub far-begun : Usable d.machine.state → occupied d.machine.state.work ≡ false → Far d block d.machine d.tally d.refusals d.replies 0
-  far-begun u w = record { place = omega arith; usable = u; free = w; follows = refl }
+module _ (d : DrawingAt) (block : List ℕ) where
+  pub far-begun : occupied d.machine.state.work ≡ false → Far d block d.machine.state d.tally d.refusals d.replies 0
+  far-begun w = record { place = omega arith; free = w; follows = refl }
 
-  pub far-ended : {m : Machine} {t : Tally} {q : Refusals} {n : ℕ} {at : ℕ} → Far d block m t q n at → length block ≤ at
+  pub far-ended : {m : State} {t : Tally} {q : Refusals} {n : ℕ} {at : ℕ} → Far d block m t q n at → length block ≤ at
       → ended_of (gone_to d m t q n) block ≡ block_of d block
   unfolding block_of bytes_from
-  far-ended {m} {t} {q} {n} {at} f h = ap (λ (e : Drawing). ended_of e block) (sym (f.follows ∙ rw (drop_of_length-le block h) refl))
+  far-ended {m} {t} {q} {n} {at} f h = ap (λ (e : DrawingAt). ended_of e block) (sym (f.follows ∙ rw (drop_of_length-le block h) refl))
 
-  module _ {m : Machine} {t : Tally} {q : Refusals} {n : ℕ} {at : ℕ} (f : Far d block m t q n at) where
-    abbrev so_far : Drawing
+  module _ {m : State} {t : Tally} {q : Refusals} {n : ℕ} {at : ℕ} (f : Far d block m t q n at) where
+    abbrev so_far : DrawingAt
     so_far = gone_to d m t q n
 
     -- where the bytes that are left lead
     rest : at + length (drop at block) ≡ length block
     rest = omega (arith, f.place, length-drop at block)
 
-    module _ (r : Ran) (e : r ≡ run_of m.state (drop at block) at) where
+    module _ (r : Run) (e : r ≡ run_of m (drop at block) at) where
       pub ran-place : r.at ≤ length block
-      ran-place = rw e (omega (arith, rest, (run-place m.state (drop at block) at).1))
+      ran-place = rw e (omega (arith, rest, (run-place m (drop at block) at).1))
 
       ran-follows : bytes_from d block block 0 ≡ ran_to block so_far r
-      ran-follows = f.follows ∙ rw e (run-bytes block so_far m.state (drop at block) at f.free refl)
+      ran-follows = f.follows ∙ rw e (run-bytes block so_far m (drop at block) at f.free refl)
 
       pub ran-further : at < length block → at < r.at
-      ran-further h = rw e (run-takes m.state (drop at block) at f.free (omega (arith, rest)))
-
-      pub ran-usable : Usable r.machine.state
-      ran-usable = rw e (run-usable m.state (drop at block) at f.usable)
+      ran-further h = rw e (run-takes m (drop at block) at f.free (omega (arith, rest)))
 
       module _ {j : ℕ} (is : j ≡ judged_of r.number) where
         -- nothing is refused: what waits is drawn, and fetched
-        pub far-drawn : {p : Painted} {k : Replied} → j ≡ 0 → p ≡ drawn_off (waiting r.machine.state.work) r.machine.state t → Usable p.machine.state → waiting p.machine.state.work ≡ 0
-            → k ≡ fetched_off p.machine.state n → Usable k.machine.state → Far d block k.machine p.tally q k.replies r.at
+        pub far-drawn : {p : PaintedAt} {k : RepliedAt} → j ≡ 0 → p ≡ drawn_off (waiting r.state.work) r.state t → Usable p.machine.state → waiting p.machine.state.work ≡ 0
+            → k ≡ fetched_off p.machine.state n → Far d block k.machine.state p.tally q k.replies r.at
         unfolding went_on refusals_after fetched_off
-        far-drawn {p} {k} z e u w g v = record {
+        far-drawn {p} {k} z e u w g = record {
           place = ran-place;
-          usable = v;
           free = rw g (fetched-free p.machine.state u w);
           follows = ran-follows ∙ rw (sym is ∙ z, g, e) refl;
         }
 
         -- the last byte is refused, and the machine is outside an instruction
-        pub ran-outside : (j ≡ 0 → ⊥) → Outside r.machine.state
+        pub ran-outside : (j ≡ 0 → ⊥) → Outside r.state
         ran-outside z = outside (λ h. z (is ∙ h))
           where
-            outside : (judged_of r.number ≡ 0 → ⊥) → Outside r.machine.state
-            outside = rw e (run-outside m.state (drop at block) at)
+            outside : (judged_of r.number ≡ 0 → ⊥) → Outside r.state
+            outside = rw e (run-outside m (drop at block) at)
 
-        pub far-refused : {k : Refusals} → (j ≡ 0 → ⊥) → k ≡ refused_at q d.letters d.nobody d.before block r.at j → Far d block r.machine t k n r.at
+        pub far-refused : {k : Refusals} → (j ≡ 0 → ⊥) → k ≡ refused_at q d.letters d.nobody d.before block r.at j → Far d block r.state t k n r.at
         far-refused z k =
             let o = ran-outside z in
             record {
               place = ran-place;
-              usable = ran-usable;
               free = outside-free o;
               follows =
                   ran-follows
-                  ∙ ap (λ (x : Drawing). bytes_from x block (drop r.at block) r.at)
-                  (ap (went_on so_far block r.machine.state r.at) (sym is) ∙ went-refused block so_far r.machine.state r.at j (outside-free o) z ∙ rw k refl);
+                  ∙ ap (λ (x : DrawingAt). bytes_from x block (drop r.at block) r.at)
+                  (ap (went_on so_far block r.state r.at) (sym is) ∙ went-refused block so_far r.state r.at j (outside-free o) z ∙ rw k refl);
             }
 
     -- bytes without letters, so many, are plotted
@@ -500,18 +490,17 @@ module _ (d : Drawing) (block : List ℕ) where
       pub letters : Every Plain bytes
       letters = rw are (subst (λ (k : ℕ). Every Plain (take k (drop at block))) (sym is) (letterless-plain stretch (drop at block)))
 
-      module _ (room : ℕ) {g : Gathered} (e : g ≡ plotted_of (plot_from m.state bytes at room)) where
+      module _ (room : ℕ) {g : Stopped} (e : g ≡ plotted_of (plot_from m bytes at room)) where
         pub plotted-further : at ≤ g.at
-        plotted-further = rw e (plot-place m.state bytes at room).0
+        plotted-further = rw e (plot-place m bytes at room).0
 
         pub plotted-few : g.stored ≤ room
-        plotted-few = rw e (plot-stored m.state bytes at room)
+        plotted-few = rw e (plot-stored m bytes at room)
 
-        pub far-plotted : Outside m.state → (entry : List ℤ) {k : Refusals}
-            → k ≡ unnamed_in q d.nobody d.before (laid_marks (plot_from m.state bytes at room).marks entry) g.stored → Far d block g.machine t k n g.at
+        pub far-plotted : Outside m → (entry : List ℤ) {k : Refusals}
+            → k ≡ unnamed_in q d.nobody d.before (laid_marks (plot_from m bytes at room).marks entry) g.stored → Far d block g.state t k n g.at
         far-plotted o entry k = record {
-          place = rw e (omega (arith, within, (plot-place m.state bytes at room).1));
-          usable = rw e (plot-usable m.state bytes at room f.usable);
-          free = rw e (outside-free (stretch-refuses m.state bytes at room o (every (λ b. plain-class b) letters)).outside);
-          follows = f.follows ∙ rw (k, e) (plot-bytes block so_far m.state bytes (drop len (drop at block)) at room _ o letters whole);
+          place = rw e (omega (arith, within, (plot-place m bytes at room).1));
+          free = rw e (outside-free (stretch-refuses m bytes at room o (every (λ b. plain-class b) letters)).outside);
+          follows = f.follows ∙ rw (k, e) (plot-bytes block so_far m bytes (drop len (drop at block)) at room _ o letters whole);
         }

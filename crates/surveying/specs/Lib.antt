@@ -1,3 +1,4 @@
+pub mod States
 pub mod Drawing
 pub mod Strokes
 pub mod Laws

@@ -5,10 +5,10 @@ use Rattle.std.proofs.Math.Path.{refl, ap}
 use Rattle.std.proofs.Common.{◌∙◌, arith, drop_of_length-le, drop-cons, drop-drop}
 use Prim.Native.Nat.{ℕ, zero, suc, ◌+◌, ◌≤◌, ◌<◌}
 use Rattle.scanning.specs.Pieces.{piece_of}
-use Rattle.surveying.specs.declared.Watched.{Watched}
+use Rattle.surveying.specs.States.{WatchedAt}
 use Rattle.surveying.specs.Drawing.{piece_done, watched_from}
 
-module _ (k : ℕ) (w : Watched) (block : List ℕ) (at : ℕ) where
+module _ (k : ℕ) (w : WatchedAt) (block : List ℕ) (at : ℕ) where
   pub watched-one : at < length block → let n = piece_of w.mode w.escapes.state (drop at block) in
       watched_from (suc k) w (drop at block) ≡ watched_from k (piece_done w (take n (drop at block))) (drop (at + n) block)
   unfolding watched_from
@@ -29,6 +29,6 @@ module _ (k : ℕ) (w : Watched) (block : List ℕ) (at : ℕ) where
       go zero = refl
       go (suc k) = refl
 
-pub watched-none : (w : Watched) (l : List ℕ) → watched_from 0 w l ≡ w
+pub watched-none : (w : WatchedAt) (l : List ℕ) → watched_from 0 w l ≡ w
 unfolding watched_from
 watched-none w l = refl

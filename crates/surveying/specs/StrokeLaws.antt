@@ -16,21 +16,18 @@ use Rattle.feeding.proofs.DrawOffLaws.{draw-less, free-taken}
 use Rattle.feeding.specs.Feed.{counted}
 use Rattle.feeding.specs.Plot.{Plot, took, plot_from}
 use Rattle.feeding.proofs.PlotLaws.{at-end, at-stuck, at_byte, took-none, took-refused}
+use Rattle.gathering.specs.declared.Stopped.{Stopped}
 use Rattle.gathering.specs.GatherLaws.{free-idle}
 use Rattle.stretches.specs.Stretch.{NoLetter, Outside}
 use Rattle.stretches.proofs.StretchLaws.{outside-free, take-outside, take-unknown}
-use Rattle.machine.specs.declared.Machine.{Machine}
-use Rattle.machine.specs.declared.Ran.{Ran}
-use Rattle.machine.specs.declared.Gathered.{Gathered}
 use Rattle.machine.specs.Gather.{plotted_of}
-use Rattle.machine.specs.Run.{ran_of, run_of}
+use Rattle.machine.specs.Run.{Run, ran_of, run_of}
 use Rattle.counting.specs.declared.refusals.Refusals.{Refusals}
 use Rattle.counting.specs.Names.{letterless}
 use Rattle.repeats.specs.Repeats.{painted_all}
 use Rattle.repeats.specs.Laws.{painted-append, painted-none}
 use Rattle.counting.specs.declared.tally.Tally.{Tally}
-use Rattle.surveying.specs.declared.Drawing.{Drawing}
-use Rattle.surveying.specs.declared.Watched.{Watched}
+use Rattle.surveying.specs.States.{DrawingAt, WatchedAt}
 use Rattle.surveying.specs.Drawing.{waits_of, drawn_off, reply_bytes, fetched_off, went_on, bytes_from, block_of, enter, piece_done, stretch}
 use Rattle.surveying.specs.Laws.{Plain, plain-class, work-waits, silent, run-stays, one_on, Far, bytes, letters, whole}
 use Rattle.surveying.specs.Strokes.{rows_of, drawn_state, strokes_off, strokes_at, settled, state_after, strokes_from}
@@ -68,14 +65,14 @@ pub off-settled : (m : State) (t : Tally) (n : ℕ) → (fetched_off (drawn_off 
 unfolding fetched_off settled
 off-settled m t n = ap (λ (x : State). fetch_state x reply_bytes) (off-state (waiting m.work) m t)
 
-bytes-state : (d : Drawing) (block bs : List ℕ) (at : ℕ) → (bytes_from d block bs at).machine.state ≡ state_after d.machine.state bs
+bytes-state : (d : DrawingAt) (block bs : List ℕ) (at : ℕ) → (bytes_from d block bs at).machine.state ≡ state_after d.machine.state bs
 unfolding bytes_from state_after went_on
 bytes-state d block [] at = refl
 bytes-state d block (b ∷ bs) at =
     let m = take_state d.machine.state b in
     bytes-state (went_on d block m (at + 1) (take_number d.machine.state b)) block bs (at + 1) ∙ ap (λ (x : State). state_after x bs) (off-settled m d.tally d.replies)
 
-pub block-state : (d : Drawing) (block : List ℕ) → (block_of d block).machine.state ≡ state_after d.machine.state block
+pub block-state : (d : DrawingAt) (block : List ℕ) → (block_of d block).machine.state ≡ state_after d.machine.state block
 unfolding block_of
 block-state d block = bytes-state d block block 0
 
@@ -94,8 +91,8 @@ strokes-append m (b ∷ xs) ys =
 
 module _ (block : List ℕ) where
   -- ---- a run
-  abbrev ran_strokes : Ran → List Row
-  ran_strokes r = strokes_at r.machine.state ++ strokes_from (settled r.machine.state) (drop r.at block)
+  abbrev ran_strokes : Run → List Row
+  ran_strokes r = strokes_at r.state ++ strokes_from (settled r.state) (drop r.at block)
 
   -- a byte that leaves the machine m at the place `at`
   leaves : (m : State) (bs : List ℕ) (at n : ℕ) → drop at block ≡ bs → strokes_at m ++ strokes_from (settled m) bs ≡ ran_strokes (ran_of m at n)
@@ -113,7 +110,7 @@ module _ (block : List ℕ) where
       next : drop (at + 1) block ≡ bs
       next = one_on block at b bs e
 
-      goes : Ran → Type 0
+      goes : Run → Type 0
       goes r = strokes_at (take_state m b) ++ strokes_from (settled (take_state m b)) bs ≡ ran_strokes r
 
       later : Type 0
@@ -167,7 +164,7 @@ unfolding strokes_from
 traced-end lines m block at h = rw (drop_of_length-le block h) (painted-none lines)
 
 -- a piece of n bytes is done
-pub traced-piece : (lines : List ℤ) (w : Watched) (block : List ℕ) (at n : ℕ) {k : ℕ} {kept : List ℤ} {v : Watched} → k ≡ n
+pub traced-piece : (lines : List ℤ) (w : WatchedAt) (block : List ℕ) (at n : ℕ) {k : ℕ} {kept : List ℤ} {v : WatchedAt} → k ≡ n
     → kept ≡ painted_all lines (strokes_from w.drawing.machine.state (take k (drop at block))) → v ≡ piece_done w (take k (drop at block))
     → painted_all lines (strokes_from w.drawing.machine.state (drop at block)) ≡ painted_all kept (strokes_from v.drawing.machine.state (drop (at + n) block))
 unfolding piece_done
@@ -182,30 +179,30 @@ traced-piece lines w block at n {k} {kept} {v} e h g =
 
     state : v.drawing.machine.state ≡ state_after m (take n (drop at block))
     state =
-        ap (λ (x : Watched). x.drawing.machine.state) g ∙ block-state (enter w (take k (drop at block))) (take k (drop at block))
+        ap (λ (x : WatchedAt). x.drawing.machine.state) g ∙ block-state (enter w (take k (drop at block))) (take k (drop at block))
         ∙ ap (λ (j : ℕ). state_after m (take j (drop at block))) e
 
-module _ (block : List ℕ) (lines : List ℤ) (m : State) (at : ℕ) (free : occupied m.work ≡ false) {r : Ran} (e : r ≡ run_of m (drop at block) at) where
+module _ (block : List ℕ) (lines : List ℤ) (m : State) (at : ℕ) (free : occupied m.work ≡ false) {r : Run} (e : r ≡ run_of m (drop at block) at) where
   abbrev ahead : List ℤ
   ahead = painted_all lines (strokes_from m (drop at block))
 
   -- a run, and what it leaves to be drawn
-  pub traced-drawn : {kept : List ℤ} {k : State} → kept ≡ painted_all lines (strokes_at r.machine.state) → k ≡ settled r.machine.state
+  pub traced-drawn : {kept : List ℤ} {k : State} → kept ≡ painted_all lines (strokes_at r.state) → k ≡ settled r.state
       → ahead ≡ painted_all kept (strokes_from k (drop r.at block))
   traced-drawn {kept} {k} h g =
       ap (painted_all lines) (run-strokes block m (drop at block) at free refl ∙ ap (ran_strokes block) (sym e))
-      ∙ painted-append lines (strokes_at r.machine.state) (strokes_from (settled r.machine.state) (drop r.at block))
+      ∙ painted-append lines (strokes_at r.state) (strokes_from (settled r.state) (drop r.at block))
       ∙ (λ i. painted_all (sym h i) (strokes_from (sym g i) (drop r.at block)))
 
   -- a run that ends with a refusal
-  pub traced-refused : Outside r.machine.state → ahead ≡ painted_all lines (strokes_from r.machine.state (drop r.at block))
+  pub traced-refused : Outside r.state → ahead ≡ painted_all lines (strokes_from r.state (drop r.at block))
   traced-refused o =
       ap (painted_all lines)
-      (run-strokes block m (drop at block) at free refl ∙ ap (ran_strokes block) (sym e) ∙ quiet-on block r.machine.state (drop r.at block) (outside-free o))
+      (run-strokes block m (drop at block) at free refl ∙ ap (ran_strokes block) (sym e) ∙ quiet-on block r.state (drop r.at block) (outside-free o))
 
 -- bytes without letters are plotted
-module _ (d : Drawing) (block : List ℕ) {m : Machine} {t : Tally} {q : Refusals} {n : ℕ} {at : ℕ} (f : Far d block m t q n at) (len : ℕ) (is : len ≡ letterless stretch (drop at block)) (room : ℕ) {g : Gathered} where
-  pub plotted-strokes : g ≡ plotted_of (plot_from m.state (bytes d block f len is) at room) → Outside m.state
-      → strokes_from m.state (drop at block) ≡ strokes_from g.machine.state (drop g.at block)
+module _ (d : DrawingAt) (block : List ℕ) {m : State} {t : Tally} {q : Refusals} {n : ℕ} {at : ℕ} (f : Far d block m t q n at) (len : ℕ) (is : len ≡ letterless stretch (drop at block)) (room : ℕ) {g : Stopped} where
+  pub plotted-strokes : g ≡ plotted_of (plot_from m (bytes d block f len is) at room) → Outside m
+      → strokes_from m (drop at block) ≡ strokes_from g.state (drop g.at block)
   plotted-strokes e o =
-      rw e (plot-strokes block m.state (bytes d block f len is) (drop len (drop at block)) at room o (letters d block f len is) (whole d block f len is))
+      rw e (plot-strokes block m (bytes d block f len is) (drop len (drop at block)) at room o (letters d block f len is) (whole d block f len is))

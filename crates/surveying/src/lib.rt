@@ -5,8 +5,8 @@
 
 ghost use Rattle.std.specs.Prelude.{false, ◌≡◌, ◌*◌, ◌≤◌, length, take};
 ghost use Rattle.hpgl.specs.Machine.{waiting, occupied};
-ghost use Rattle.hpgl.specs.Valid.{Usable};
 ghost use Rattle.repeats.specs.Repeats.{painted_all};
+ghost use Rattle.surveying.specs.States.{drawing_by, painted_by, replied_by, watched_by};
 ghost use Rattle.surveying.specs.Strokes as T;
 ghost use Rattle.surveying.specs.Drawing as S;
 
@@ -127,8 +127,7 @@ fn traced(lines: &mut [i64], d: Drawn)
 
 // Draws and counts the segments that wait.
 fn drawn_off(first: Machine, before: Tally, lines: &mut [i64]) -> Painted
-    requires { Usable first.state }
-    ensures value { (result ≡ S.drawn_off (waiting first.state.work) first.state before) × Usable result.machine.state × (waiting result.machine.state.work ≡ 0) }
+    ensures value { (painted_by result ≡ S.drawn_off (waiting first.state.work) first.state before) × (waiting result.machine.state.work ≡ 0) }
     ensures lines_after { lines.new ≡ painted_all lines.old (T.strokes_at first.state) }
 {
     let mut machine = first;
@@ -148,8 +147,7 @@ fn drawn_off(first: Machine, before: Tally, lines: &mut [i64]) -> Painted
 
 // Fetches and counts the reply that waits, if one does.
 fn fetched_off(machine: Machine, before: u64) -> Replied
-    requires { Usable machine.state }
-    ensures { (result ≡ S.fetched_off machine.state before) × Usable result.machine.state }
+    ensures { replied_by result ≡ S.fetched_off machine.state before }
 {
     let mut buffer = [0; REPLY];
     let f = machine.fetch(&mut buffer);
@@ -177,6 +175,7 @@ fn judged(number: u8) -> u8
 }
 
 // A byte is refused: it is noted with its name, and its place after so many bytes.
+#[tactic(auto, unfolding(crate::specs::Drawing::refused_at, counting::specs::Refusals::noted_all))]
 fn refused(
     refusals: Refusals,
     letters: Letters,
@@ -236,7 +235,7 @@ fn ended(
     refusals: Refusals,
     replies: u64,
 ) -> Drawing
-    ensures { result ≡ S.ended_of (S.gone_to d machine tally refusals replies) block.now }
+    ensures { drawing_by result ≡ S.ended_of (S.gone_to (drawing_by d) machine.state tally refusals replies) block.now }
 {
     Drawing {
         machine,
@@ -252,8 +251,8 @@ fn ended(
 // A block: the machine runs up to a byte that leaves segments, which are drawn, or a reply, which is fetched, or that is refused. After that it is outside an
 // instruction, and bytes without letters leave nothing but refusals.
 fn block_of(d: Drawing, block: &[u8], lines: &mut [i64]) -> Drawing
-    requires { Usable d.machine.state × (occupied d.machine.state.work ≡ false) }
-    ensures value { (result ≡ S.block_of d block.now) × Usable result.machine.state × (occupied result.machine.state.work ≡ false) }
+    requires { occupied d.machine.state.work ≡ false }
+    ensures value { (drawing_by result ≡ S.block_of (drawing_by d) block.now) × (occupied result.machine.state.work ≡ false) }
     ensures lines_after { lines.new ≡ painted_all lines.old (T.strokes_from d.machine.state block.now) }
 {
     let mut space = records();
@@ -294,8 +293,8 @@ fn block_of(d: Drawing, block: &[u8], lines: &mut [i64]) -> Drawing
 
 // The drawing with a pen in hand, and nothing counted yet.
 fn with_pen(d: Drawing) -> Drawing
-    requires { Usable d.machine.state × (occupied d.machine.state.work ≡ false) }
-    ensures { (result ≡ S.with_pen d) × Usable result.machine.state }
+    requires { occupied d.machine.state.work ≡ false }
+    ensures { drawing_by result ≡ S.with_pen (drawing_by d) }
 {
     Drawing {
         machine: inked(d.machine),
@@ -308,8 +307,8 @@ fn with_pen(d: Drawing) -> Drawing
 
 // What a piece would draw, where no pen is in hand.
 fn lost_in(d: Drawing, piece: &[u8]) -> u64
-    requires { Usable d.machine.state × (occupied d.machine.state.work ≡ false) }
-    ensures { result ≡ S.lost_in d piece.now }
+    requires { occupied d.machine.state.work ≡ false }
+    ensures { result ≡ S.lost_in (drawing_by d) piece.now }
 {
     let seen = d.machine.look();
     if seen.pen == 0 {
@@ -349,7 +348,7 @@ fn byte_name(escape: u8, piece: &[u8]) -> Letters
 
 // The drawing at the beginning of a piece.
 fn entered(d: Drawing, nobody: Letters) -> Drawing
-    ensures { result ≡ S.entered_of d nobody }
+    ensures { drawing_by result ≡ S.entered_of (drawing_by d) nobody }
 {
     Drawing { nobody, ..d }
 }
@@ -363,8 +362,8 @@ fn last(piece: &[u8]) -> u8
 
 // A piece: within it no other pen is taken, and all bytes belong to an escape sequence or none does.
 fn piece_of(w: Watched, piece: &[u8], lines: &mut [i64]) -> Watched
-    requires { Usable w.drawing.machine.state × (occupied w.drawing.machine.state.work ≡ false) }
-    ensures value { (result ≡ S.piece_done w piece.now) × Usable result.drawing.machine.state × (occupied result.drawing.machine.state.work ≡ false) }
+    requires { occupied w.drawing.machine.state.work ≡ false }
+    ensures value { (watched_by result ≡ S.piece_done (watched_by w) piece.now) × (occupied result.drawing.machine.state.work ≡ false) }
     ensures lines_after { lines.new ≡ painted_all lines.old (T.strokes_from w.drawing.machine.state piece.now) }
 {
     let escapes = w.escapes;
@@ -383,8 +382,8 @@ fn piece_of(w: Watched, piece: &[u8], lines: &mut [i64]) -> Watched
 
 // A block, piece by piece.
 fn pieces(w: Watched, block: &[u8], lines: &mut [i64]) -> Watched
-    requires { Usable w.drawing.machine.state × (occupied w.drawing.machine.state.work ≡ false) }
-    ensures value { (result ≡ S.watched_of w block.now) × Usable result.drawing.machine.state × (occupied result.drawing.machine.state.work ≡ false) }
+    requires { occupied w.drawing.machine.state.work ≡ false }
+    ensures value { (watched_by result ≡ S.watched_of (watched_by w) block.now) × (occupied result.drawing.machine.state.work ≡ false) }
     ensures lines_after { lines.new ≡ painted_all lines.old (T.strokes_from w.drawing.machine.state block.now) }
 {
     let mut far = w;
@@ -403,7 +402,6 @@ fn pieces(w: Watched, block: &[u8], lines: &mut [i64]) -> Watched
 
 // Whether the last instruction is open: with one more semicolon something would be painted or refused.
 fn open_end(machine: Machine) -> bool
-    requires { Usable machine.state }
     ensures { result ≡ S.open_end machine.state }
 {
     let t = machine.take(b';');
@@ -414,9 +412,9 @@ fn open_end(machine: Machine) -> bool
 }
 
 // What there is to say of a drawing that has been read, or could not be.
+#[tactic(auto, unfolding(crate::specs::Drawing::finished_of))]
 fn finished(w: Watched, types: Types, unread: bool, lines: &[i64]) -> Surveyed
-    requires { Usable w.drawing.machine.state }
-    ensures { result ≡ S.finished_of w types unread lines.now }
+    ensures { result ≡ S.finished_of (watched_by w) types unread lines.now }
 {
     let d = w.drawing;
     Surveyed {
@@ -435,7 +433,7 @@ fn finished(w: Watched, types: Types, unread: bool, lines: &[i64]) -> Surveyed
 
 // Nothing is read yet.
 fn begun(machine: Machine) -> Watched
-    ensures { result ≡ S.begun_of machine }
+    ensures { watched_by result ≡ S.begun_of machine.state }
 {
     Watched {
         drawing: Drawing {
@@ -461,7 +459,7 @@ pub fn survey(
     input: &[u8],
     source: &mut Stream<Source>,
 ) -> Surveyed
-    requires { Usable machine.state × (occupied machine.state.work ≡ false) }
+    requires { occupied machine.state.work ≡ false }
 {
     let mut block = io::large_buffer();
     let mut lines = [0; ROOM];

@@ -2,7 +2,6 @@
 use mathlib.Core.Path.{◌≡◌}
 use lib.ListN.{length}
 use Rattle.hpgl.specs.Machine.{waiting}
-use Rattle.hpgl.specs.Valid.{Usable}
 use Rattle.repeats.specs.Repeats.{painted_all}
 use Rattle.surveying.specs.Drawing.{drawn_off}
 use Rattle.surveying.specs.Strokes.{strokes_at}
@@ -10,7 +9,7 @@ use Rattle.surveying.proofs.drawn_off.Given as goal
 
 abbrev pub invariant-loop-s : goal.invariant-loop-s
 invariant-loop-s l =
-    (drawn_off (waiting l.initial.machine.state.work) l.initial.machine.state l.initial.tally ≡ drawn_off (waiting l.machine.state.work) l.machine.state l.tally) × Usable l.machine.state
+    (drawn_off (waiting l.initial.machine.state.work) l.initial.machine.state l.initial.tally ≡ drawn_off (waiting l.machine.state.work) l.machine.state l.tally)
     × (length l.lines ≡ length l.initial.lines)
     × (painted_all l.initial.lines (strokes_at l.initial.machine.state) ≡ painted_all l.lines (strokes_at l.machine.state))
 

@@ -5,7 +5,7 @@ use Rattle.hpgl.specs.declared.Look.{Look}
 use Rattle.hpgl.specs.Machine.{occupied, look_at}
 use Rattle.inking.specs.Inked.{inked_state}
 use Rattle.counting.specs.Verdict.{segments_of}
-use Rattle.surveying.specs.declared.Drawing.{Drawing}
+use Rattle.surveying.specs.States.{DrawingAt}
 use Rattle.surveying.specs.Drawing.{lost_in, block_of}
 use Rattle.surveying.proofs.lost_in.Goals as goal
 use Rattle.surveying.proofs.lost_in.Lts
@@ -30,7 +30,7 @@ Then-seen-eq0 = Lts.Then1 Tie.the-claims Reads.Pre Reads.Post Tie.handed_clauses
 pub block_of-drawn-requires : goal.block_of-drawn-requires
 unfolding inked_state
 block_of-drawn-requires c =
-    (c.with_pen.ensures.1, ap (λ (d : Drawing). occupied d.machine.state.work) c.with_pen.ensures.0 ∙ c.requires.1)
+    ap (λ (d : DrawingAt). occupied d.machine.state.work) c.with_pen.ensures ∙ c.requires
 
 -- from what is drawn back to the pen, the test, the look and the start
 abbrev inked-of : After-block_of-drawn → After-with_pen
@@ -55,7 +55,7 @@ returns-then-seen-eq0 c =
     let s = start_of l in
     let pen : l.look-seen.result.pen ≡ s.args.d.machine.state.core.carriage.pen.number = ap (λ (k : Look). k.pen) l.look-seen.ensures in
     rw (eq-eqb s.args.d.machine.state.core.carriage.pen.number 0 (sym pen ∙ t.if-seen-eq0.true))
-    (c.segments.ensures ∙ ap (λ (d : Drawing). segments_of d.tally) (b.block_of-drawn.ensures.value.0 ∙ ap (λ (d : Drawing). block_of d s.args.piece.now) p.with_pen.ensures.0))
+    (c.segments.ensures ∙ ap (λ (d : DrawingAt). segments_of d.tally) (b.block_of-drawn.ensures.value.0 ∙ ap (λ (d : DrawingAt). block_of d s.args.piece.now) p.with_pen.ensures))
 
 pub returns : goal.returns
 unfolding lost_in look_at

@@ -1,8 +1,9 @@
 -- Part by part.
 use mathlib.Core.Path.{◌≡◌, ap, ◌∙◌}
+use Rattle.hpgl.specs.Machine.{occupied}
 use Rattle.console.specs.Sums.{added}
 use Rattle.scanning.specs.Pieces.{mode_after}
-use Rattle.surveying.specs.declared.Drawing.{Drawing}
+use Rattle.surveying.specs.States.{DrawingAt, drawing_by, watched_by}
 use Rattle.surveying.specs.Drawing.{block_of, lost_in, first_of, entered_of, enter, piece_done}
 use Rattle.repeats.specs.Repeats.{painted_all}
 use Rattle.surveying.specs.Strokes.{strokes_from}
@@ -34,11 +35,11 @@ Start = Lts.Start Tie.the-claims Reads.Pre Reads.Post Tie.handed_clauses
 
 pub lost_in-more-requires : goal.lost_in-more-requires
 lost_in-more-requires c =
-    (rw c.entered-d.ensures c.requires.0, rw c.entered-d.ensures c.requires.1)
+    ap (λ (x : DrawingAt). occupied x.machine.state.work) c.entered-d.ensures ∙ c.requires
 
 pub block_of-next-requires : goal.block_of-next-requires
 block_of-next-requires c =
-    (rw c.entered-d.ensures c.requires.0, rw c.entered-d.ensures c.requires.1)
+    ap (λ (x : DrawingAt). occupied x.machine.state.work) c.entered-d.ensures ∙ c.requires
 
 -- from what is drawn back to where the drawing is entered, and to the name
 abbrev entered : After-block_of-next → After-entered-d
@@ -70,10 +71,10 @@ returns c =
     let k = named d in
     let s = start_of k in
     let piece = s.args.piece.now in
-    let is : d.entered-d.result ≡ enter s.args.w piece = d.entered-d.ensures ∙ ap (entered_of s.args.w.drawing) k.byte_name.ensures in
-    let drawn = b.block_of-next.ensures.value.0 ∙ ap (λ (x : Drawing). block_of x piece) is in
+    let is : drawing_by d.entered-d.result ≡ enter (watched_by s.args.w) piece = d.entered-d.ensures ∙ ap (entered_of (drawing_by s.args.w.drawing)) k.byte_name.ensures in
+    let drawn = b.block_of-next.ensures.value.0 ∙ ap (λ (x : DrawingAt). block_of x piece) is in
     let mode = c.mode_after.ensures ∙ ap (mode_after s.args.w.mode) a.last.ensures in
-    let more = l.lost_in-more.ensures ∙ ap (λ (x : Drawing). lost_in x piece) is in
-    let place = p.sum-place.ensures ∙ ap (λ (x : Drawing). added x.before 1) is in
+    let more = l.lost_in-more.ensures ∙ ap (λ (x : DrawingAt). lost_in x piece) is in
+    let place = p.sum-place.ensures ∙ ap (λ (x : DrawingAt). added x.before 1) is in
     let lost = c.sum.ensures ∙ ap (added s.args.w.lost) more in
-    let first = c.first_of.ensures ∙ (λ i. first_of s.args.w.lost s.args.w.first (more i) (place i)) in record { value = ((λ i. record { drawing = drawn i; mode = mode i; escapes = c.escapes_in.ensures i; lost = lost i; first = first i }), b.block_of-next.ensures.value.1, b.block_of-next.ensures.value.2); lines_after = b.block_of-next.ensures.lines_after ∙ ap (λ (x : Drawing). painted_all s.args.lines.now (strokes_from x.machine.state piece)) is }
+    let first = c.first_of.ensures ∙ (λ i. first_of s.args.w.lost s.args.w.first (more i) (place i)) in record { value = ((λ i. record { drawing = drawn i; mode = mode i; escapes = c.escapes_in.ensures i; lost = lost i; first = first i }), b.block_of-next.ensures.value.1); lines_after = b.block_of-next.ensures.lines_after ∙ ap (λ (x : DrawingAt). painted_all s.args.lines.now (strokes_from x.machine.state piece)) is }

@@ -7,7 +7,7 @@ use native.Mathlib.Omega.{arith}
 use lib.ListN.{length, take, drop, length-drop}
 use Rattle.scanning.specs.Pieces.{piece_of}
 use Rattle.scanning.specs.Laws.{piece-within}
-use Rattle.surveying.specs.declared.Watched.{Watched}
+use Rattle.surveying.specs.States.{WatchedAt, watched_by}
 use Rattle.surveying.specs.Drawing.{piece_done, watched_from, watched_of}
 use Rattle.surveying.specs.PieceLaws.{watched-one, watched-end, watched-none}
 use Rattle.surveying.specs.StrokeLaws.{traced-end, traced-piece}
@@ -20,15 +20,15 @@ inside mode escape block at n h e = omega (arith, e, length-drop at block, (piec
 pub loop-turn-init : goal.loop-turn-init
 loop-turn-init c =
     let p : length c.args.block.now - 0 ≡ length c.args.block.now = omega arith in
-    (ap (λ (k : ℕ). watched_from k c.args.w c.args.block.now) (sym p), c.requires.0, c.requires.1, refl, omega arith, refl)
+    (ap (λ (k : ℕ). watched_from k (watched_by c.args.w) c.args.block.now) (sym p), c.requires, refl, omega arith, refl)
 
 pub shape_of-lines-then-block-at : goal.shape_of-lines-then-block-at
-shape_of-lines-then-block-at c = c.loop-turn.invariant.3
+shape_of-lines-then-block-at c = c.loop-turn.invariant.2
 
 pub returns-then-block-at : goal.returns-then-block-at
 unfolding watched_of
 returns-then-block-at c =
-    record { value = (sym (c.loop-turn.invariant.0 ∙ watched-end (length c.args.block.now - c.loop-turn.turn) c.loop-turn.far c.args.block.now c.loop-turn.at c.if-block-at.true), c.loop-turn.invariant.1, c.loop-turn.invariant.2); lines_after = sym (c.loop-turn.invariant.5 ∙ traced-end c.loop-turn.lines c.loop-turn.far.drawing.machine.state c.args.block.now c.loop-turn.at c.if-block-at.true) }
+    record { value = (sym (c.loop-turn.invariant.0 ∙ watched-end (length c.args.block.now - c.loop-turn.turn) (watched_by c.loop-turn.far) c.args.block.now c.loop-turn.at c.if-block-at.true), c.loop-turn.invariant.1); lines_after = sym (c.loop-turn.invariant.4 ∙ traced-end c.loop-turn.lines c.loop-turn.far.drawing.machine.state c.args.block.now c.loop-turn.at c.if-block-at.true) }
 
 pub overflow_add-at : goal.overflow_add-at
 overflow_add-at c =
@@ -41,7 +41,7 @@ slice_bounds-piece_of-end c =
     search (rules, h)
 
 pub piece_of-far-requires : goal.piece_of-far-requires
-piece_of-far-requires c = (c.loop-turn.invariant.1, c.loop-turn.invariant.2)
+piece_of-far-requires c = c.loop-turn.invariant.1
 
 pub overflow_add-at-in-loop-turn : goal.overflow_add-at-in-loop-turn
 overflow_add-at-in-loop-turn c =
@@ -55,7 +55,7 @@ loop-turn-preserved c =
     let p = c.piece_of-far in
     let block = c.args.block.now in
     let at = l.at in
-    let far = l.far in
+    let far = watched_by l.far in
     let size = n.result in
     let fuel = length block - l.turn in
     let left : fuel ≡ suc (fuel - 1) = omega (arith, c.loop-turn-test.true) in
@@ -66,21 +66,20 @@ loop-turn-preserved c =
           ∙ watched-one (fuel - 1) far block at (omega (arith, c.if-block-at.false))
           ∙ (λ i. watched_from (fuel - 1) (piece_done far (take (sym n.ensures i) (drop at block))) (drop (at + sym n.ensures i) block))
           ∙ ap (λ (k : ℕ). watched_from (fuel - 1) (piece_done far (take k (drop at block))) (drop (at + size) block)) (sym all)
-          ∙ ap (λ (r : Watched). watched_from (fuel - 1) r (drop (at + size) block)) (sym p.ensures.value.0)
-          ∙ ap (λ (k : ℕ). watched_from k p.result (drop (at + size) block)) next,
+          ∙ ap (λ (r : WatchedAt). watched_from (fuel - 1) r (drop (at + size) block)) (sym p.ensures.value.0)
+          ∙ ap (λ (k : ℕ). watched_from k (watched_by p.result) (drop (at + size) block)) next,
       p.ensures.value.1,
-      p.ensures.value.2,
-      p.auto.lines ∙ l.invariant.3,
-      omega (arith, l.invariant.4, c.loop-turn-test.true, n.ensures, some),
-      l.invariant.5 ∙ traced-piece l.lines far block at size all p.ensures.lines_after p.ensures.value.0,
+      p.auto.lines ∙ l.invariant.2,
+      omega (arith, l.invariant.3, c.loop-turn-test.true, n.ensures, some),
+      l.invariant.4 ∙ traced-piece l.lines far block at size all p.ensures.lines_after p.ensures.value.0,
     )
 
 pub shape_of-lines : goal.shape_of-lines
-shape_of-lines c = c.loop-turn.invariant.3
+shape_of-lines c = c.loop-turn.invariant.2
 
 pub returns : goal.returns
 unfolding watched_of
 returns c =
     let z : length c.args.block.now - c.loop-turn.turn ≡ 0 = omega arith in
     let rest = drop c.loop-turn.at c.args.block.now in
-    record { value = (sym (c.loop-turn.invariant.0 ∙ ap (λ (k : ℕ). watched_from k c.loop-turn.far rest) z ∙ watched-none c.loop-turn.far rest), c.loop-turn.invariant.1, c.loop-turn.invariant.2); lines_after = sym (c.loop-turn.invariant.5 ∙ traced-end c.loop-turn.lines c.loop-turn.far.drawing.machine.state c.args.block.now c.loop-turn.at (omega (arith, z, c.loop-turn.invariant.4))) }
+    record { value = (sym (c.loop-turn.invariant.0 ∙ ap (λ (k : ℕ). watched_from k (watched_by c.loop-turn.far) rest) z ∙ watched-none (watched_by c.loop-turn.far) rest), c.loop-turn.invariant.1); lines_after = sym (c.loop-turn.invariant.4 ∙ traced-end c.loop-turn.lines c.loop-turn.far.drawing.machine.state c.args.block.now c.loop-turn.at (omega (arith, z, c.loop-turn.invariant.3))) }

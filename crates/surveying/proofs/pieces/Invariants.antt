@@ -4,7 +4,7 @@ use mathlib.Core.Bool.{false}
 use Prim.Native.Nat.{◌+◌, ◌-◌, ◌≤◌}
 use lib.ListN.{length, drop}
 use Rattle.hpgl.specs.Machine.{occupied}
-use Rattle.hpgl.specs.Valid.{Usable}
+use Rattle.surveying.specs.States.{watched_by}
 use Rattle.surveying.specs.Drawing.{watched_from}
 use Rattle.repeats.specs.Repeats.{painted_all}
 use Rattle.surveying.specs.Strokes.{strokes_from}
@@ -12,7 +12,7 @@ use Rattle.surveying.proofs.pieces.Given as goal
 
 abbrev pub invariant-loop-turn : goal.invariant-loop-turn
 invariant-loop-turn l =
-    (watched_from (length l.block) l.initial.far l.block ≡ watched_from (length l.block - l.turn) l.far (drop l.at l.block)) × Usable l.far.drawing.machine.state × (occupied l.far.drawing.machine.state.work ≡ false)
+    (watched_from (length l.block) (watched_by l.initial.far) l.block ≡ watched_from (length l.block - l.turn) (watched_by l.far) (drop l.at l.block)) × (occupied l.far.drawing.machine.state.work ≡ false)
     × (length l.lines ≡ length l.initial.lines)
     × (length l.block ≤ l.at + (length l.block - l.turn))
     × (painted_all l.initial.lines (strokes_from l.initial.far.drawing.machine.state l.block) ≡ painted_all l.lines (strokes_from l.far.drawing.machine.state (drop l.at l.block)))
