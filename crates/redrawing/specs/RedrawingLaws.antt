@@ -4,7 +4,8 @@ use Rattle.std.specs.Prelude.{true, false, ◌&&◌, List, [], ◌∷◌, ◌++�
 use Rattle.std.proofs.Math.Path.{refl, ap}
 use Rattle.std.proofs.Common.{sym, ◌∙◌, zero-add, add-one, ne_eqb, eq-eqb, length-append, append-nil, append_assoc}
 use Prim.Native.Char.{code}
-use Prim.Native.Nat.{ℕ, zero, suc, ◌+◌, ◌/◌, ◌≤◌, ◌<◌}
+use Prim.Native.Nat.{ℕ, zero, suc, ◌+◌, ◌/◌, ◌-◌, ◌≤◌, ◌<◌}
+use Rattle.std.proofs.Math.Nat.{sub-zero}
 use native.Mathlib.Omega.{arith}
 use Rattle.std.proofs.Math.ListN.{length, drop_of_length-le}
 use Rattle.std.proofs.Math.Seq.{drop-cons}
@@ -134,6 +135,23 @@ module _ (numbers : List ℤ) where
   pub numbers-nth : (i : ℕ) → i < length (strokes_in numbers) → nth (strokes_in numbers) i ≡ stroke_at numbers i
   unfolding strokes_in
   numbers-nth i h = from-nth 0 (length numbers / 5) i (omega (arith, h, numbers-long)) ∙ ap (stroke_at numbers) (zero-add i)
+
+-- those of a list of numbers that are left from the i-th on
+module _ (numbers : List ℤ) where
+  abbrev pub left : ℕ → List Stroke
+  left i = strokes_from numbers i (length numbers / 5 - i)
+
+  pub left-all : left 0 ≡ strokes_in numbers
+  unfolding strokes_in
+  left-all = ap (strokes_from numbers 0) (sub-zero (length numbers / 5))
+
+  pub left-none : {i : ℕ} → length numbers / 5 ≤ i → left i ≡ []
+  unfolding strokes_from
+  left-none {i} h = let e : length numbers / 5 - i ≡ 0 = omega arith in ap (strokes_from numbers i) e
+
+  pub left-some : {i : ℕ} → i < length numbers / 5 → left i ≡ stroke_at numbers i ∷ left (i + 1)
+  unfolding strokes_from
+  left-some {i} h = let e : length numbers / 5 - i ≡ suc (length numbers / 5 - (i + 1)) = omega arith in ap (strokes_from numbers i) e
 
 -- ---- how far the text is put: what is put, `done`, and what is left of the strokes from the i-th on are the text
 

@@ -37,7 +37,7 @@ use Rattle.gathering.specs.GatherLaws.{free-idle, idle-free, reply-held}
 use Rattle.stretches.proofs.StretchLaws.{outside-free, take-outside, take-unknown, refused-outside, stretch-refuses}
 use Rattle.machine.specs.Gather.{plotted_of}
 use Rattle.machine.specs.Run.{Run, ran_of, run_of}
-use Rattle.machine.specs.RunLaws.{run-place, run-takes}
+use Rattle.machine.specs.RunLaws.{run-place, run-takes, run-usable}
 use Rattle.console.specs.Sums.{added}
 use Rattle.counting.specs.declared.refusals.Refusals.{Refusals}
 use Rattle.counting.specs.declared.tally.Tally.{Tally}
@@ -433,6 +433,9 @@ module _ (d : DrawingAt) (block : List ℕ) where
     module _ (r : Run) (e : r ≡ run_of m (drop at block) at) where
       pub ran-place : r.at ≤ length block
       ran-place = rw e (omega (arith, rest, (run-place m (drop at block) at).1))
+
+      pub ran-usable : Usable m → Usable r.state
+      ran-usable u = rw e (run-usable m (drop at block) at u)
 
       ran-follows : bytes_from d block block 0 ≡ ran_to block so_far r
       ran-follows = f.follows ∙ rw e (run-bytes block so_far m (drop at block) at f.free refl)
