@@ -1,6 +1,5 @@
 -- By the places.
-use mathlib.Core.Path.{refl, sym, ap, ◌∙◌}
-use Rattle.surveying.specs.Drawing.{unnamed_in}
+use mathlib.Core.Path.{sym, ap, ◌∙◌}
 use lib.ListN.{length}
 use Rattle.surveying.specs.Laws.{places_count}
 use Rattle.surveying.proofs.unnamed.Goals as goal
