@@ -146,6 +146,7 @@ fn drawn_off(first: Machine, before: Tally, lines: &mut [i64]) -> Painted
 }
 
 // Fetches and counts the reply that waits, if one does.
+#[tactic(auto, unfolding(crate::specs::Drawing::fetched_off, machine::specs::Calls::fetched_from))]
 fn fetched_off(machine: Machine, before: u64) -> Replied
     ensures { replied_by result ≡ S.fetched_off machine.state before }
 {
@@ -212,6 +213,7 @@ fn places(numbers: &[i64], count: usize, before: u64) -> [u64; STRETCH]
 }
 
 // The refusals of a stretch: no letter, nobody's name.
+#[tactic(auto, unfolding(crate::specs::Drawing::unnamed_in))]
 fn unnamed(
     refusals: Refusals,
     nobody: Letters,
@@ -306,6 +308,7 @@ fn with_pen(d: Drawing) -> Drawing
 }
 
 // What a piece would draw, where no pen is in hand.
+#[tactic(auto, unfolding(crate::specs::Drawing::lost_in, hpgl::specs::Machine::look_at, inking::specs::Inked::inked_state))]
 fn lost_in(d: Drawing, piece: &[u8]) -> u64
     requires { occupied d.machine.state.work ≡ false }
     ensures { result ≡ S.lost_in (drawing_by d) piece.now }
@@ -361,6 +364,7 @@ fn last(piece: &[u8]) -> u8
 }
 
 // A piece: within it no other pen is taken, and all bytes belong to an escape sequence or none does.
+#[tactic(auto, unfolding(crate::specs::Drawing::piece_done))]
 fn piece_of(w: Watched, piece: &[u8], lines: &mut [i64]) -> Watched
     requires { occupied w.drawing.machine.state.work ≡ false }
     ensures value { (watched_by result ≡ S.piece_done (watched_by w) piece.now) × (occupied result.drawing.machine.state.work ≡ false) }
@@ -401,6 +405,7 @@ fn pieces(w: Watched, block: &[u8], lines: &mut [i64]) -> Watched
 }
 
 // Whether the last instruction is open: with one more semicolon something would be painted or refused.
+#[tactic(auto, unfolding(crate::specs::Drawing::open_end, machine::specs::Calls::taken_of))]
 fn open_end(machine: Machine) -> bool
     ensures { result ≡ S.open_end machine.state }
 {

@@ -107,9 +107,6 @@ loop-at-preserved c =
           ∙ ap (painted_all l.lines) (plotted-strokes d block f n.result n.ensures _ g.ensures.value o),
     )
 
-pub shape_of-lines : goal.shape_of-lines
-shape_of-lines c = c.loop-at.invariant.2
-
 pub returns : goal.returns
 returns c =
     let l = c.loop-at in

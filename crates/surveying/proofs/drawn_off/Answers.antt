@@ -1,6 +1,6 @@
 -- What is left to draw comes to the same, and each draw leaves fewer.
 use mathlib.Core.Bool.{true, false}
-use mathlib.Core.Path.{◌≡◌, refl, sym, ap, ◌∙◌, subst}
+use mathlib.Core.Path.{◌≡◌, sym, ap, ◌∙◌, subst}
 use Prim.Native.Nat.{◌<◌}
 use Rattle.hpgl.specs.Machine.{waiting, draw_state, draw_answer}
 use Rattle.hpgl.specs.Segment.{segment_of}
@@ -13,12 +13,6 @@ use Rattle.surveying.specs.Laws.{off-draw, off-idle, draw-fewer, idle-segment}
 use Rattle.surveying.specs.Strokes.{rows_of, strokes_at}
 use Rattle.surveying.specs.StrokeLaws.{strokes-draw, strokes-idle}
 use Rattle.surveying.proofs.drawn_off.Goals as goal
-
-pub loop-s-init : goal.loop-s-init
-loop-s-init c = (refl, refl, refl)
-
-pub shape_of-lines-then-not-waits : goal.shape_of-lines-then-not-waits
-shape_of-lines-then-not-waits c = c.loop-s.invariant.1
 
 pub returns-then-not-waits : goal.returns-then-not-waits
 returns-then-not-waits c =

@@ -22,9 +22,6 @@ loop-turn-init c =
     let p : length c.args.block.now - 0 ≡ length c.args.block.now = omega arith in
     (ap (λ (k : ℕ). watched_from k (watched_by c.args.w) c.args.block.now) (sym p), c.requires, refl, omega arith, refl)
 
-pub shape_of-lines-then-block-at : goal.shape_of-lines-then-block-at
-shape_of-lines-then-block-at c = c.loop-turn.invariant.2
-
 pub returns-then-block-at : goal.returns-then-block-at
 unfolding watched_of
 returns-then-block-at c =
@@ -39,9 +36,6 @@ pub slice_bounds-piece_of-end : goal.slice_bounds-piece_of-end
 slice_bounds-piece_of-end c =
     let h = inside c.loop-turn.far.mode c.loop-turn.far.escapes.state c.args.block.now c.loop-turn.at c.piece-n.result (omega (arith, c.if-block-at.false)) c.piece-n.ensures in
     search (rules, h)
-
-pub piece_of-far-requires : goal.piece_of-far-requires
-piece_of-far-requires c = c.loop-turn.invariant.1
 
 pub overflow_add-at-in-loop-turn : goal.overflow_add-at-in-loop-turn
 overflow_add-at-in-loop-turn c =
@@ -73,9 +67,6 @@ loop-turn-preserved c =
       omega (arith, l.invariant.3, c.loop-turn-test.true, n.ensures, some),
       l.invariant.4 ∙ traced-piece l.lines far block at size all p.ensures.lines_after p.ensures.value.0,
     )
-
-pub shape_of-lines : goal.shape_of-lines
-shape_of-lines c = c.loop-turn.invariant.2
 
 pub returns : goal.returns
 unfolding watched_of

@@ -19,9 +19,6 @@ sized f e = e ∙ ap nat_abs (arg w64 f).is
 pub loop-i-init : goal.loop-i-init
 loop-i-init c = placed-begun c.args.before c.args.numbers.now c.args.count _ (search rules)
 
-pub bounds-list-i : goal.bounds-list-i
-bounds-list-i c = omega arith
-
 pub loop-i-preserved : goal.loop-i-preserved
 loop-i-preserved c =
     let z = sized {z = get_or c.args.numbers.now (c.loop-i.i * 5 + 2) (pos 0)} (search rules) c.size.ensures in

@@ -1,6 +1,5 @@
 -- By the places.
-use mathlib.Core.Path.{refl, sym, ap, ◌∙◌}
-use Rattle.surveying.specs.Drawing.{unnamed_in}
+use mathlib.Core.Path.{sym, ap, ◌∙◌}
 use lib.ListN.{length}
 use Rattle.surveying.specs.Laws.{places_count}
 use Rattle.surveying.proofs.unnamed.Goals as goal
@@ -8,8 +7,3 @@ use Rattle.surveying.proofs.unnamed.Goals as goal
 pub slice_bounds-noted-end : goal.slice_bounds-noted-end
 slice_bounds-noted-end c =
     sym (ap length c.places-list.ensures ∙ places_count c.args.before c.args.numbers.now c.args.count)
-
-pub returns : goal.returns
-unfolding unnamed_in
-returns c =
-    rw (c.noted.ensures, c.places-list.ensures) refl
