@@ -25,7 +25,8 @@ pub struct Fed {
     pub number: u8,
 }
 
-// The next strokes to store, `count` of them from the start of `list` on. With them feed has got to `fed`, and if there is more it goes on from there.
+// The next strokes to store, `count` of them from the start of `list` on. With them feed has got to `fed`, and if there is more it goes on from there:
+// a flag and no Option, since `fed` is told in either case.
 #[derive(Clone, Copy)]
 pub struct Batch {
     pub count: usize,

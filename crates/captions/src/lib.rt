@@ -12,7 +12,7 @@ use std::fmt::Write;
 use words::{harmless, of_kind};
 
 // A whole input, or what could be read and written of it: what is painted, what was refused, how often, how many moves among it, and how much that changes the
-// drawing; how many bytes were read, and whether the rest could not be.
+// drawing; how many bytes were read, and whether the rest could not be: a flag and no Result, since all else is told in either case.
 #[derive(Clone, Copy)]
 pub struct Painted {
     pub inks: Inks,

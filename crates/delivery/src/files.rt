@@ -15,7 +15,7 @@ use streams::{Source, Stream};
 // A proved loop has to end: this one reads so many blocks of at most 64 KB, which no file uses up.
 const BLOCKS: u64 = 0x800000000000;
 
-// Where the lines go.
+// Where the lines go: two ways, each with its file.
 #[derive(Drop)]
 pub enum Sink {
     // to standard output
@@ -73,6 +73,7 @@ fn deliver_block(
     ensures leaves { Leaves started.state tally.new.read tally.new.handed block.now result }
 {
     let mut p = begun(machine, before);
+    // a while: how much text a block makes, its plots tell
     while p.more {
         p = fill(p, block, text);
         if !hand(started, block, &text[..p.length], sink, tally) {

@@ -17,6 +17,7 @@ pub fn feed(machine: Machine, bytes: &[u8], out: &mut [Stroke]) -> Fed
     ensures out_after { out.new ≡ laid (feed_of machine.state bytes.now (length out.old)).strokes out.old }
 {
     let mut b = begin(machine);
+    // a while: how far a batch gets, its strokes tell
     while b.more {
         b = next_batch(b.fed, bytes, out.len());
         let end = b.fed.stored;

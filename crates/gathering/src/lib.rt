@@ -268,7 +268,7 @@ fn carried(store: Store, edges: u8, count: u8, a: Action) -> Remade
 
 // Draws while a segment waits, else takes bytes up to the next that means something, up to the last, or one with no room for what it may leave.
 // The line of a pair is drawn at once where there is a record for it. A byte that is refused ends it, or it goes on with the refusal stored.
-// An event that is carried out ends its turn; what is left below is a refusal.
+// An event that is carried out ends its turn; what is left below is a refusal. Whether it goes on is a flag and no closure: it says as well whether a refusal has a record.
 pub fn gather(m: State, bytes: &[u8], from: usize, numbers: &mut [i64], on: bool) -> Stopped
     requires { Valid m }
     ensures { S.Gathers (S.gather_from on m (drop from bytes.now) from (length numbers.old / 5)) numbers.old numbers.new result }

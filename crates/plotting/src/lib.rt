@@ -22,7 +22,7 @@ const NUMBERS: usize = MARKS * 5;
 const MOST: usize = MARKS * LONGEST + MOST_REPLY;
 
 // How far the printing of a block is: the machine; the bytes of the blocks before; the place in this one; the bytes of text in the buffer, which
-// is lent anew for each part; and whether some of the block is still to be printed.
+// is lent anew for each part; and whether some of the block is still to be printed, a flag, since the rest is told in either case.
 #[derive(Clone, Copy)]
 pub struct Plot {
     pub machine: Machine,
@@ -109,6 +109,7 @@ pub fn fill(p: Plot, block: &[u8], text: &mut [u8]) -> Plot
     let mut space = records();
     let numbers: &mut [i64] = &mut space;
     let mut q = p;
+    // a while: how far a plot gets, its marks tell
     while q.more && MOST <= text.len() - q.length {
         q = step(q, block, numbers, text);
     }

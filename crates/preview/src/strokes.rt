@@ -29,7 +29,8 @@ const REPLY: usize = 37;
 const CROSSES: u64 = 40;
 
 // How far the drawing is: the machine, the bytes before the block and their last letters, the place in it, what is painted, what was refused, how often, how many
-// moves among it, and how much that changes the drawing, whether the carriage is astray, whether some of the block is left, and the picture.
+// moves among it, and how much that changes the drawing, whether the carriage is astray, whether some of the block is left (a flag, since all else is told in
+// either case), and the picture.
 #[derive(Clone, Copy)]
 struct Drawing {
     machine: Machine,

@@ -1,6 +1,7 @@
 // The machine's state written out as numbers, and read back. A caller in another language keeps it between two calls as 129 rows of five.
 // The crate saved says which number stands where (Saved.antt), and proves that what is written is read back (SavedLaws.antt).
 // Functions and no From: a row is of the crate rows, and what it is made of is of hpgl and reader; an impl would have to stand in one of those.
+// Rows that look alike stay functions of their own: `saved` has a definition for each, which the contract of each is.
 #![tactic(auto)]
 
 ghost use Rattle.std.specs.Prelude.{◌≡◌, length};

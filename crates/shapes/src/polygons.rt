@@ -127,6 +127,7 @@ fn pm1_in(c: Core) -> Acted
     refuse(c, POLYGON_FULL)
 }
 
+// pm1 and pm2 are a test each before what differs: a function for both would take the rest as a closure, for one `if`.
 #[tactic(auto, unfolding(hpgl::specs::Rules::pm1))]
 fn pm1(c: Core) -> Acted
     requires { ValidCore c }

@@ -1,5 +1,6 @@
 // Whether a list of numbers is a machine: each row is tested, so that a program may hand in any list.
 // The crate wellformed says what is tested (Sound.antt), and that just the lists pass that save writes of a machine (SoundLaws.antt).
+// Tests of rows that look alike stay functions of their own, and take their rows one by one: so has Sound.antt a definition for each.
 #![tactic(auto)]
 
 ghost use Rattle.std.specs.Prelude.{◌≡◌, length};

@@ -79,7 +79,7 @@ struct Watched {
 }
 
 // A whole input: what is counted and refused, lines painted twice, escape sequences that are broken off, replies, line types with numbers, lines without a
-// pen, whether its last instruction is open, and whether some of it could not be read.
+// pen, whether its last instruction is open, and whether some of it could not be read: a flag and no Result, since all else is told in either case.
 #[derive(Clone, Copy)]
 pub struct Surveyed {
     pub tally: Tally,
@@ -132,6 +132,7 @@ fn drawn_off(first: Machine, before: Tally, lines: &mut [i64]) -> Painted
 {
     let mut machine = first;
     let mut tally = before;
+    // no for: what waits tells when it is drawn
     loop {
         let s = machine.segment();
         if !waits(s) {
@@ -267,6 +268,7 @@ fn block_of(d: Drawing, block: &[u8], lines: &mut [i64]) -> Drawing
     let mut refusals = d.refusals;
     let mut replies = d.replies;
     let mut at = 0;
+    // a while: how far a run gets, the machine tells
     while at < block.len() {
         let r = machine.run(block, at);
         machine = r.machine;
