@@ -23,7 +23,8 @@ const NUMBERS: usize = MARKS * 5;
 const MOST: usize = MARKS * LONGEST + MOST_REPLY;
 
 // How far the printing of a block is: the machine; the bytes of the blocks before; the place in this one; the bytes of text in the buffer, which
-// is lent anew for each part; and whether some of the block is still to be printed.
+// is lent anew for each part; and whether some of the block is still to be printed: a flag and no Option, since
+// the machine goes on to the next block.
 #[derive(Clone, Copy)]
 pub struct Plot {
     pub machine: Machine,
