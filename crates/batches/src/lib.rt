@@ -16,7 +16,7 @@ const MOST: usize = 64;
 // The numbers of a stroke: pen and ends.
 const NUMBERS: usize = 5;
 
-// The answer: the next machine, bytes taken, strokes stored, and 01's number (0 for none).
+// The answer: the next machine, bytes taken, strokes stored, and 01's number (0 for none), a number as gather answers it.
 #[derive(Clone, Copy)]
 pub struct Fed {
     pub machine: Machine,
@@ -25,8 +25,8 @@ pub struct Fed {
     pub number: u8,
 }
 
-// The next strokes to store, `count` of them from the start of `list` on. With them feed has got to `fed`, and if there is more it goes on from there:
-// a flag and no Option, since `fed` is told in either case.
+// The next strokes to store, `count` of them from the start of `list` on: an array, since there is no heap. With them feed has got to `fed`, and if there is more it goes on
+// from there: a flag and no Option, since `fed` is the answer where there is no more.
 #[derive(Clone, Copy)]
 pub struct Batch {
     pub count: usize,
@@ -67,7 +67,7 @@ pub fn begin(machine: Machine) -> Batch
     }
 }
 
-// Stroke i of a list of numbers.
+// Stroke i of a list of numbers, which gather stored: so no pen is judged, as redrawing does of numbers that were lent.
 #[tactic(auto, unfolding(crate::specs::Records::stroke_at))]
 fn stroke_at(numbers: &[i64], i: usize) -> Stroke
     requires { (i * 5 + 5 ≤ length numbers.now) × PenAt numbers.now i }

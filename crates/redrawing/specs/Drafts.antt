@@ -16,7 +16,7 @@ use Rattle.redrawn.specs.declared.Refusal.{Refusal}
 use Rattle.redrawn.specs.declared.Refusal.TheVariants.{NotWritable, TooShort}
 use Rattle.redrawn.specs.Redrawn.{not_writable, too_short, start_text, text_of, fits_in, number_of, written_of, length_in, number_in, refusal_number, output_of, writable, all_writable, stroke_text, strokes_text}
 use Rattle.redrawn.proofs.FirstStroke.{text-from, text-long}
-use Rattle.redrawn.specs.RedrawnLaws.{answer-told}
+use Rattle.redrawn.proofs.Answered.{answer-told}
 use Rattle.redrawing.specs.RedrawingLaws.{not_written, no_room, all-written, puts-front}
 
 -- ---- the steps

@@ -1,3 +1,4 @@
+pub mod Answered
 pub mod RoundTripProof
 pub mod FewRecords
 pub mod Refused

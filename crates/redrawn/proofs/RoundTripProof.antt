@@ -24,7 +24,8 @@ use Rattle.feeding.specs.Feed.{Feed, stop, feed_from, feed_of}
 use Rattle.feeding.proofs.FeedLaws.{at-end}
 use Rattle.feeding.proofs.PartsOfFeed.{store_all}
 use Rattle.redrawn.specs.Redrawn.{number_of, written_of, length_in, output_of, all_writable, start_text, pen_text, line_text, change_text, stroke_text, strokes_text, text_of}
-use Rattle.redrawn.specs.RedrawnLaws.{Writable, writable-is, writable-first, answer-told}
+use Rattle.redrawn.specs.RedrawnLaws.{Writable, writable-is, writable-first}
+use Rattle.redrawn.proofs.Answered.{answer-told}
 use Rattle.redrawn.proofs.FirstStroke.{text-from}
 use Rattle.redrawn.specs.Numerals.{kept}
 use Rattle.redrawn.specs.Reading.{Always, always-none, always-then, reads-start, reads-pen, reads_up, reads-down, pair}

@@ -1,11 +1,11 @@
 -- Laws of the text: which strokes can be written, and how long a number's text is.
-use Rattle.std.specs.Prelude.{Bool, true, false, cond, ◌&&◌, List, [], ◌∷◌, ◌≡◌, refl, ℕ, ◌+◌, ◌≤◌, leb, eqb, ℤ, nat_abs, length}
+use Rattle.std.specs.Prelude.{Bool, true, false, ◌&&◌, List, [], ◌∷◌, ◌≡◌, refl, ℕ, ◌+◌, ◌≤◌, leb, ℤ, nat_abs, length}
 use Rattle.std.proofs.Common.{true≢false, sym, arith, leb-true, length-append}
 use Rattle.exact.specs.Int16.{int16}
 use Rattle.decimals.specs.Decimal.{decimal, natural, sign, whole}
 use Rattle.hpgl.specs.declared.Stroke.{Stroke}
 use Rattle.hpgl.specs.Numbers.{most_pen}
-use Rattle.redrawn.specs.Redrawn.{is_pen, writable, all_writable, text_of, fits_in, number_of, written_of, length_in, number_in}
+use Rattle.redrawn.specs.Redrawn.{is_pen, writable, all_writable}
 
 -- ---- what can be written
 
@@ -49,17 +49,3 @@ natural-long n byte = length-append (decimal n) (byte ∷ [])
 pub whole_long : (z : ℤ) (byte : ℕ) → length (whole z byte) ≡ length (sign z) + length (decimal (nat_abs z)) + 1
 unfolding whole
 whole_long z byte = omega (arith, length-append (sign z) (natural (nat_abs z) byte), natural-long (nat_abs z) byte)
-
--- ---- the answer as two numbers
-
-module _ (ss : List Stroke) (room : ℕ) where
-  answer-by : (a b : Bool) → all_writable ss ≡ a → fits_in ss room ≡ b →
-      (number_in (written_of ss room) ≡ number_of ss room) × (length_in (written_of ss room) ≡ cond (eqb (number_of ss room) 0) (length (text_of ss)) 0)
-  unfolding number_of written_of
-  answer-by true true e f = rw (e, f) (refl, refl)
-  answer-by true false e f = rw (e, f) (refl, refl)
-  answer-by false b e f = rw e (refl, refl)
-
-  -- the number of the answer, and its bytes: none where it has one
-  pub answer-told : (number_in (written_of ss room) ≡ number_of ss room) × (length_in (written_of ss room) ≡ cond (eqb (number_of ss room) 0) (length (text_of ss)) 0)
-  answer-told = answer-by (all_writable ss) (fits_in ss room) refl refl
