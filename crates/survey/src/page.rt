@@ -24,7 +24,10 @@ fn title(out: &mut Text<'_>, hard: Rect, scale: u8) -> fmt::Result {
         "A unit is 0.025 mm on paper: 40 are a millimetre. The length of a stroke is the root of dx * dx + dy * dy,"
     )?;
     writeln!(out, " to a tenth of a unit,")?;
-    writeln!(out, "rounded to the nearest. Metres are those on the ice.\n")?;
+    writeln!(
+        out,
+        "rounded to the nearest. Metres are those on the ice.\n"
+    )?;
     writeln!(out, " pen       strokes           units        metres")
 }
 
@@ -181,11 +184,7 @@ fn refused(out: &mut Text<'_>, r: Refusals) -> fmt::Result {
         group(out, g)?;
     }
     if r.others > 0 {
-        writeln!(
-            out,
-            "  and {} more, of other names or numbers",
-            r.others
-        )?;
+        writeln!(out, "  and {} more, of other names or numbers", r.others)?;
     }
     writeln!(out)
 }
