@@ -4,7 +4,6 @@
 
 ghost use Rattle.std.specs.Prelude.{false, ◌≡◌};
 ghost use Rattle.hpgl.specs.Machine.{occupied};
-ghost use Rattle.hpgl.specs.Valid.{Usable};
 
 use arguments::desk::{asked, ready, refused, word_at};
 use machine::Machine;
@@ -17,7 +16,7 @@ use surveying::{Surveyed, survey};
 
 // Surveys the input. A file in the place of standard input is told by its name.
 fn named(rt: &HostRuntime, machine: Machine, file: usize, source: &mut Stream<Source>) -> Surveyed
-    requires { Usable machine.state × (occupied machine.state.work ≡ false) }
+    requires { occupied machine.state.work ≡ false }
 {
     if file == 0 {
         return survey(rt, machine, b"standard input", source);
