@@ -1,4 +1,5 @@
--- A drawing as the definitions speak of it: of the machine there is the state alone, for the machine itself holds a proof beside it. The other fields are the code's.
+-- A drawing as the definitions speak of it: of the machine there is the state alone. The machine itself holds a proof beside it, and two machines with one state are one
+-- (machine-is, crate machine). The other fields are those of the structs of the code, by the same names.
 use Rattle.std.specs.Prelude.{ℕ}
 use Rattle.hpgl.specs.declared.State.{State}
 use Rattle.counting.specs.declared.names.Letters.{Letters}
