@@ -3,13 +3,13 @@
 #![tactic(auto)]
 
 ghost use Rattle.std.specs.Prelude.{◌≡◌};
-ghost use Rattle.counting.specs.Tally.{for_pen};
 ghost use Rattle.noting.specs.Inks.{no_inks, dot_count, inked_of, inks_of};
 ghost use Rattle.noting.specs.Refusals.{refuses, refused_of};
 
 use console::sum;
 use counting::names::{Letters, name_of, no_letters};
 use counting::refusals::{Refusals, noted};
+use counting::tally::for_pen;
 use drive::ends_equal;
 use hpgl::Stroke;
 use measure::length;
@@ -43,28 +43,14 @@ fn dot_count(s: Stroke) -> u64
     u64::from(ends_equal(s))
 }
 
-// So much more for a pen.
-#[tactic(auto, unfolding(counting::specs::Tally::for_pen))]
-fn at_pen(list: [u64; 9], pen: u8, more: u64) -> [u64; 9]
-    ensures { result ≡ for_pen list pen more }
-{
-    let mut changed = list;
-    if pen < 9 {
-        let k = usize::from(pen);
-        changed[k] = sum(changed[k], more);
-        return changed;
-    }
-    changed
-}
-
 // One stroke more.
 fn inked(i: Inks, s: Stroke) -> Inks
     ensures { result ≡ inked_of i s }
 {
     Inks {
         dots: sum(i.dots, dot_count(s)),
-        strokes: at_pen(i.strokes, s.pen, 1),
-        lengths: at_pen(i.lengths, s.pen, length(s.x0, s.y0, s.x1, s.y1)),
+        strokes: for_pen(i.strokes, s.pen, 1),
+        lengths: for_pen(i.lengths, s.pen, length(s.x0, s.y0, s.x1, s.y1)),
     }
 }
 

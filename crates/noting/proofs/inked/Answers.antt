@@ -17,4 +17,4 @@ returns c =
     let y1 : SFits w64 c.args.s.y1 = search rules in
     let far : c.length.result ≡ tenths_of (squares c.args.s.x0 c.args.s.y0 c.args.s.x1 c.args.s.y1) =
     c.length.ensures ∙ (λ i. tenths_of (squares ((arg w64 x0).is i) ((arg w64 y0).is i) ((arg w64 x1).is i) ((arg w64 y1).is i))) in
-    rw (c.at_pen-2.ensures, far, c.at_pen.ensures, c.sum.ensures, c.dot_count.ensures)
+    rw (c.for_pen-2.ensures, far, c.for_pen.ensures, c.sum.ensures, c.dot_count.ensures)
