@@ -60,12 +60,13 @@ pub enum Next {
 }
 
 // What the words so far ask for: an outcome, with the word that made it; what the next word is; how many limits were given, and the limits; the scale, and
-// whether it was given, as without it there is one too; and the word that names a file, 0 for standard input.
+// whether it was given, as without it there is one too; and the word that names a file, 0 for standard input. A request comes from
+// begun, taken and ended alone.
 #[derive(Clone, Copy)]
 pub struct Request {
-    pub outcome: Outcome,
+    outcome: Outcome,
     pub at: usize,
-    pub next: Next,
+    next: Next,
     pub given: u8,
     pub limits: Rect,
     pub scale: u8,

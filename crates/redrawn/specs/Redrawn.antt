@@ -83,9 +83,13 @@ abbrev pub refusal_number : Refusal → ℕ
 refusal_number NotWritable = not_writable
 refusal_number TooShort = too_short
 
+-- the answer by its number: so many bytes, or why none are
+abbrev pub answered_by : ℕ → ℕ → Result ℕ Refusal
+answered_by number n = cond (eqb number 0) (Ok n) (cond (eqb number too_short) (Err TooShort) (Err NotWritable))
+
 -- the answer: bytes written, or why none are
 unfoldable pub written_of : List Stroke → ℕ → Result ℕ Refusal
-written_of ss room = cond (all_writable ss) (cond (fits_in ss room) (Ok (length (text_of ss))) (Err TooShort)) (Err NotWritable)
+written_of ss room = answered_by (number_of ss room) (length (text_of ss))
 
 -- an answer as two numbers: bytes written, and 02's number
 abbrev pub length_in : Result ℕ Refusal → ℕ

@@ -22,10 +22,10 @@ pub enum Name {
     Number,
 }
 
-// Line types that have numbers: how far a name is read, and how many there are.
+// Line types that have numbers: how far a name is read, and how many there are. They come from no_types and types_in alone.
 #[derive(Clone, Copy)]
 pub struct Types {
-    pub mode: Name,
+    mode: Name,
     pub count: u64,
 }
 
