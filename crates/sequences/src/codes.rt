@@ -164,6 +164,7 @@ fn put_braces<'a>(codes: &mut Codes, text: &'a [u8]) -> &'a [u8]
 pub fn written_out(text: &[u8]) -> Codes {
     let mut codes = Codes::new();
     let mut rest = text;
+    // no for: a code is as many bytes as it has, some of them braces
     while let Some((byte, next)) = rest.split_first() {
         rest = match *byte {
             b'\\' => put_escape(&mut codes, next),
