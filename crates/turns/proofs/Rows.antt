@@ -1,5 +1,5 @@
--- For the code that reads a turn's table, `rows_of`, `turned` and `turned_back`, and for `turned_by`, which has it in a struct: the four numbers as the code has
--- them, what `along` asks of two of them, a row or a column, and what it makes of them.
+-- For the code that reads a turn's table, `rows_of`: the four numbers as the code has them; and what `along` asks of two of them, a row or a column, and what it
+-- makes of them.
 use mathlib.Core.Path.{◌≡◌, ◌∙◌}
 use mathlib.Core.List.{List, []}
 use Prim.Native.Nat.{ℕ, ◌<◌, ◌^◌}
