@@ -4,6 +4,8 @@ ghost use Rattle.std.specs.List.{take_while};
 ghost use Rattle.std.specs.Option.{is_some};
 ghost use Rattle.counting.specs.Names as S;
 
+use console::rest;
+
 // Two letters: the last two before a place, or a name.
 #[derive(Clone, Copy, PartialEq, Eq)]
 pub struct Letters {
@@ -53,9 +55,8 @@ fn letter_before(bytes: &[u8], at: usize) -> Option<u8>
 fn before_letter(bytes: &[u8], from: usize, most: usize) -> usize
     ensures { result ≡ length (take_while (λ b. not (is_some (S.seen (S.letter_of b)))) (take most (drop from bytes.now))) }
 {
-    bytes
+    rest(bytes, from)
         .iter()
-        .skip(from)
         .take(most)
         .take_while(|b| letter(**b).is_none())
         .count()

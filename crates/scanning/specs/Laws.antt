@@ -8,7 +8,6 @@ use Rattle.scanning.specs.Escapes.{after, one_more, escapes_from}
 use Rattle.scanning.specs.Pieces.{stops, up_to, one_at_least, piece_of}
 use Rattle.scanning.specs.Types.{type_after, types_from}
 use Rattle.scanning.specs.Types as T
-use Rattle.scanning.specs.declared.Name.{Name}
 
 module _ (text : List ℕ) (i : ℕ) where
   pub stop-here : i < length text → stops (get_or text i 0) ≡ true → up_to (drop i text) ≡ 0
@@ -33,7 +32,7 @@ module _ (text : List ℕ) (i : ℕ) where
     unfolding escapes_from
     escapes-end h = rw (drop_of_length-le text h) refl
 
-  module _ (mode : Name) (count : ℕ) where
+  module _ (mode count : ℕ) where
     pub types-one : i < length text
         → types_from mode count (drop i text) ≡ types_from (type_after mode (get_or text i 0)) (T.one_more count (type_after mode (get_or text i 0))) (drop (i + 1) text)
     unfolding types_from

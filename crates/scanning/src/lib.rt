@@ -6,26 +6,17 @@ ghost use Rattle.std.specs.List.{take_while};
 ghost use Rattle.scanning.specs.Pieces as P;
 ghost use Rattle.scanning.specs.Types as T;
 
-use console::sum;
+use console::{rest, sum};
 use escapes::ESC;
 use numerals::bytes::{Class, class_of};
 
 pub mod escapes;
 
-// How far a name is read: no letter of it; a first letter other than L; an L; LT, and blanks; the first byte of LT's first number.
-#[derive(Clone, Copy)]
-pub enum Name {
-    Outside,
-    First,
-    L,
-    Lt,
-    Number,
-}
-
-// Line types that have numbers: how far a name is read, and how many there are. They come from no_types and types_in alone.
+// Line types that have numbers: how far a name is read, and how many there are. How far is a number and no enum, since types_in answers for every one of them
+// (docs/CONTRACTS.md). 0: no letter of it. 1: a first letter other than L. 2: an L. 3: LT, and blanks. 4: the first byte of LT's first number.
 #[derive(Clone, Copy)]
 pub struct Types {
-    mode: Name,
+    pub mode: u8,
     pub count: u64,
 }
 
@@ -73,7 +64,7 @@ fn stops(byte: u8) -> bool
 fn up_to_stop(bytes: &[u8], from: usize) -> usize
     ensures { result ≡ length (take_while (λ b. not (P.stops b)) (drop from bytes.now)) }
 {
-    bytes.iter().skip(from).take_while(|b| !stops(**b)).count()
+    rest(bytes, from).iter().take_while(|b| !stops(**b)).count()
 }
 
 // How many bytes the next piece has: many where neither an SP nor an escape sequence is open.
@@ -90,84 +81,81 @@ pub fn piece(mode: u8, escape: u8, bytes: &[u8], from: usize) -> usize
 pub fn no_types() -> Types
     ensures { result ≡ T.no_types }
 {
-    Types {
-        mode: Name::Outside,
-        count: 0,
-    }
+    Types { mode: 0, count: 0 }
 }
 
 // How far a name is read after its first letter, and after its second.
 #[tactic(auto, unfolding(crate::specs::Types::first_letter))]
-fn first_letter(letter: u8) -> Name
+fn first_letter(letter: u8) -> u8
     ensures { result ≡ T.first_letter letter }
 {
     if letter == b'L' {
-        return Name::L;
+        return 2;
     }
-    Name::First
+    1
 }
 
 #[tactic(auto, unfolding(crate::specs::Types::second_letter))]
-fn second_letter(letter: u8) -> Name
+fn second_letter(letter: u8) -> u8
     ensures { result ≡ T.second_letter letter }
 {
     if letter == b'T' {
-        return Name::Lt;
+        return 3;
     }
-    Name::Outside
+    0
 }
 
 #[tactic(auto, unfolding(crate::specs::Types::letter_after))]
-fn letter_after(mode: Name, letter: u8) -> Name
+fn letter_after(mode: u8, letter: u8) -> u8
     ensures { result ≡ T.letter_after mode letter }
 {
     match mode {
-        Name::First => Name::Outside,
-        Name::L => second_letter(letter),
-        Name::Outside | Name::Lt | Name::Number => first_letter(letter),
+        1 => 0,
+        2 => second_letter(letter),
+        _ => first_letter(letter),
     }
 }
 
 // After LT: a blank changes nothing, and a number is its first.
 #[tactic(auto, unfolding(crate::specs::Types::blank_after))]
-fn blank_after(mode: Name) -> Name
+fn blank_after(mode: u8) -> u8
     ensures { result ≡ T.blank_after mode }
 {
     match mode {
-        Name::Lt => Name::Lt,
-        _ => Name::Outside,
+        3 => 3,
+        _ => 0,
     }
 }
 
 #[tactic(auto, unfolding(crate::specs::Types::number_after))]
-fn number_after(mode: Name) -> Name
+fn number_after(mode: u8) -> u8
     ensures { result ≡ T.number_after mode }
 {
     match mode {
-        Name::Lt => Name::Number,
-        _ => Name::Outside,
+        3 => 4,
+        _ => 0,
     }
 }
 
 #[tactic(auto, unfolding(crate::specs::Types::type_after, crate::specs::Types::class_after))]
-fn type_after(mode: Name, byte: u8) -> Name
+fn type_after(mode: u8, byte: u8) -> u8
     ensures { result ≡ T.type_after mode byte }
 {
     match class_of(byte) {
         Class::Blank => blank_after(mode),
         Class::Letter(letter) => letter_after(mode, letter),
         Class::Digit(_) | Class::Sign(_) | Class::Point => number_after(mode),
-        Class::Semicolon | Class::Other => Name::Outside,
+        Class::Semicolon | Class::Other => 0,
     }
 }
 
 // One more, where the first number of a line type begins.
 #[tactic(auto, unfolding(crate::specs::Types::one_more))]
-fn one_more(count: u64, mode: Name) -> u64
+fn one_more(count: u64, mode: u8) -> u64
     ensures { result ≡ T.one_more count mode }
 {
     match mode {
-        Name::Number => sum(count, 1),
+        4 => sum(count, 1),
         _ => count,
     }
 }
