@@ -5,7 +5,6 @@ use Rattle.exact.specs.Int16.{int16}
 use Rattle.hpgl.specs.Trace.{bytes, bytes_from}
 use Rattle.textlines.specs.Word.{is_digit, value_from, digits_of, whole_of}
 use Rattle.arguments.specs.Names.{same, sheet_named}
-use Rattle.arguments.specs.declared.Outcome.{Outcome}
 use Rattle.arguments.specs.Request as R
 
 -- no words
@@ -36,7 +35,7 @@ unfolding R.asked_of R.words_from R.ended_of R.taken_of R.option_of R.plain_of R
 hockey = refl
 
 -- what a list comes to, and the word that decides
-abbrev decides : List (List ℕ) → Outcome × ℕ
+abbrev decides : List (List ℕ) → ℕ × ℕ
 decides words = ((R.asked_of words).outcome, (R.asked_of words).at)
 
 -- the second word is wrong, whatever follows

@@ -9,64 +9,82 @@ use Rattle.hpgl.specs.Trace.{bytes}
 use Rattle.textlines.specs.Word.{whole_of}
 use Rattle.arguments.specs.declared.Wrong.{Wrong}
 use Rattle.arguments.specs.declared.Wrong.TheVariants as wrong
-use Rattle.arguments.specs.declared.Outcome.{Outcome}
-use Rattle.arguments.specs.declared.Outcome.TheVariants as outcome
-use Rattle.arguments.specs.declared.Next.{Next}
-use Rattle.arguments.specs.declared.Next.TheVariants as next
 use Rattle.arguments.specs.declared.Request.{Request}
 use Rattle.arguments.specs.Names.{same, sheet_named}
 
 -- ---- outcomes: a run, a text that is asked for, or why a word is wrong
 
-abbrev pub run : Outcome
-run = outcome.Run
+abbrev pub run : ℕ
+run = 0
 
-abbrev pub help : Outcome
-help = outcome.Help
+abbrev pub help : ℕ
+help = 1
 
-abbrev pub version : Outcome
-version = outcome.Version
+abbrev pub version : ℕ
+version = 2
 
 -- begins with a minus and is no option, or is empty or too long
-abbrev pub unknown : Outcome
-unknown = outcome.Wrong wrong.Unknown
+abbrev pub unknown : ℕ
+unknown = 3
 
 -- a limit is a number of 16 bits
-abbrev pub out_of_range : Outcome
-out_of_range = outcome.Wrong wrong.OutOfRange
+abbrev pub out_of_range : ℕ
+out_of_range = 4
 
 -- the right is above the left, the top above the bottom
-abbrev pub not_above : Outcome
-not_above = outcome.Wrong wrong.NotAbove
+abbrev pub not_above : ℕ
+not_above = 5
 
-abbrev pub no_sheet : Outcome
-no_sheet = outcome.Wrong wrong.NoSheet
+abbrev pub no_sheet : ℕ
+no_sheet = 6
 
-abbrev pub no_scale : Outcome
-no_scale = outcome.Wrong wrong.NoScale
+abbrev pub no_scale : ℕ
+no_scale = 7
 
 -- limits, scale or file are given already
-abbrev pub again : Outcome
-again = outcome.Wrong wrong.Again
+abbrev pub again : ℕ
+again = 8
 
 -- the word after it is missing
-abbrev pub missing : Outcome
-missing = outcome.Wrong wrong.Missing
+abbrev pub missing : ℕ
+missing = 9
 
 -- one, two or three limits
-abbrev pub fewer : Outcome
-fewer = outcome.Wrong wrong.Fewer
+abbrev pub fewer : ℕ
+fewer = 10
+
+-- the outcome that tells why a word is wrong
+abbrev pub told : Wrong → ℕ
+told wrong.Unknown = unknown
+told wrong.OutOfRange = out_of_range
+told wrong.NotAbove = not_above
+told wrong.NoSheet = no_sheet
+told wrong.NoScale = no_scale
+told wrong.Again = again
+told wrong.Missing = missing
+told wrong.Fewer = fewer
+
+-- what an outcome tells of a word: of a number that none has, that there is no such option
+unfoldable pub tells : ℕ → Wrong
+tells n =
+    cond (eqb n out_of_range) wrong.OutOfRange (
+    cond (eqb n not_above) wrong.NotAbove (
+    cond (eqb n no_sheet) wrong.NoSheet (
+    cond (eqb n no_scale) wrong.NoScale (
+    cond (eqb n again) wrong.Again (
+    cond (eqb n missing) wrong.Missing (
+    cond (eqb n fewer) wrong.Fewer wrong.Unknown))))))
 
 -- ---- what the next word is
 
-abbrev pub anything : Next
-anything = next.Anything
+abbrev pub anything : ℕ
+anything = 0
 
-abbrev pub a_sheet : Next
-a_sheet = next.Sheet
+abbrev pub a_sheet : ℕ
+a_sheet = 1
 
-abbrev pub a_scale : Next
-a_scale = next.Scale
+abbrev pub a_scale : ℕ
+a_scale = 2
 
 -- ---- no word yet
 
@@ -80,9 +98,9 @@ begun_of = record { outcome = run; at = 0; next = anything; given = 0; limits = 
 
 -- ---- one part changed by the word at a place
 
-abbrev pub decided_of : Request → ℕ → Outcome → Request
-decided_of r at why = record {
-  outcome = why;
+abbrev pub decided_of : Request → ℕ → ℕ → Request
+decided_of r at outcome = record {
+  outcome = outcome;
   at = at;
   next = r.next;
   given = r.given;
@@ -92,11 +110,11 @@ decided_of r at why = record {
   file = r.file;
 }
 
-abbrev pub expecting_of : Request → ℕ → Next → Request
-expecting_of r at word = record {
+abbrev pub expecting_of : Request → ℕ → ℕ → Request
+expecting_of r at next = record {
   outcome = r.outcome;
   at = at;
-  next = word;
+  next = next;
   given = r.given;
   limits = r.limits;
   scale = r.scale;
@@ -145,7 +163,7 @@ filed_of r at = record {
 -- what the code answers of a word at a place: a request, or why the word is wrong
 abbrev pub settled : Request → ℕ → Result Request Wrong → Request
 settled r at (Ok next) = next
-settled r at (Err why) = decided_of r at (outcome.Wrong why)
+settled r at (Err why) = decided_of r at (told why)
 
 -- the third limit is above the first
 unfoldable pub right_of : Request → ℕ → ℤ → Request
@@ -221,35 +239,20 @@ option_of r at word =
     cond (same word (bytes "--scale")) (scale_option r at) (plain_of r at word))))
 
 -- the next word, by what it is
-abbrev pub word_of : Next → Request → ℕ → List ℕ → Request
-word_of next.Anything r at word = option_of r at word
-word_of next.Sheet r at word = sheet_of r at word
-word_of next.Scale r at word = scale_of r at word
-
--- where nothing is decided yet it goes on
-abbrev pub going : Outcome → Request → Request → Request
-going outcome.Run on r = on
-going outcome.Help on r = r
-going outcome.Version on r = r
-going (outcome.Wrong why) on r = r
+abbrev pub word_of : ℕ → Request → ℕ → List ℕ → Request
+word_of next r at word = cond (eqb next a_sheet) (sheet_of r at word) (cond (eqb next a_scale) (scale_of r at word) (option_of r at word))
 
 -- The word at a place, counted from 1. The first word that asks for a text or is wrong decides, whatever follows it.
 unfoldable pub taken_of : Request → ℕ → List ℕ → Request
-taken_of r at word = going r.outcome (word_of r.next r at word) r
+taken_of r at word = cond (eqb r.outcome run) (word_of r.next r at word) r
 
 -- limits are none or four
 abbrev pub whole_limits : Request → Request
 whole_limits r = cond (eqb r.given 0) r (cond (eqb r.given 4) r (decided_of r r.at fewer))
 
--- an option waits for no word
-abbrev pub none_waits : Next → Request → Request
-none_waits next.Anything r = whole_limits r
-none_waits next.Sheet r = decided_of r r.at missing
-none_waits next.Scale r = decided_of r r.at missing
-
 -- No word is left: an option waits for none, and limits are none or four.
 unfoldable pub ended_of : Request → Request
-ended_of r = going r.outcome (none_waits r.next r) r
+ended_of r = cond (eqb r.outcome run) (cond (eqb r.next anything) (whole_limits r) (decided_of r r.at missing)) r
 
 -- ---- all words
 

@@ -2,7 +2,7 @@
 // has the program's own name.
 ghost use Rattle.std.specs.Prelude.{◌≤◌, length};
 
-use super::{Outcome, Request, Wrong, begun, ended, taken};
+use super::{HELP, RUN, Request, VERSION, Wrong, begun, ended, taken};
 use std::env::{Env, FillError};
 use std::io::{Write as _, writer};
 use streams::{Source, Stream, number_of, open, standard, tell, write_all};
@@ -124,13 +124,13 @@ fn opened(rt: &HostRuntime, program: &[u8], file: usize) -> Option<Stream<Source
 // The input of the program, where it is to run; where not, all is said.
 pub fn ready(rt: &HostRuntime, program: &[u8], about: &[u8], r: Request) -> Option<Stream<Source>> {
     match r.outcome {
-        Outcome::Run => return opened(rt, program, r.file),
-        Outcome::Help => help(rt, program, about),
-        Outcome::Version => {
+        RUN => return opened(rt, program, r.file),
+        HELP => help(rt, program, about),
+        VERSION => {
             print(rt, program);
             print(rt, b" of Vutaroi 0.1.0\n");
         }
-        Outcome::Wrong(why) => wrong(rt, program, r.at, why),
+        outcome => wrong(rt, program, r.at, Wrong::of(outcome)),
     }
     None
 }

@@ -42,31 +42,79 @@ impl fmt::Display for Wrong {
     }
 }
 
-// What the words come to: a run, a text that is asked for, or a word that is wrong.
-#[derive(Clone, Copy, Debug, PartialEq, Eq)]
-pub enum Outcome {
-    Run,
-    Help,
-    Version,
-    Wrong(Wrong),
+// Outcomes: a run, a text that is asked for, or why a word is wrong. Numbers and no enum, as is what the next word is: taken and ended answer for every one of
+// them (docs/CONTRACTS.md).
+pub const RUN: u8 = 0;
+
+pub const HELP: u8 = 1;
+
+pub const VERSION: u8 = 2;
+
+pub const UNKNOWN: u8 = 3;
+
+pub const OUT_OF_RANGE: u8 = 4;
+
+pub const NOT_ABOVE: u8 = 5;
+
+pub const NO_SHEET: u8 = 6;
+
+pub const NO_SCALE: u8 = 7;
+
+pub const AGAIN: u8 = 8;
+
+pub const MISSING: u8 = 9;
+
+pub const FEWER: u8 = 10;
+
+impl Wrong {
+    // The outcome that tells it.
+    pub fn outcome(self) -> u8
+        ensures { result ≡ S.told self }
+    {
+        match self {
+            Wrong::Unknown => UNKNOWN,
+            Wrong::OutOfRange => OUT_OF_RANGE,
+            Wrong::NotAbove => NOT_ABOVE,
+            Wrong::NoSheet => NO_SHEET,
+            Wrong::NoScale => NO_SCALE,
+            Wrong::Again => AGAIN,
+            Wrong::Missing => MISSING,
+            Wrong::Fewer => FEWER,
+        }
+    }
+
+    // What an outcome tells of a word.
+    #[tactic(auto, unfolding(crate::specs::Request::tells))]
+    pub fn of(outcome: u8) -> Wrong
+        ensures { result ≡ S.tells outcome }
+    {
+        match outcome {
+            OUT_OF_RANGE => Wrong::OutOfRange,
+            NOT_ABOVE => Wrong::NotAbove,
+            NO_SHEET => Wrong::NoSheet,
+            NO_SCALE => Wrong::NoScale,
+            AGAIN => Wrong::Again,
+            MISSING => Wrong::Missing,
+            FEWER => Wrong::Fewer,
+            _ => Wrong::Unknown,
+        }
+    }
 }
 
 // What the next word is.
-#[derive(Clone, Copy, Debug, PartialEq, Eq)]
-pub enum Next {
-    Anything,
-    Sheet,
-    Scale,
-}
+const ANYTHING: u8 = 0;
+
+const A_SHEET: u8 = 1;
+
+const A_SCALE: u8 = 2;
 
 // What the words so far ask for: an outcome, with the word that made it; what the next word is; how many limits were given, and the limits; the scale, and
-// whether it was given, as without it there is one too; and the word that names a file, 0 for standard input. A request comes from
-// begun, taken and ended alone.
+// whether it was given, as without it there is one too; and the word that names a file, 0 for standard input.
 #[derive(Clone, Copy)]
 pub struct Request {
-    outcome: Outcome,
+    pub outcome: u8,
     pub at: usize,
-    next: Next,
+    pub next: u8,
     pub given: u8,
     pub limits: Rect,
     pub scale: u8,
@@ -79,9 +127,9 @@ pub fn begun() -> Request
     ensures { result ≡ S.begun_of }
 {
     Request {
-        outcome: Outcome::Run,
+        outcome: RUN,
         at: 0,
-        next: Next::Anything,
+        next: ANYTHING,
         given: 0,
         limits: Rect {
             left: -10000,
@@ -96,14 +144,14 @@ pub fn begun() -> Request
 }
 
 // The word at a place decides.
-fn decided(r: Request, at: usize, outcome: Outcome) -> Request
+fn decided(r: Request, at: usize, outcome: u8) -> Request
     ensures { result ≡ S.decided_of r at outcome }
 {
     Request { outcome, at, ..r }
 }
 
 // After an option.
-fn expecting(r: Request, at: usize, next: Next) -> Request
+fn expecting(r: Request, at: usize, next: u8) -> Request
     ensures { result ≡ S.expecting_of r at next }
 {
     Request { at, next, ..r }
@@ -115,7 +163,7 @@ fn bounded(r: Request, at: usize, limits: Rect, given: u8) -> Request
 {
     Request {
         at,
-        next: Next::Anything,
+        next: ANYTHING,
         given,
         limits,
         ..r
@@ -127,7 +175,7 @@ fn scaled(r: Request, at: usize, scale: u8) -> Request
 {
     Request {
         at,
-        next: Next::Anything,
+        next: ANYTHING,
         scale,
         scaled: true,
         ..r
@@ -301,7 +349,7 @@ fn sheet_option(r: Request, at: usize) -> Result<Request, Wrong>
     ensures { S.settled r at result ≡ S.sheet_option r at }
 {
     if r.given == 0 {
-        return Ok(expecting(r, at, Next::Sheet));
+        return Ok(expecting(r, at, A_SHEET));
     }
     Err(Wrong::Again)
 }
@@ -314,7 +362,7 @@ fn scale_option(r: Request, at: usize) -> Result<Request, Wrong>
     if r.scaled {
         return Err(Wrong::Again);
     }
-    Ok(expecting(r, at, Next::Scale))
+    Ok(expecting(r, at, A_SCALE))
 }
 
 // A word after which no other is expected.
@@ -323,10 +371,10 @@ fn option(r: Request, at: usize, word: &[u8]) -> Result<Request, Wrong>
     ensures { S.settled r at result ≡ S.option_of r at word.now }
 {
     if same(word, b"--help") {
-        return Ok(decided(r, at, Outcome::Help));
+        return Ok(decided(r, at, HELP));
     }
     if same(word, b"--version") {
-        return Ok(decided(r, at, Outcome::Version));
+        return Ok(decided(r, at, VERSION));
     }
     if same(word, b"--sheet") {
         return sheet_option(r, at);
@@ -342,9 +390,9 @@ fn word_of(r: Request, at: usize, word: &[u8]) -> Result<Request, Wrong>
     ensures { S.settled r at result ≡ S.word_of r.next r at word.now }
 {
     match r.next {
-        Next::Anything => option(r, at, word),
-        Next::Sheet => sheet(r, at, word),
-        Next::Scale => scale(r, at, word),
+        A_SHEET => sheet(r, at, word),
+        A_SCALE => scale(r, at, word),
+        _ => option(r, at, word),
     }
 }
 
@@ -353,12 +401,12 @@ fn word_of(r: Request, at: usize, word: &[u8]) -> Result<Request, Wrong>
 pub fn taken(r: Request, at: usize, word: &[u8]) -> Request
     ensures { result ≡ S.taken_of r at word.now }
 {
-    let Outcome::Run = r.outcome else {
+    if r.outcome != RUN {
         return r;
-    };
+    }
     match word_of(r, at, word) {
         Ok(next) => next,
-        Err(why) => decided(r, at, Outcome::Wrong(why)),
+        Err(why) => decided(r, at, why.outcome()),
     }
 }
 
@@ -368,7 +416,7 @@ fn whole_limits(r: Request) -> Request
 {
     match r.given {
         0 | 4 => r,
-        _ => decided(r, r.at, Outcome::Wrong(Wrong::Fewer)),
+        _ => decided(r, r.at, FEWER),
     }
 }
 
@@ -377,11 +425,11 @@ fn whole_limits(r: Request) -> Request
 pub fn ended(r: Request) -> Request
     ensures { result ≡ S.ended_of r }
 {
-    let Outcome::Run = r.outcome else {
+    if r.outcome != RUN {
         return r;
-    };
-    match r.next {
-        Next::Anything => whole_limits(r),
-        Next::Sheet | Next::Scale => decided(r, r.at, Outcome::Wrong(Wrong::Missing)),
     }
+    if r.next != ANYTHING {
+        return decided(r, r.at, MISSING);
+    }
+    whole_limits(r)
 }
