@@ -30,7 +30,7 @@ use Rattle.feeding.specs.DrawOff.{untaken}
 use Rattle.feeding.proofs.DrawOffLaws.{draw-less, held_number, held-state, free-taken}
 use Rattle.feeding.specs.Feed.{counted}
 use Rattle.feeding.specs.Plot.{Plot, took, plot_from, numbers_of, laid_marks}
-use Rattle.feeding.proofs.PlotLaws.{at-end, at-stuck, at_byte, took-none, took-refused, plot-place, plot-stored}
+use Rattle.feeding.proofs.PlotLaws.{at-end, at-stuck, at_byte, took-none, took-refused, plot-place, plot-stored, plot-usable}
 use Rattle.stretches.specs.Stretch.{is_letter, NoLetter, Outside}
 use Rattle.gathering.specs.declared.Stopped.{Stopped}
 use Rattle.gathering.specs.GatherLaws.{free-idle, idle-free, reply-held}
@@ -410,12 +410,13 @@ module _ (before : ℕ) (numbers : List ℤ) where
 -- the bytes before the place `at` are taken, neither a segment nor a reply waits, and what is left follows
 pub record Far (d : DrawingAt) (block : List ℕ) (machine : State) (tally : Tally) (refusals : Refusals) (replies : ℕ) (at : ℕ) : Type 0 where
   pub place : at ≤ length block
+  pub usable : Usable machine
   pub free : occupied machine.work ≡ false
   pub follows : bytes_from d block block 0 ≡ bytes_from (gone_to d machine tally refusals replies) block (drop at block) at
 
 module _ (d : DrawingAt) (block : List ℕ) where
-  pub far-begun : occupied d.machine.state.work ≡ false → Far d block d.machine.state d.tally d.refusals d.replies 0
-  far-begun w = record { place = omega arith; free = w; follows = refl }
+  pub far-begun : Usable d.machine.state → occupied d.machine.state.work ≡ false → Far d block d.machine.state d.tally d.refusals d.replies 0
+  far-begun u w = record { place = omega arith; usable = u; free = w; follows = refl }
 
   pub far-ended : {m : State} {t : Tally} {q : Refusals} {n : ℕ} {at : ℕ} → Far d block m t q n at → length block ≤ at
       → ended_of (gone_to d m t q n) block ≡ block_of d block
@@ -434,8 +435,8 @@ module _ (d : DrawingAt) (block : List ℕ) where
       pub ran-place : r.at ≤ length block
       ran-place = rw e (omega (arith, rest, (run-place m (drop at block) at).1))
 
-      pub ran-usable : Usable m → Usable r.state
-      ran-usable u = rw e (run-usable m (drop at block) at u)
+      pub ran-usable : Usable r.state
+      ran-usable = rw e (run-usable m (drop at block) at f.usable)
 
       ran-follows : bytes_from d block block 0 ≡ ran_to block so_far r
       ran-follows = f.follows ∙ rw e (run-bytes block so_far m (drop at block) at f.free refl)
@@ -446,10 +447,11 @@ module _ (d : DrawingAt) (block : List ℕ) where
       module _ {j : ℕ} (is : j ≡ judged_of r.number) where
         -- nothing is refused: what waits is drawn, and fetched
         pub far-drawn : {p : PaintedAt} {k : RepliedAt} → j ≡ 0 → p ≡ drawn_off (waiting r.state.work) r.state t → Usable p.machine.state → waiting p.machine.state.work ≡ 0
-            → k ≡ fetched_off p.machine.state n → Far d block k.machine.state p.tally q k.replies r.at
+            → k ≡ fetched_off p.machine.state n → Usable k.machine.state → Far d block k.machine.state p.tally q k.replies r.at
         unfolding went_on refusals_after fetched_off
-        far-drawn {p} {k} z e u w g = record {
+        far-drawn {p} {k} z e u w g v = record {
           place = ran-place;
+          usable = v;
           free = rw g (fetched-free p.machine.state u w);
           follows = ran-follows ∙ rw (sym is ∙ z, g, e) refl;
         }
@@ -466,6 +468,7 @@ module _ (d : DrawingAt) (block : List ℕ) where
             let o = ran-outside z in
             record {
               place = ran-place;
+              usable = ran-usable;
               free = outside-free o;
               follows =
                   ran-follows
@@ -504,6 +507,7 @@ module _ (d : DrawingAt) (block : List ℕ) where
             → k ≡ unnamed_in q d.nobody d.before (laid_marks (plot_from m bytes at room).marks entry) g.stored → Far d block g.state t k n g.at
         far-plotted o entry k = record {
           place = rw e (omega (arith, within, (plot-place m bytes at room).1));
+          usable = rw e (plot-usable m bytes at room f.usable);
           free = rw e (outside-free (stretch-refuses m bytes at room o (every (λ b. plain-class b) letters)).outside);
           follows = f.follows ∙ rw (k, e) (plot-bytes block so_far m bytes (drop len (drop at block)) at room _ o letters whole);
         }

@@ -15,7 +15,7 @@ use Rattle.surveying.proofs.block_of.Goals as goal
 
 pub loop-at-init : goal.loop-at-init
 loop-at-init c =
-    (far-begun (drawing_by c.args.d) c.args.block.now c.requires, sym c.records-space.ensures, refl, refl)
+    (far-begun (drawing_by c.args.d) c.args.block.now c.args.d.machine.usable c.requires, sym c.records-space.ensures, refl, refl)
 
 -- a run takes a byte, so that fewer are left
 pub loop-at-smaller-then-number-eq0 : goal.loop-at-smaller-then-number-eq0
@@ -31,7 +31,7 @@ loop-at-preserved-then-number-eq0 c =
     let r = c.run-r in
     let p = c.drawn_off-p in
     let f = c.fetched_off-f in (
-      far-drawn d block l.invariant.0 (ran_by r.result) r.ensures c.judged-number.ensures c.if-number-eq0.true p.ensures.value.0 p.result.machine.usable p.ensures.value.1 f.ensures,
+      far-drawn d block l.invariant.0 (ran_by r.result) r.ensures c.judged-number.ensures c.if-number-eq0.true p.ensures.value.0 p.result.machine.usable p.ensures.value.1 f.ensures f.result.machine.usable,
       l.invariant.1,
       p.auto.lines ∙ l.invariant.2,
       l.invariant.3 ∙ traced-drawn block l.lines l.machine.state l.at l.invariant.0.free r.ensures p.ensures.lines_after
