@@ -1,6 +1,6 @@
 -- "A machine comes only from these calls": fresh, with any four numbers, bad ones too; take, with any byte; draw; fetch, with a buffer of
 -- any length.
--- `made-usable` (ValidKept.antt) proves that each of them is usable, so that the precondition of the calls keeps nobody out.
+-- `made-usable` (ValidKept.antt) proves that each of them is usable, so that what the calls need keeps nobody out.
 use Rattle.std.specs.Prelude.{ℕ, ◌<◌}
 use Rattle.clip.specs.declared.Rect.{Rect}
 use Rattle.hpgl.specs.declared.State.{State}

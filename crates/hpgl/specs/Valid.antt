@@ -1,5 +1,5 @@
 -- What holds of every machine that the calls make, so that no number of the code leaves its width and no index its array. Definitions only:
--- What the calls ask for is `Usable`; Made.antt says which machines the calls make, and ValidKept.antt proves that each of them is usable. ValidFacts.antt has what
+-- What the calls need is `Usable`, which a machine of the crate machine holds; Made.antt says which machines the calls make, and ValidKept.antt proves that each of them is usable. ValidFacts.antt has what
 -- follows for the code.
 use Rattle.std.specs.Prelude.{◌≡◌, Bool, true, List, [], ◌∷◌, ℕ, ◌+◌, ◌*◌, ◌≤◌, ◌<◌, pos, length}
 use Rattle.exact.specs.Whole.{◌<ᶻ◌}
@@ -207,7 +207,7 @@ pub record Valid (m : State) : Type 0 where
   pub length : length m.store.edges ≡ most_edges
   pub work : ValidWork m.work
 
--- what each call asks of the machine that it is handed, and nothing else: no history, so a machine that is read back may be used as one that comes from the calls
+-- what each call needs of the machine that it is handed, and nothing else: no history, so a machine that is read back may be used as one that comes from the calls
 pub record Usable (m : State) : Type 0 where
   pub valid : Valid m
   pub inked : Inked m.core m.work
