@@ -1,7 +1,7 @@
 -- A list of strokes read twice, stroke by stroke, by one walk: first it is judged, then it is written. What each step leaves, and that the steps together are the answer and
--- the output of document 02's CR 6, however the strokes come: as records, or as numbers. The code goes by a pass for each of these (put_list); a writer that gets its strokes
--- one by one may go by this walk.
-use Rattle.std.specs.Prelude.{Bool, ◌≡◌, Result, Ok, Err, ℕ, ◌+◌, ◌-◌, ◌≤◌, ◌<◌, leb, eqb}
+-- the output of document 02's CR 6, however the strokes come: as records, or as numbers. A writer that gets its strokes one by one goes by begin, next and turned (drafts.rt),
+-- which are these steps; put_list goes by a pass for each test, and one for the text.
+use Rattle.std.specs.Prelude.{Bool, ◌≡◌, Result, ℕ, ◌+◌, ◌-◌, ◌≤◌, ◌<◌, leb, eqb}
 use Rattle.std.proofs.Math.Bool.{true, false, cond}
 use Rattle.std.proofs.Common.{true≢false, ◌∙◌, length-append}
 use mathlib.Core.List.{List, [], ◌∷◌, ◌++◌}
@@ -13,31 +13,21 @@ use Rattle.std.proofs.Math.Seq.{sets, length-sets}
 use Rattle.decimals.specs.Puts.{Puts, sets-append}
 use Rattle.hpgl.specs.declared.Stroke.{Stroke}
 use Rattle.redrawn.specs.declared.Refusal.{Refusal}
-use Rattle.redrawn.specs.declared.Refusal.TheVariants.{NotWritable, TooShort}
-use Rattle.redrawn.specs.Redrawn.{not_writable, too_short, start_text, text_of, fits_in, number_of, written_of, length_in, number_in, refusal_number, output_of, writable, all_writable, stroke_text, strokes_text}
+use Rattle.redrawn.specs.Redrawn.{not_writable, too_short, start_text, text_of, fits_in, number_of, written_of, length_in, number_in, output_of, writable, all_writable, stroke_text, strokes_text}
 use Rattle.redrawn.proofs.FirstStroke.{text-from, text-long}
 use Rattle.redrawn.proofs.Answered.{answer-told}
+use Rattle.redrawing.specs.declared.drafts.Draft.{Draft}
+use Rattle.redrawing.specs.declared.drafts.Written.{Written}
 use Rattle.redrawing.specs.RedrawingLaws.{not_written, no_room, all-written, puts-front}
 
 -- ---- the steps
 
 -- an answer as two numbers: how many bytes are written, and 02's number
-pub record Written : Type 0 where
-  pub length : ℕ
-  pub number : ℕ
-
 abbrev pub told : Result ℕ Refusal → Written
 told r = record { length = length_in r; number = number_in r }
 
 abbrev pub told_of : List Stroke → ℕ → Written
 told_of ss room = told (written_of ss room)
-
--- how far the walk is: whether the list is judged still, or written; the place in it, the pen of the stroke before, and the answer so far
-pub record Draft : Type 0 where
-  pub judging : Bool
-  pub at : ℕ
-  pub before : ℕ
-  pub written : Written
 
 -- bytes that are written, where none is refused
 abbrev pub long : ℕ → Written

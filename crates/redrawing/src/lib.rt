@@ -17,6 +17,10 @@ use hpgl::Stroke;
 pub use redrawn::Refusal;
 use rows::{byte_of, row_at};
 
+mod drafts;
+
+pub use drafts::{Draft, Written, begin, next, turned};
+
 // "Pens are 1 to 8."
 const LEAST_PEN: u8 = 1;
 
