@@ -75,6 +75,8 @@ impl<'a> fmt::Write for Text<'a> {
 
     fn write_str(&mut self, s: &str) -> fmt::Result
         ensures ok { IsOk result → Puts s.now self.old.used self.old.buffer self.new.used self.new.buffer }
+        ensures text { Puts s.now self.old.used self.old.buffer self.new.used self.new.buffer }
+        ensures variant { IsErr result ↔ (room < self.new.used) }
     {
         self.write_bytes(s.as_bytes())
     }

@@ -1,5 +1,5 @@
 // The strokes of the input, each a part of the picture, with a cross where the pen stood when a byte was refused. Feed gives the strokes, in lists of at most 64.
-ghost use Rattle.std.specs.Prelude.{◌+◌, ◌≤◌, length, ◌≡◌, IfOk};
+ghost use Rattle.std.specs.Prelude.{◌+◌, ◌≤◌, length, ◌≡◌};
 ghost use Rattle.console.specs.Sums.{largest};
 ghost use Rattle.preview.specs.Drawing.{quiet_of, goes_on, after_of, fed_of, step_of, begun_of, flushed_of, ended_of};
 ghost use Rattle.preview.specs.declared.strokes.Drawing.{Drawing};
@@ -14,7 +14,7 @@ use hpgl::Look;
 use machine::Machine;
 use noting::astray::{astray, changes, kind_at, moves, part_end};
 use noting::{Inks, inks_of, is_refusal, no_inks, refused};
-use output::Text;
+use output::{Text, failed};
 use std::fmt;
 use streams::{Source, Stream, read};
 use tracing::Hand;
@@ -100,20 +100,21 @@ fn after(d: Drawing, l: Listed, block: &[u8], before: Look, seen: Look, hand: Ha
     }
 }
 
-// One feed, with its strokes as text, and a cross where the carriage stands if a byte was refused and not too many before.
-fn step(out: &mut Text<'_>, d: Drawing, block: &[u8], radius: u64) -> Result<Drawing, fmt::Error>
+// One feed, with its strokes as text, and a cross where the carriage stands if a byte was refused and not too many before. No Result: what is noted of the feed
+// hangs on no write, and that one failed `out` remembers, which then takes nothing more.
+fn step(out: &mut Text<'_>, d: Drawing, block: &[u8], radius: u64) -> Drawing
     requires { d.at ≤ length block.now }
-    ensures { IfOk result (λ (e : Drawing). e ≡ step_of d block.now e.hand) }
+    ensures { result ≡ step_of d block.now result.hand }
 {
     let before = d.machine.look();
     let l = fed(d, block);
     let seen = l.fed.machine.look();
     let mut hand = d.hand;
-    hand.put(out, &l.list[..l.fed.stored], d.astray, radius)?;
+    let _ = hand.put(out, &l.list[..l.fed.stored], d.astray, radius);
     if d.refused < CROSSES && is_refusal(l.fed.number) {
-        hand.cross(out, seen.location, radius)?;
+        let _ = hand.cross(out, seen.location, radius);
     }
-    Ok(after(d, l, block, before, seen, hand))
+    after(d, l, block, before, seen, hand)
 }
 
 // The next block begins, with so many bytes before it.
@@ -128,22 +129,16 @@ fn begun(d: Drawing, before: u64) -> Drawing
     }
 }
 
-// A block, with so many bytes before it.
-fn paint_block(
-    out: &mut Text<'_>,
-    d: Drawing,
-    before: u64,
-    block: &[u8],
-    radius: u64,
-) -> Result<Drawing, fmt::Error> {
+// A block, with so many bytes before it, to its end or to a write that fails, which the flush after it answers.
+fn paint_block(out: &mut Text<'_>, d: Drawing, before: u64, block: &[u8], radius: u64) -> Drawing {
     let mut q = begun(d, before);
     for _ in 0..TURNS {
-        if !q.more {
+        if !q.more || failed(out.used) {
             break;
         }
-        q = step(out, q, block, radius)?;
+        q = step(out, q, block, radius);
     }
-    Ok(q)
+    q
 }
 
 // A block is done.
@@ -164,7 +159,7 @@ fn block_done(
     block: &[u8],
     radius: u64,
 ) -> Result<Drawing, fmt::Error> {
-    let painted = paint_block(out, d, before, block, radius)?;
+    let painted = paint_block(out, d, before, block, radius);
     out.flush()?;
     Ok(flushed(painted, block))
 }
