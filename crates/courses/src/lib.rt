@@ -7,17 +7,17 @@ use machine::{Drawn, Machine};
 use outcomes::replies::{BUFFER, MARKED, put_fetched};
 use outcomes::{put_drawn, put_look, put_refusal};
 use output::Text;
-use sequences::codes::{Code, bytes_of};
+use sequences::codes::{Bytes, Code, Kind, bytes_of};
 use std::fmt;
 
 mod feeds;
 
 // A machine on its way through a sequence: whether fetches and draws are held back, and the bytes taken.
-#[derive(Drop)]
+#[derive(Clone, Copy)]
 pub struct Course {
     pub machine: Machine,
-    hold: bool,
-    taken: u64,
+    pub hold: bool,
+    pub taken: u64,
 }
 
 impl Course {
@@ -71,6 +71,13 @@ impl Course {
         put_look(out, self.machine.look(), waits)
     }
 
+    // A feed of the bytes that the codes after it begin with.
+    fn feed_codes(&mut self, rest: &[Code], room: usize, out: &mut Text<'_>) -> fmt::Result {
+        let mut bytes = Bytes::new();
+        bytes_of(rest, Kind::Fed, &mut bytes);
+        self.feed(&bytes, room, out)
+    }
+
     // One code, and those after it, of which a feed has its bytes.
     fn step(&mut self, code: Code, rest: &[Code], out: &mut Text<'_>) -> fmt::Result {
         match code {
@@ -82,7 +89,7 @@ impl Course {
             Code::Draw => self.draw(1, out),
             Code::Look => self.look(out),
             Code::Fetch(room) => self.fetch(usize::from(room), " len0", out),
-            Code::Feed(room) => self.feed(&bytes_of(rest, Code::fed), usize::from(room), out),
+            Code::Feed(room) => self.feed_codes(rest, usize::from(room), out),
             Code::Fed(_) => Ok(()),
         }
     }

@@ -1,14 +1,16 @@
 // A sequence as a list of codes: its bytes, with escapes and repetitions written out, and the marks that stand between them.
-ghost use Rattle.std.specs.Prelude.{◌<◌, ◌≤◌, length};
+ghost use Rattle.std.specs.Prelude.{ℕ, ◌≡◌, ◌<◌, ◌≤◌, ◌↔◌, length};
+ghost use Rattle.std.specs.declared.option.Option.TheVariants.{Some};
+ghost use Rattle.sequences.specs.declared.codes.Code.TheVariants.{Plain, Fed};
 
 use crate::fields::natural;
 use arrayvec::ArrayVec;
 
 // Room for the codes of the longest sequence.
-const ROOM: usize = 160000;
+pub const ROOM: usize = 160000;
 
 // The most bytes of a line that is fed.
-const BYTES: usize = 4096;
+pub const BYTES: usize = 4096;
 
 // A byte, or a mark that stands between bytes.
 #[derive(Clone, Copy, Default)]
@@ -29,17 +31,37 @@ pub enum Code {
 }
 
 impl Code {
-    pub fn plain(self) -> Option<u8> {
+    pub fn plain(self) -> Option<u8>
+        ensures { (byte : ℕ) → (result ≡ Some byte) ↔ (self ≡ Plain byte) }
+    {
         match self {
             Code::Plain(byte) => Some(byte),
             _ => None,
         }
     }
 
-    pub fn fed(self) -> Option<u8> {
+    pub fn fed(self) -> Option<u8>
+        ensures { (byte : ℕ) → (result ≡ Some byte) ↔ (self ≡ Fed byte) }
+    {
         match self {
             Code::Fed(byte) => Some(byte),
             _ => None,
+        }
+    }
+}
+
+// Which bytes: plain ones, or those of a feed.
+#[derive(Clone, Copy)]
+pub enum Kind {
+    Plain,
+    Fed,
+}
+
+impl Kind {
+    fn byte_of(self, code: Code) -> Option<u8> {
+        match self {
+            Kind::Plain => code.plain(),
+            Kind::Fed => code.fed(),
         }
     }
 }
@@ -160,29 +182,24 @@ fn put_braces<'a>(codes: &mut Codes, text: &'a [u8]) -> &'a [u8]
     after(rest, 1)
 }
 
-// A sequence, written out.
-pub fn written_out(text: &[u8]) -> Codes {
-    let mut codes = Codes::new();
+// Writes out a sequence, behind what stands in the list.
+pub fn written_out(text: &[u8], codes: &mut Codes) {
     let mut rest = text;
     // no for: a code is as many bytes as it has, some of them braces
     while let Some((byte, next)) = rest.split_first() {
         rest = match *byte {
-            b'\\' => put_escape(&mut codes, next),
-            b'{' => put_braces(&mut codes, next),
+            b'\\' => put_escape(codes, next),
+            b'{' => put_braces(codes, next),
             byte => {
-                put_code(&mut codes, Code::Plain(byte));
+                put_code(codes, Code::Plain(byte));
                 next
             }
         };
     }
-    codes
 }
 
-// The bytes that codes begin with, of one kind: plain ones, or those of a feed. Those past the room that there is are left out, and the outcome tells.
-pub fn bytes_of<F: Fn(Code) -> Option<u8>>(codes: &[Code], kind: F) -> Bytes
-    requires { F.IsAlwaysCallable kind }
-{
-    let mut bytes = Bytes::new();
-    let _ = bytes.extend(codes.iter().map_while(|code| kind(*code)));
-    bytes
+// The bytes that codes begin with, of one kind, in place of what stood in their list. Those past the room that there is are left out, and the outcome tells.
+pub fn bytes_of<const N: usize>(codes: &[Code], kind: Kind, bytes: &mut ArrayVec<u8, N>) {
+    bytes.clear();
+    let _ = bytes.extend(codes.iter().map_while(|code| kind.byte_of(*code)));
 }

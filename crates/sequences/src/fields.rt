@@ -1,5 +1,5 @@
 // The fields of a line, and the numbers in them.
-ghost use Rattle.std.specs.Prelude.{◌≤◌, ◌<◌, ◌^◌, length};
+ghost use Rattle.std.specs.Prelude.{◌≤◌, ◌<◌, ◌^◌, length, nat_abs};
 
 fn without_first_blanks(text: &[u8]) -> &[u8]
     ensures { length result.now ≤ length text.now }
@@ -8,19 +8,25 @@ fn without_first_blanks(text: &[u8]) -> &[u8]
     &text[from.unwrap_or(text.len())..]
 }
 
-fn without_last_blanks(text: &[u8]) -> &[u8] {
+fn without_last_blanks(text: &[u8]) -> &[u8]
+    ensures { length result.now ≤ length text.now }
+{
     let last = text.iter().rposition(|byte| *byte != b' ');
     &text[..last.map_or(0, |last| last + 1)]
 }
 
 // The n-th field of a line, counted from 0: what stands between two bars, without the blanks around it.
-pub fn field(line: &[u8], n: usize) -> &[u8] {
+pub fn field(line: &[u8], n: usize) -> &[u8]
+    ensures { length result.now ≤ length line.now }
+{
     let field = line.split(|byte| *byte == b'|').nth(n);
     without_last_blanks(without_first_blanks(field.unwrap_or_default()))
 }
 
 // The name of a line: the second word of its first field.
-pub fn name_of(line: &[u8]) -> &[u8] {
+pub fn name_of(line: &[u8]) -> &[u8]
+    ensures { length result.now ≤ length line.now }
+{
     let words = field(line, 0);
     let blank = words.iter().position(|byte| *byte == b' ');
     without_first_blanks(&words[blank.unwrap_or(words.len())..])
@@ -45,7 +51,10 @@ pub fn natural(text: &[u8]) -> (u64, &[u8])
 }
 
 // The number after the next blanks, with its sign, and what follows it.
-pub fn whole(text: &[u8]) -> (i64, &[u8]) {
+pub fn whole(text: &[u8]) -> (i64, &[u8])
+    ensures value { nat_abs result.0 < 10 ^ 18 }
+    ensures rest { length result.1.now ≤ length text.now }
+{
     let number = without_first_blanks(text);
     match number.strip_prefix(b"-") {
         Some(digits) => {

@@ -4,7 +4,8 @@
 pub mod codes;
 pub mod fields;
 
-use codes::{Bytes, Code, Codes, bytes_of, written_out};
+use arrayvec::ArrayVec;
+use codes::{Codes, Kind, bytes_of, written_out};
 use fields::{field, natural};
 
 // The number of a field.
@@ -13,13 +14,19 @@ pub fn number_of(line: &[u8], n: usize) -> u64 {
     number
 }
 
-// The sequence of a field, written out.
-pub fn codes_of(line: &[u8], n: usize) -> Codes {
-    written_out(field(line, n))
+// The sequence of a field, written out in place of what stood in the list.
+pub fn codes_of(line: &[u8], n: usize, codes: &mut Codes) {
+    codes.clear();
+    written_out(field(line, n), codes);
 }
 
-// The bytes that the sequence of a field begins with.
-pub fn plain_of(line: &[u8], n: usize) -> Bytes {
-    let codes = codes_of(line, n);
-    bytes_of(&codes, Code::plain)
+// The bytes that the sequence of a field begins with, in place of what stood in their list. Its codes are written out too.
+pub fn plain_of<const N: usize>(
+    line: &[u8],
+    n: usize,
+    codes: &mut Codes,
+    bytes: &mut ArrayVec<u8, N>,
+) {
+    codes_of(line, n, codes);
+    bytes_of(codes, Kind::Plain, bytes);
 }

@@ -12,6 +12,7 @@ use machine::{Machine, Stroke};
 use outcomes::moves::put_moves;
 use outcomes::put_limits;
 use output::Text;
+use sequences::codes::{Bytes, Code, Codes, ROOM};
 use sequences::fields::{field, name_of, whole};
 use sequences::{codes_of, number_of, plain_of};
 use std::fmt;
@@ -59,27 +60,33 @@ fn run_codes(
     line: &[u8],
     limits: Rect,
     hold: bool,
+    codes: &mut Codes,
     out: &mut Text<'_>,
 ) -> Result<Course, fmt::Error> {
+    codes_of(line, 1, codes);
     let mut course = Course::new(fresh_machine(limits), hold);
-    course.run(&codes_of(line, 1), out)?;
+    course.run(codes, out)?;
     Ok(course)
 }
 
-fn run_take(line: &[u8], limits: Rect, out: &mut Text<'_>) -> fmt::Result {
-    let course = run_codes(line, limits, false, out)?;
+fn run_take(line: &[u8], limits: Rect, codes: &mut Codes, out: &mut Text<'_>) -> fmt::Result {
+    let course = run_codes(line, limits, false, codes, out)?;
     write!(out, " |")?;
     course.look(out)
 }
 
 // One feed of a line's third field, into as many records as its second one says.
-fn run_feed(line: &[u8], limits: Rect, out: &mut Text<'_>) -> fmt::Result {
-    let mut course = run_codes(line, limits, true, out)?;
-    course.feed_once(&plain_of(line, 3), number_of(line, 2) as usize, out)
+fn run_feed(line: &[u8], limits: Rect, codes: &mut Codes, out: &mut Text<'_>) -> fmt::Result {
+    let mut course = run_codes(line, limits, true, codes, out)?;
+    let mut bytes = Bytes::new();
+    plain_of(line, 3, codes, &mut bytes);
+    course.feed_once(&bytes, number_of(line, 2) as usize, out)
 }
 
-fn run_strokes(line: &[u8], limits: Rect, out: &mut Text<'_>) -> fmt::Result {
-    Course::new(fresh_machine(limits), false).feed_all(&plain_of(line, 1), out)
+fn run_strokes(line: &[u8], limits: Rect, codes: &mut Codes, out: &mut Text<'_>) -> fmt::Result {
+    let mut bytes = Bytes::new();
+    plain_of(line, 1, codes, &mut bytes);
+    Course::new(fresh_machine(limits), false).feed_all(&bytes, out)
 }
 
 fn run_drive(line: &[u8], out: &mut Text<'_>) -> fmt::Result {
@@ -101,20 +108,28 @@ fn run_drive(line: &[u8], out: &mut Text<'_>) -> fmt::Result {
 }
 
 // A line of calls, which its first letter names.
-fn run_line(letter: u8, line: &[u8], limits: Rect, out: &mut Text<'_>) -> fmt::Result {
+fn run_line(
+    letter: u8,
+    line: &[u8],
+    limits: Rect,
+    codes: &mut Codes,
+    out: &mut Text<'_>,
+) -> fmt::Result {
     out.write_bytes(name_of(line))?;
     write!(out, " |")?;
     match letter {
-        b't' => run_take(line, limits, out),
-        b'f' => run_feed(line, limits, out),
-        b's' => run_strokes(line, limits, out),
+        b't' => run_take(line, limits, codes, out),
+        b'f' => run_feed(line, limits, codes, out),
+        b's' => run_strokes(line, limits, codes, out),
         b'd' => run_drive(line, out),
         _ => write!(out, " unknown"),
     }
 }
 
-// Each line, but for comments and empty ones.
+// Each line, but for comments and empty ones. They share the list of codes, in which each puts its own in place of what stands there, so it may begin full:
+// `Codes::new` would take the room of three such lists on the stack.
 fn run_lines(text: &[u8], out: &mut Text<'_>) -> fmt::Result {
+    let mut codes = Codes::from_array_in((), [Code::Plain(0); ROOM]);
     let mut limits = USUAL;
     for line in text.split(|byte| *byte == b'\n') {
         match line.first() {
@@ -123,7 +138,7 @@ fn run_lines(text: &[u8], out: &mut Text<'_>) -> fmt::Result {
                 limits = limits_of(line);
                 run_limits(limits, out)?;
             }
-            Some(letter) => run_line(*letter, line, limits, out)?,
+            Some(letter) => run_line(*letter, line, limits, &mut codes, out)?,
         }
         writeln!(out)?;
     }
