@@ -2,14 +2,15 @@
 // specs/Words.antt and specs/Names.antt have the same tables.
 #![tactic(auto)]
 
-ghost use Rattle.std.specs.Prelude.{◌≡◌};
+ghost use Rattle.std.specs.Prelude.{◌≡◌, ◌≤◌, length};
 ghost use Rattle.words.specs.Words.{cause_of, advice_of, of_foreign, of_kind};
 ghost use Rattle.words.specs.Names.{same_name, kind_in, kind_of, has_of, refused_kind, harmless_of};
 
 // Why a byte or a call is refused with a number.
 #[tactic(auto, unfolding(crate::specs::Words::cause_of, hpgl::specs::Trace::bytes, hpgl::specs::Trace::bytes_from))]
 pub fn cause(number: u8) -> &'static str
-    ensures { result.now ≡ cause_of number }
+    ensures value { result.now ≡ cause_of number }
+    ensures upper_bound { length result.now ≤ 72 }
 {
     match number {
         1 => "unknown byte, or an instruction that the machine does not have",
@@ -30,7 +31,8 @@ pub fn cause(number: u8) -> &'static str
 // What to do about it.
 #[tactic(auto, unfolding(crate::specs::Words::advice_of, hpgl::specs::Trace::bytes, hpgl::specs::Trace::bytes_from))]
 pub fn advice(number: u8) -> &'static str
-    ensures { result.now ≡ advice_of number }
+    ensures value { result.now ≡ advice_of number }
+    ensures upper_bound { length result.now ≤ 72 }
 {
     match number {
         1 => "Leave it out, or draw it with the instructions that the machine has.",
@@ -51,7 +53,8 @@ pub fn advice(number: u8) -> &'static str
 // What becomes of an instruction that the machine does not have, by its kind.
 #[tactic(auto, unfolding(crate::specs::Words::of_foreign, hpgl::specs::Trace::bytes, hpgl::specs::Trace::bytes_from))]
 fn of_foreign(kind: u8) -> &'static str
-    ensures { result.now ≡ of_foreign kind }
+    ensures value { result.now ≡ of_foreign kind }
+    ensures upper_bound { length result.now ≤ 72 }
 {
     match kind {
         b'a' => "of curves only CI, AA, AR are known: the next line starts where it began",
@@ -74,7 +77,8 @@ fn of_foreign(kind: u8) -> &'static str
 // A kind is a letter and no enum: the table below has letters, and of_kind and harmless answer for every byte (docs/CONTRACTS.md).
 #[tactic(auto, unfolding(crate::specs::Words::of_kind, hpgl::specs::Trace::bytes, hpgl::specs::Trace::bytes_from))]
 pub fn of_kind(kind: u8) -> &'static str
-    ensures { result.now ≡ of_kind kind }
+    ensures value { result.now ≡ of_kind kind }
+    ensures upper_bound { length result.now ≤ 72 }
 {
     match kind {
         b'c' => "not carried out: the setting stays as it was",
