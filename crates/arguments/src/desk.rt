@@ -60,9 +60,10 @@ fn wrong(rt: &HostRuntime, program: &[u8], at: usize, why: Wrong) {
     say(rt, &word[..n]);
     let mut words = [0u8; 128];
     let mut rest: &mut [u8] = &mut words;
-    let _ = write!(rest, ": {why} (");
+    let _ = write!(rest, ": {why}");
     let used = 128usize.saturating_sub(rest.len());
     say(rt, &words[..used]);
+    say(rt, b" (");
     say(rt, program);
     say(rt, b" --help says more)\n");
 }
