@@ -65,56 +65,58 @@ fn goes_on(number: u8, at: usize, length: usize) -> bool
 }
 
 // A feed of what is left of the block, or of a part of it.
-fn fed(d: Drawing, block: &[u8]) -> Listed
-    requires { d.at ≤ length block.now }
-    ensures value { result ≡ fed_of d block.now }
+fn fed(d: &Drawing, block: &[u8]) -> Listed
+    requires { d.now.at ≤ length block.now }
+    ensures value { result ≡ fed_of d.now block.now }
     ensures few { result.fed.stored ≤ 64 }
-    ensures in_bounds { d.at + result.fed.taken ≤ length block.now }
+    ensures in_bounds { d.now.at + result.fed.taken ≤ length block.now }
 {
     let end = part_end(block, d.at, d.astray);
     feed_list(d.machine, &block[d.at..end])
 }
 
-// What a feed of the block from its place on leaves: its strokes are noted, and a byte that was refused; with a look before it and one after it.
-fn after(d: Drawing, l: Listed, block: &[u8], before: Look, seen: Look, hand: Hand) -> Drawing
-    requires { (l.fed.stored ≤ 64) × (d.at + l.fed.taken ≤ largest) }
-    ensures { result ≡ after_of d l block.now before seen hand }
+// What a feed of the block from its place on leaves: its strokes are noted, and a byte that was refused; with a look before it and one after it. In place, since a
+// drawing is large and a refusal is a feed.
+fn note(d: &mut Drawing, l: Listed, block: &[u8], before: Look, seen: Look, hand: Hand)
+    requires { (l.fed.stored ≤ 64) × (d.old.at + l.fed.taken ≤ largest) }
+    ensures { d.new ≡ after_of d.old l block.now before seen hand }
 {
     let fed = l.fed;
+    let list = l.list;
+    let number = fed.number;
     let at = d.at + fed.taken;
     let place = sum(d.before, at as u64);
-    let kind = kind_at(d.letters, block, at, fed.number);
+    let kind = kind_at(d.letters, block, at, number);
     let stray = moves(kind);
-    Drawing {
-        machine: quiet(fed.machine),
-        at,
-        inks: inks_of(d.inks, &l.list[..fed.stored]),
-        refusals: refused(d.refusals, d.letters, block, at, fed.number, place),
-        refused: sum(d.refused, u64::from(is_refusal(fed.number))),
-        moves: sum(d.moves, u64::from(stray)),
-        harms: sum(d.harms, u64::from(changes(kind))),
-        astray: astray(d.astray, stray, before, seen),
-        more: goes_on(fed.number, at, block.len()),
-        hand,
-        ..d
-    }
+    d.machine = quiet(fed.machine);
+    d.at = at;
+    d.inks = inks_of(d.inks, &list[..fed.stored]);
+    d.refusals = refused(d.refusals, d.letters, block, at, number, place);
+    d.refused = sum(d.refused, u64::from(is_refusal(number)));
+    d.moves = sum(d.moves, u64::from(stray));
+    d.harms = sum(d.harms, u64::from(changes(kind)));
+    d.astray = astray(d.astray, stray, before, seen);
+    d.more = goes_on(number, at, block.len());
+    d.hand = hand;
 }
 
 // One feed, with its strokes as text, and a cross where the carriage stands if a byte was refused and not too many before. No Result: what is noted of the feed
 // hangs on no write, and that one failed `out` remembers, which then takes nothing more.
-fn step(out: &mut Text<'_>, d: Drawing, block: &[u8], radius: u64) -> Drawing
-    requires { d.at ≤ length block.now }
-    ensures { result ≡ step_of d block.now result.hand }
+fn step(out: &mut Text<'_>, d: &mut Drawing, block: &[u8], radius: u64)
+    requires { d.old.at ≤ length block.now }
+    ensures { d.new ≡ step_of d.old block.now d.new.hand }
 {
     let before = d.machine.look();
     let l = fed(d, block);
-    let seen = l.fed.machine.look();
+    let next = l.fed;
+    let list = l.list;
+    let seen = next.machine.look();
     let mut hand = d.hand;
-    let _ = hand.put(out, &l.list[..l.fed.stored], d.astray, radius);
-    if d.refused < CROSSES && is_refusal(l.fed.number) {
+    let _ = hand.put(out, &list[..next.stored], d.astray, radius);
+    if d.refused < CROSSES && is_refusal(next.number) {
         let _ = hand.cross(out, seen.location, radius);
     }
-    after(d, l, block, before, seen, hand)
+    note(d, l, block, before, seen, hand);
 }
 
 // The next block begins, with so many bytes before it.
@@ -136,7 +138,7 @@ fn paint_block(out: &mut Text<'_>, d: Drawing, before: u64, block: &[u8], radius
         if !q.more || failed(out.used) {
             break;
         }
-        q = step(out, q, block, radius);
+        step(out, &mut q, block, radius);
     }
     q
 }

@@ -22,16 +22,16 @@ inside : (n : ℕ) (block : List ℕ) (at : ℕ) (astray : Bool) → n ≡ part_
 inside n block at astray e h = rw e (part-within block at h astray)
 
 pub slice_bounds-feed_list-count : goal.slice_bounds-feed_list-count
-slice_bounds-feed_list-count c = (inside _ c.args.block.now c.args.d.at c.args.d.astray c.part_end-end.ensures c.requires).0
+slice_bounds-feed_list-count c = (inside _ c.args.block.now c.args.d.now.at c.args.d.now.astray c.part_end-end.ensures c.requires).0
 
 pub slice_bounds-feed_list-start : goal.slice_bounds-feed_list-start
 slice_bounds-feed_list-start c =
-    let h = (inside _ c.args.block.now c.args.d.at c.args.d.astray c.part_end-end.ensures c.requires).0 in
+    let h = (inside _ c.args.block.now c.args.d.now.at c.args.d.now.astray c.part_end-end.ensures c.requires).0 in
     search (rules, h)
 
 pub slice_bounds-feed_list-end : goal.slice_bounds-feed_list-end
 slice_bounds-feed_list-end c =
-    let h = (inside _ c.args.block.now c.args.d.at c.args.d.astray c.part_end-end.ensures c.requires).1 in
+    let h = (inside _ c.args.block.now c.args.d.now.at c.args.d.now.astray c.part_end-end.ensures c.requires).1 in
     search (rules, h)
 
 -- the answer is that of the definition
@@ -42,9 +42,9 @@ listed d block l end e h =
     (h ∙ ap (λ (n : ℕ). listed_of (feed_of d.machine.state (take (n - d.at) (drop d.at block)) 64)) e)
 
 pub returns-clause-value : goal.returns-clause-value
-returns-clause-value c = listed c.args.d c.args.block.now c.feed_list.result _ c.part_end-end.ensures c.feed_list.ensures
+returns-clause-value c = listed c.args.d.now c.args.block.now c.feed_list.result _ c.part_end-end.ensures c.feed_list.ensures
 
 pub returns-clause-in_bounds : goal.returns-clause-in_bounds
 returns-clause-in_bounds c =
-    rw (listed c.args.d c.args.block.now c.feed_list.result _ c.part_end-end.ensures c.feed_list.ensures)
-    (step-within c.args.d c.args.block.now c.args.d.hand c.requires)
+    rw (listed c.args.d.now c.args.block.now c.feed_list.result _ c.part_end-end.ensures c.feed_list.ensures)
+    (step-within c.args.d.now c.args.block.now c.args.d.now.hand c.requires)

@@ -5,4 +5,4 @@ use Rattle.preview.proofs.strokes.paint_block.Goals as goal
 pub loop-preserved : goal.loop-preserved
 loop-preserved c =
     let q = c.loop.q in
-    rw c.step-q.ensures (step-within q c.args.block.now c.step-q.result.hand c.loop.invariant)
+    rw c.step.ensures (step-within q c.args.block.now c.step.new.d.hand c.loop.invariant)
