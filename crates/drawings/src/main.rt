@@ -3,6 +3,9 @@
 // The file list has a line of six words for each: the drawing, the file of its lines, and the hard limits left, bottom, right, top.
 #![tactic(auto)]
 
+ghost use Rattle.std.specs.Prelude.{◌≡◌, ◌+◌, ◌≤◌, ◌==◌, length, take, drop, position};
+ghost use Rattle.drawings.specs.Part.{index_of};
+
 use clip::Rect;
 use delivery::files::{Sink, run};
 use output::Text;
@@ -10,6 +13,30 @@ use std::fmt;
 use std::fmt::Write;
 use streams::{Source, Stream, number_of, read_full, tell};
 use textlines::word::{limits_of, whole_of};
+
+// The place of the first such byte, if there is one.
+fn first_at(text: &[u8], byte: u8) -> Option<usize>
+    ensures { result ≡ position (λ b. b == byte) text.now }
+{
+    text.iter().position(|b| *b == byte)
+}
+
+// The place of the first such byte, or the end.
+fn find(text: &[u8], byte: u8) -> usize
+    ensures value { result ≡ index_of byte text.now }
+    ensures upper_bound { result ≤ length text.now }
+{
+    first_at(text, byte).unwrap_or(text.len())
+}
+
+// The word that a line begins with, and what follows the blank after it: nothing after the last one.
+fn word(line: &[u8]) -> (&[u8], &[u8])
+    ensures word { result.0.now ≡ take (index_of 32 line.now) line.now }
+    ensures rest { result.1.now ≡ drop (index_of 32 line.now + 1) line.now }
+{
+    let (word, rest) = line.split_at(find(line, b' '));
+    (word, rest.get(1..).unwrap_or(&[]))
+}
 
 fn open(rt: &HostRuntime, name: &[u8]) -> Option<Stream<Source>> {
     match streams::open(rt, name) {
@@ -60,18 +87,17 @@ fn compare(
 
 // A line has its words between blanks. One that is missing is empty, as one between two blanks is.
 fn check_line(rt: &HostRuntime, line: &[u8]) {
-    let mut words = line.split(|byte| *byte == b' ');
-    let mut word = || match words.next() {
-        Some(word) => word,
-        None => &[],
-    };
-    let drawn = word();
-    let kept = word();
+    let (drawn, rest) = word(line);
+    let (kept, rest) = word(rest);
+    let (left, rest) = word(rest);
+    let (bottom, rest) = word(rest);
+    let (right, rest) = word(rest);
+    let (top, _) = word(rest);
     let asked = limits_of(
-        whole_of(word()),
-        whole_of(word()),
-        whole_of(word()),
-        whole_of(word()),
+        whole_of(left),
+        whole_of(bottom),
+        whole_of(right),
+        whole_of(top),
     );
     let Some(drawing) = open(rt, drawn) else {
         return;

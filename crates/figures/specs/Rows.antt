@@ -1,6 +1,6 @@
 -- A row of the figures: calls of document 01 with their arguments, and what they answer. A constructor for each kind of call list.
-use Rattle.std.specs.Prelude.{ℕ, zero, suc, ◌≡◌, List, [], ◌∷◌, ◌++◌, map, ℤ, pos, neg_ℤ, length, Result, Ok, Err}
-use Rattle.std.proofs.Common.{ap, ◌∙◌}
+use Rattle.std.specs.Prelude.{ℕ, zero, suc, ◌≡◌, refl, cond, ◌==◌, List, [], ◌∷◌, ◌++◌, map, ℤ, pos, neg_ℤ, length, Result, Ok, Err}
+use Rattle.std.proofs.Common.{ap, sym, ◌∙◌}
 use Prim.Native.String.{String}
 use Rattle.clip.specs.declared.Rect.{Rect}
 use Rattle.hpgl.specs.declared.State.{State}
@@ -17,7 +17,8 @@ use Rattle.drive.specs.declared.Moves.TheVariants as moves
 use Rattle.drive.specs.declared.Move.{Move}
 use Rattle.drive.specs.declared.Move.TheVariants.{Travel, Paint, Dot}
 use Rattle.drive.specs.declared.Refusal.{Refusal}
-use Rattle.drive.specs.Drive.{Answer, travel_paint, one_dot, refusal as noMove, number_of, answer_of, place_of, Gives}
+use Rattle.drive.specs.declared.Refusal.TheVariants.{Pitch, End}
+use Rattle.drive.specs.Drive.{Answer, travel_paint, one_dot, refusal as noMove, number_of, bad_pitch, answer_of, place_of, Gives}
 
 -- a call of feed: bytes, and the records of the lent list
 pub data Lent : Type 0 where
@@ -140,6 +141,22 @@ unfolding moved_by moves_of
 moves-given r (travel_paint u v) h = ap moved_by h.0
 moves-given r (one_dot u) h = ap moved_by h.0
 moves-given r (noMove n) h = ap moved_by h.1 ∙ ap Refused h.2
+
+-- a row loses nothing of an answer: two answers that a row has alike are one
+pub moved-once : (r q : Result Moves Refusal) → moved_by r ≡ moved_by q → r ≡ q
+unfolding moved_by
+moved-once r q e = sym (back r) ∙ ap of_row e ∙ back q
+  where
+    of_row : Moved → Result Moves Refusal
+    of_row (Two a b) = Ok (moves.Two a b)
+    of_row (One a) = Ok (moves.One a)
+    of_row (Refused n) = Err (cond (n == bad_pitch) Pitch End)
+
+    back : (p : Result Moves Refusal) → of_row (moved_by p) ≡ p
+    back (Ok (moves.Two a b)) = refl
+    back (Ok (moves.One a)) = refl
+    back (Err Pitch) = refl
+    back (Err End) = refl
 
 -- the types of a queue's segments, by their located ends; and after each byte, where all is drawn before the next
 unfoldable pub types_in : Rect → List ExactSegment → List LineType
