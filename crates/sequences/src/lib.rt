@@ -5,7 +5,7 @@ pub mod codes;
 pub mod fields;
 
 use arrayvec::ArrayVec;
-use codes::{Codes, Kind, bytes_of, written_out};
+use codes::{Code, Codes, Kind, ROOM, bytes_of, written_out};
 use fields::{field, natural};
 
 // The number of a field.
@@ -20,13 +20,9 @@ pub fn codes_of(line: &[u8], n: usize, codes: &mut Codes) {
     written_out(field(line, n), codes);
 }
 
-// The bytes that the sequence of a field begins with, in place of what stood in their list. Its codes are written out too.
-pub fn plain_of<const N: usize>(
-    line: &[u8],
-    n: usize,
-    codes: &mut Codes,
-    bytes: &mut ArrayVec<u8, N>,
-) {
-    codes_of(line, n, codes);
-    bytes_of(codes, Kind::Plain, bytes);
+// The bytes that the sequence of a field begins with, in place of what stood in their list.
+pub fn plain_of<const N: usize>(line: &[u8], n: usize, bytes: &mut ArrayVec<u8, N>) {
+    let mut codes = Codes::from_array_in((), [Code::Plain(0); ROOM]);
+    codes_of(line, n, &mut codes);
+    bytes_of(&codes, Kind::Plain, bytes);
 }

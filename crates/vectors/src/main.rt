@@ -12,9 +12,9 @@ use machine::{Machine, Stroke};
 use outcomes::moves::put_moves;
 use outcomes::put_limits;
 use output::Text;
-use sequences::codes::{Bytes, Code, Codes, ROOM};
+use sequences::codes::{Bytes, Code, Codes, Kind, ROOM, bytes_of};
 use sequences::fields::{field, name_of, whole};
-use sequences::{codes_of, number_of, plain_of};
+use sequences::{codes_of, number_of};
 use std::fmt;
 use std::fmt::Write;
 use streams::{read_full, standard, tell};
@@ -75,17 +75,23 @@ fn run_take(line: &[u8], limits: Rect, codes: &mut Codes, out: &mut Text<'_>) ->
     course.look(out)
 }
 
+// The bytes that the sequence of a field begins with: plain_of, with the list of codes that the lines share.
+fn plain_bytes(line: &[u8], n: usize, codes: &mut Codes, bytes: &mut Bytes) {
+    codes_of(line, n, codes);
+    bytes_of(codes, Kind::Plain, bytes);
+}
+
 // One feed of a line's third field, into as many records as its second one says.
 fn run_feed(line: &[u8], limits: Rect, codes: &mut Codes, out: &mut Text<'_>) -> fmt::Result {
     let mut course = run_codes(line, limits, true, codes, out)?;
     let mut bytes = Bytes::new();
-    plain_of(line, 3, codes, &mut bytes);
+    plain_bytes(line, 3, codes, &mut bytes);
     course.feed_once(&bytes, number_of(line, 2) as usize, out)
 }
 
 fn run_strokes(line: &[u8], limits: Rect, codes: &mut Codes, out: &mut Text<'_>) -> fmt::Result {
     let mut bytes = Bytes::new();
-    plain_of(line, 1, codes, &mut bytes);
+    plain_bytes(line, 1, codes, &mut bytes);
     Course::new(fresh_machine(limits), false).feed_all(&bytes, out)
 }
 
