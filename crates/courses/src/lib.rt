@@ -7,7 +7,7 @@ use machine::{Drawn, Machine};
 use outcomes::replies::{BUFFER, MARKED, put_fetched};
 use outcomes::{put_drawn, put_look, put_refusal};
 use output::Text;
-use sequences::codes::{Bytes, Code, Kind, bytes_of};
+use sequences::codes::{Bytes, Code, Kind, bytes_into};
 use std::fmt;
 
 mod feeds;
@@ -74,7 +74,7 @@ impl Course {
     // A feed of the bytes that the codes after it begin with.
     fn feed_codes(&mut self, rest: &[Code], room: usize, out: &mut Text<'_>) -> fmt::Result {
         let mut bytes = Bytes::new();
-        bytes_of(rest, Kind::Fed, &mut bytes);
+        bytes_into(rest, Kind::Fed, &mut bytes);
         self.feed(&bytes, room, out)
     }
 

@@ -1,7 +1,9 @@
 // A sequence as a list of codes: its bytes, with escapes and repetitions written out, and the marks that stand between them.
-ghost use Rattle.std.specs.Prelude.{ℕ, ◌≡◌, ◌<◌, ◌≤◌, ◌↔◌, length};
-ghost use Rattle.std.specs.declared.option.Option.TheVariants.{Some};
+ghost use Rattle.std.specs.Prelude.{ℕ, ◌≡◌, ◌<◌, ◌≤◌, ◌↔◌, length, slice_get, IfSome, IsSomeAnd};
+ghost use Rattle.arrayvec.specs.ArrayVec.{array_vec_len};
+ghost use Rattle.std.specs.declared.option.Option.TheVariants.{Some, None};
 ghost use Rattle.sequences.specs.declared.codes.Code.TheVariants.{Plain, Fed};
+ghost use Rattle.sequences.specs.declared.codes.TheConstants.{BYTES};
 
 use crate::fields::natural;
 use arrayvec::ArrayVec;
@@ -199,7 +201,22 @@ pub fn written_out(text: &[u8], codes: &mut Codes) {
 }
 
 // The bytes that codes begin with, of one kind, in place of what stood in their list. Those past the room that there is are left out, and the outcome tells.
-pub fn bytes_of<const N: usize>(codes: &[Code], kind: Kind, bytes: &mut ArrayVec<u8, N>) {
+pub fn bytes_into<const N: usize>(codes: &[Code], kind: Kind, bytes: &mut ArrayVec<u8, N>) {
     bytes.clear();
     let _ = bytes.extend(codes.iter().map_while(|code| kind.byte_of(*code)));
+}
+
+// The bytes that codes begin with, of whatever kind: `kind` answers the byte of each code, or none, and there they end. Those past the room that there is are left out.
+// `F.post kind code r` says that `r` is what `kind` answers for a code.
+pub fn bytes_of<F: Fn(Code) -> Option<u8>>(codes: &[Code], kind: F) -> Bytes
+    requires { F.IsAlwaysCallable kind }
+    ensures upper_bound { array_vec_len result ≤ length codes.now }
+    ensures each { (k : ℕ) → k < array_vec_len result
+        → IfSome (slice_get codes.now k) (λ code. IsSomeAnd (slice_get result.items k) (λ byte. F.post kind code (Some byte))) }
+    ensures first_without { array_vec_len result < BYTES
+        → IfSome (slice_get codes.now (array_vec_len result)) (λ code. F.post kind code None) }
+{
+    let mut bytes = Bytes::new();
+    let _ = bytes.extend(codes.iter().map_while(|code| kind(*code)));
+    bytes
 }

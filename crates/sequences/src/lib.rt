@@ -5,7 +5,7 @@ pub mod codes;
 pub mod fields;
 
 use arrayvec::ArrayVec;
-use codes::{Code, Codes, Kind, ROOM, bytes_of, written_out};
+use codes::{Code, Codes, Kind, ROOM, bytes_into, written_out};
 use fields::{field, natural};
 
 // The number of a field.
@@ -24,5 +24,8 @@ pub fn codes_of(line: &[u8], n: usize, codes: &mut Codes) {
 pub fn plain_of<const N: usize>(line: &[u8], n: usize, bytes: &mut ArrayVec<u8, N>) {
     let mut codes = Codes::from_array_in((), [Code::Plain(0); ROOM]);
     codes_of(line, n, &mut codes);
-    bytes_of(&codes, Kind::Plain, bytes);
+    bytes_into(&codes, Kind::Plain, bytes);
 }
+
+#[cfg(test)]
+mod tests;

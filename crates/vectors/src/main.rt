@@ -12,7 +12,7 @@ use machine::{Machine, Stroke};
 use outcomes::moves::put_moves;
 use outcomes::put_limits;
 use output::Text;
-use sequences::codes::{Bytes, Code, Codes, Kind, ROOM, bytes_of};
+use sequences::codes::{Bytes, Code, Codes, Kind, ROOM, bytes_into};
 use sequences::fields::{field, name_of, whole};
 use sequences::{codes_of, number_of};
 use std::fmt;
@@ -78,7 +78,7 @@ fn run_take(line: &[u8], limits: Rect, codes: &mut Codes, out: &mut Text<'_>) ->
 // The bytes that the sequence of a field begins with: plain_of, with the list of codes that the lines share.
 fn plain_bytes(line: &[u8], n: usize, codes: &mut Codes, bytes: &mut Bytes) {
     codes_of(line, n, codes);
-    bytes_of(codes, Kind::Plain, bytes);
+    bytes_into(codes, Kind::Plain, bytes);
 }
 
 // One feed of a line's third field, into as many records as its second one says.
