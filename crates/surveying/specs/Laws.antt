@@ -407,23 +407,28 @@ module _ (before : ℕ) (numbers : List ℤ) where
 
 -- ---- how far a block is
 
--- the bytes before the place `at` are taken, neither a segment nor a reply waits, and what is left follows
-pub record Far (d : DrawingAt) (block : List ℕ) (machine : State) (tally : Tally) (refusals : Refusals) (replies : ℕ) (at : ℕ) : Type 0 where
+-- The bytes before the place `at` are taken, neither a segment nor a reply waits, and what is left follows. `Use` is a statement that is kept beside it: a true one, where
+-- nothing more is known, or that the machine may be used (`Far`), which the code needs. A law that answers `Reached` takes what it is to keep; those that answer `Far` (last)
+-- show it.
+pub record Reached (Use : Type 0) (d : DrawingAt) (block : List ℕ) (machine : State) (tally : Tally) (refusals : Refusals) (replies : ℕ) (at : ℕ) : Type 0 where
   pub place : at ≤ length block
-  pub usable : Usable machine
+  pub usable : Use
   pub free : occupied machine.work ≡ false
   pub follows : bytes_from d block block 0 ≡ bytes_from (gone_to d machine tally refusals replies) block (drop at block) at
 
+abbrev pub Far : DrawingAt → List ℕ → State → Tally → Refusals → ℕ → ℕ → Type 0
+Far d block machine tally refusals replies at = Reached (Usable machine) d block machine tally refusals replies at
+
 module _ (d : DrawingAt) (block : List ℕ) where
-  pub far-begun : Usable d.machine.state → occupied d.machine.state.work ≡ false → Far d block d.machine.state d.tally d.refusals d.replies 0
+  pub far-begun : {Use : Type 0} → Use → occupied d.machine.state.work ≡ false → Reached Use d block d.machine.state d.tally d.refusals d.replies 0
   far-begun u w = record { place = omega arith; usable = u; free = w; follows = refl }
 
-  pub far-ended : {m : State} {t : Tally} {q : Refusals} {n : ℕ} {at : ℕ} → Far d block m t q n at → length block ≤ at
+  pub far-ended : {Use : Type 0} {m : State} {t : Tally} {q : Refusals} {n : ℕ} {at : ℕ} → Reached Use d block m t q n at → length block ≤ at
       → ended_of (gone_to d m t q n) block ≡ block_of d block
   unfolding block_of bytes_from
-  far-ended {m} {t} {q} {n} {at} f h = ap (λ (e : DrawingAt). ended_of e block) (sym (f.follows ∙ rw (drop_of_length-le block h) refl))
+  far-ended f h = ap (λ (e : DrawingAt). ended_of e block) (sym (f.follows ∙ rw (drop_of_length-le block h) refl))
 
-  module _ {m : State} {t : Tally} {q : Refusals} {n : ℕ} {at : ℕ} (f : Far d block m t q n at) where
+  module _ {Use : Type 0} {m : State} {t : Tally} {q : Refusals} {n : ℕ} {at : ℕ} (f : Reached Use d block m t q n at) where
     abbrev so_far : DrawingAt
     so_far = gone_to d m t q n
 
@@ -435,9 +440,6 @@ module _ (d : DrawingAt) (block : List ℕ) where
       pub ran-place : r.at ≤ length block
       ran-place = rw e (omega (arith, rest, (run-place m (drop at block) at).1))
 
-      pub ran-usable : Usable r.state
-      ran-usable = rw e (run-usable m (drop at block) at f.usable)
-
       ran-follows : bytes_from d block block 0 ≡ ran_to block so_far r
       ran-follows = f.follows ∙ rw e (run-bytes block so_far m (drop at block) at f.free refl)
 
@@ -446,10 +448,10 @@ module _ (d : DrawingAt) (block : List ℕ) where
 
       module _ {j : ℕ} (is : j ≡ judged_of r.number) where
         -- nothing is refused: what waits is drawn, and fetched
-        pub far-drawn : {p : PaintedAt} {k : RepliedAt} → j ≡ 0 → p ≡ drawn_off (waiting r.state.work) r.state t → Usable p.machine.state → waiting p.machine.state.work ≡ 0
-            → k ≡ fetched_off p.machine.state n → Usable k.machine.state → Far d block k.machine.state p.tally q k.replies r.at
+        pub far-drawn : {Next : Type 0} {p : PaintedAt} {k : RepliedAt} → j ≡ 0 → p ≡ drawn_off (waiting r.state.work) r.state t → Usable p.machine.state
+            → waiting p.machine.state.work ≡ 0 → k ≡ fetched_off p.machine.state n → Next → Reached Next d block k.machine.state p.tally q k.replies r.at
         unfolding went_on refusals_after fetched_off
-        far-drawn {p} {k} z e u w g v = record {
+        far-drawn {p = p} z e u w g v = record {
           place = ran-place;
           usable = v;
           free = rw g (fetched-free p.machine.state u w);
@@ -463,12 +465,12 @@ module _ (d : DrawingAt) (block : List ℕ) where
             outside : (judged_of r.number ≡ 0 → ⊥) → Outside r.state
             outside = rw e (run-outside m (drop at block) at)
 
-        pub far-refused : {k : Refusals} → (j ≡ 0 → ⊥) → k ≡ refused_at q d.letters d.nobody d.before block r.at j → Far d block r.state t k n r.at
-        far-refused z k =
+        pub reached-refused : {Next : Type 0} {k : Refusals} → (j ≡ 0 → ⊥) → k ≡ refused_at q d.letters d.nobody d.before block r.at j → Next → Reached Next d block r.state t k n r.at
+        reached-refused z k v =
             let o = ran-outside z in
             record {
               place = ran-place;
-              usable = ran-usable;
+              usable = v;
               free = outside-free o;
               follows =
                   ran-follows
@@ -503,11 +505,26 @@ module _ (d : DrawingAt) (block : List ℕ) where
         pub plotted-few : g.stored ≤ room
         plotted-few = rw e (plot-stored m bytes at room)
 
-        pub far-plotted : Outside m → (entry : List ℤ) {k : Refusals}
-            → k ≡ unnamed_in q d.nobody d.before (laid_marks (plot_from m bytes at room).marks entry) g.stored → Far d block g.state t k n g.at
-        far-plotted o entry k = record {
+        pub reached-plotted : {Next : Type 0} → Outside m → (entry : List ℤ) {k : Refusals}
+            → k ≡ unnamed_in q d.nobody d.before (laid_marks (plot_from m bytes at room).marks entry) g.stored → Next → Reached Next d block g.state t k n g.at
+        reached-plotted o entry k v = record {
           place = rw e (omega (arith, within, (plot-place m bytes at room).1));
-          usable = rw e (plot-usable m bytes at room f.usable);
+          usable = v;
           free = rw e (outside-free (stretch-refuses m bytes at room o (every (λ b. plain-class b) letters)).outside);
           follows = f.follows ∙ rw (k, e) (plot-bytes block so_far m bytes (drop len (drop at block)) at room _ o letters whole);
         }
+
+  -- a machine that may be used may be used after a run, and after a plot
+  module _ {m : State} {t : Tally} {q : Refusals} {n : ℕ} {at : ℕ} (f : Far d block m t q n at) where
+    module _ (r : Run) (e : r ≡ run_of m (drop at block) at) where
+      pub ran-usable : Usable r.state
+      ran-usable = rw e (run-usable m (drop at block) at f.usable)
+
+      module _ {j : ℕ} (is : j ≡ judged_of r.number) where
+        pub far-refused : {k : Refusals} → (j ≡ 0 → ⊥) → k ≡ refused_at q d.letters d.nobody d.before block r.at j → Far d block r.state t k n r.at
+        far-refused z k = reached-refused f r e is z k ran-usable
+
+    module _ (len : ℕ) (is : len ≡ letterless stretch (drop at block)) (room : ℕ) {g : Stopped} (e : g ≡ plotted_of (plot_from m (bytes f len is) at room)) where
+      pub far-plotted : Outside m → (entry : List ℤ) {k : Refusals}
+          → k ≡ unnamed_in q d.nobody d.before (laid_marks (plot_from m (bytes f len is) at room).marks entry) g.stored → Far d block g.state t k n g.at
+      far-plotted o entry k = reached-plotted f len is room e o entry k (rw e (plot-usable m (bytes f len is) at room f.usable))

@@ -29,7 +29,7 @@ use Rattle.repeats.specs.Laws.{painted-append, painted-none}
 use Rattle.counting.specs.declared.tally.Tally.{Tally}
 use Rattle.surveying.specs.States.{DrawingAt, WatchedAt}
 use Rattle.surveying.specs.Drawing.{waits_of, drawn_off, reply_bytes, fetched_off, went_on, bytes_from, block_of, enter, piece_done, stretch}
-use Rattle.surveying.specs.Laws.{Plain, plain-class, work-waits, silent, run-stays, one_on, Far, bytes, letters, whole}
+use Rattle.surveying.specs.Laws.{Plain, plain-class, work-waits, silent, run-stays, one_on, Reached, bytes, letters, whole}
 use Rattle.surveying.specs.Strokes.{rows_of, drawn_state, strokes_off, strokes_at, settled, state_after, strokes_from}
 
 -- ---- segments one by one
@@ -201,7 +201,7 @@ module _ (block : List ℕ) (lines : List ℤ) (m : State) (at : ℕ) (free : oc
       (run-strokes block m (drop at block) at free refl ∙ ap (ran_strokes block) (sym e) ∙ quiet-on block r.state (drop r.at block) (outside-free o))
 
 -- bytes without letters are plotted
-module _ (d : DrawingAt) (block : List ℕ) {m : State} {t : Tally} {q : Refusals} {n : ℕ} {at : ℕ} (f : Far d block m t q n at) (len : ℕ) (is : len ≡ letterless stretch (drop at block)) (room : ℕ) {g : Stopped} where
+module _ (d : DrawingAt) (block : List ℕ) {Use : Type 0} {m : State} {t : Tally} {q : Refusals} {n : ℕ} {at : ℕ} (f : Reached Use d block m t q n at) (len : ℕ) (is : len ≡ letterless stretch (drop at block)) (room : ℕ) {g : Stopped} where
   pub plotted-strokes : g ≡ plotted_of (plot_from m (bytes d block f len is) at room) → Outside m
       → strokes_from m (drop at block) ≡ strokes_from g.state (drop g.at block)
   plotted-strokes e o =
